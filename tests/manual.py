@@ -51,14 +51,14 @@ TERMS = (
     (r"decimal line", "LINE"),
     (r"decimal col", "COL"),
     (r"decimal at", "N"),
-    (r"kind_name k", "KIND"),
-    (r"name_text file k name", "FILE: KIND NAME"),
-    (r"include_text file line name", "FILE:LINE:1: include NAME"),
-    (r"why_name why", "CAUSE"),
-    (r'script_text line \(codes "(.*)"\)', r"script:LINE: \1"),
-    (r'edit_name place \(codes "(.*)"\)', r"edit N: \1"),
-    (r"file_name f", "PEOPLE"),
-    (r"(text_of_\w+|cvt_name|filter_name|who_name|ask_name|gather_name) .*", "ERROR"),
+    (r"alias_line_keyword k", "KIND"),
+    (r"alias_name_in_file_text file k name", "FILE: KIND NAME"),
+    (r"include_line_text file line name", "FILE:LINE:1: include NAME"),
+    (r"syntax_reason_name why", "CAUSE"),
+    (r'script_line_message line \(codes "(.*)"\)', r"script:LINE: \1"),
+    (r'numbered_edit_message place \(codes "(.*)"\)', r"edit N: \1"),
+    (r"people_file_name f", "PEOPLE"),
+    (r"\w+_fault_(?:message|name) .*", "ERROR"),
 )
 CARRIED = "ERROR"
 
@@ -210,7 +210,7 @@ def texts():
     types = {short: name for name, short in re.findall(r"declared\.\w+\.(\w+)\.TheVariants as (\w+)", source)}
     found = {}
     for row in re.sub(r"\n +", " ", source).splitlines():
-        match = re.match(r"(?:text_of_\w+|(?:why|cvt|filter|who|ask|gather)_name) ([^=]*\.[^=]*)= (.*)", row)
+        match = re.match(r"(?:\w+_fault_(?:message|name)|syntax_reason_name) ([^=]*\.[^=]*)= (.*)", row)
         if match is None:
             continue
         *outer, inner = [(types[type_], variant) for type_, variant in re.findall(r"\b(\w+)\.(\w+)", match[1])]
@@ -223,7 +223,7 @@ def notes():
     """Returns the texts of the notes and of the last line of `check`, as Report.antt states them."""
     source = read("crates/sudoers_check/specs/Report.antt")
     words = re.findall(r'note_text policy \(codes "(\w+)"\)', source)
-    verdicts = re.findall(r'^verdict \w+ = codes "(.*)\\n"', source, re.M)
+    verdicts = re.findall(r'^verdict_line_text \w+ = codes "(.*)\\n"', source, re.M)
     return [f"FILE:LINE:COL: {word} KIND NAME" for word in words] + ["FILE" + verdict for verdict in verdicts]
 
 

@@ -7,7 +7,7 @@ function: the name of a function says what it does, or what it returns of its pa
 - begins with a verb of VERBS; or with one of SAYING, if the function returns a `bool`
 - or is in WHOLE, or begins with one of BEGINNINGS
 - or has one of ENDINGS: a preposition, whose object is a parameter, or a measure
-- or has `_of_` inside, as `kind_of_word`
+- or has `_of_` inside, as `alias_kind_of_keyword`
 - or is that of a method with `&self` alone, which may be named by what it returns
 
 The rule is not for laws, and not for functions of an `impl` of a trait, which the trait names. A law is a function of a
@@ -36,11 +36,12 @@ FEWEST = 1500
 # A word that is a noun as often stands here with the word behind it.
 VERBS = tuple(
     """
-    add answer append apply ask bring bump carry change check choose close convert copy count cut decide drop edit
-    enter expand explain extend filter_policy find finish flatten flip fold follow forget gather get go guard
-    inherit insert join keep leave list load look make mark_all mark_used move note open parse pass print prune pull
-    push put read redo rename renew replace report_fault resolve rewrite run search select set settle show sort
-    spend split swap take tell turn undo visit write
+    add advance answer append apply ask bring bump carry change check choose close collect convert copy count cut
+    decide drop edit enter expand expect explain extend filter_policy find finish flatten flip fold follow forget
+    gather get go guard inherit insert join keep leave list load look make mark_all mark_cyclic mark_reached
+    mark_used match move note open parse pass plan print prune pull push put read redo rename renew replace
+    report_fault resolve rewrite run search select set settle show skip sort spend split store strip swap take tell
+    turn undo visit walk write
     """.split()
 )
 SAYING = tuple(

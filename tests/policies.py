@@ -145,7 +145,7 @@ def drawn_lead(line):
 
 
 def drawn_leads(line):
-    """Where a line leads by `leads`, and what `lead_of` answers of what it says if that differs."""
+    """Where a line leads by `leads`, and what `lead_of_include_node` answers of what it says if that differs."""
     by_line, by_node = line.split("\t")
     lead = drawn_lead(by_line)
     if by_node == "unread":
@@ -288,7 +288,7 @@ def drawn_spans(line):
 
 def drawn_unused(line):
     """The kinds and places of unused definitions."""
-    found = [f"{kind} {place['line']}.{place['def']}" for kind, place in said.read(line)]
+    found = [drawn_in_file(place, f"{kind} {place['line']}.{place['def']}") for kind, place in said.read(line)]
     return ", ".join(found) or "none"
 
 

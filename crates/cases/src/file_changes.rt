@@ -3,12 +3,12 @@
 ghost use Rattle.std.specs.Prelude.{◌≡◌, ◌<◌, ℕ, true, length};
 ghost use Rattle.std.specs.List.{AllByRecursion};
 ghost use Rattle.sudoers_text.specs.Ended.{ends_in_lf};
-ghost use Rattle.sudoers_tree.specs.Changed.{AreInOrder, file_of};
-ghost use Rattle.sudoers_tree.specs.ChangedFiles.{changes_of, CanBeMade, GoByFiles};
-ghost use Rattle.sudoers_tree.specs.Files.{lines_of};
-ghost use Rattle.sudoers_tree.specs.Policy.{texts};
+ghost use Rattle.sudoers_tree.specs.Changed.{AreChangesInOrder, file_number_of_change};
+ghost use Rattle.sudoers_tree.specs.ChangedFiles.{changes_of_file, AreApplicableChanges, AreChangesInFileOrder};
+ghost use Rattle.sudoers_tree.specs.Files.{lines_of_numbered_file};
+ghost use Rattle.sudoers_tree.specs.Policy.{texts_of_lines};
 
-use crate::changes::{bring_lines, place_after};
+use crate::line_change_calls::{are_all_texts_ended_lines, next_change_place_after};
 use std::alloc::AllocError;
 use sudoers_text::ends_in_lf;
 use sudoers_tree::{Items, LineChange, LoadFault, Policy};
@@ -17,8 +17,8 @@ use sudoers_tree::{Items, LineChange, LoadFault, Policy};
 pub type Outcome = Option<Result<(), LoadFault>>;
 
 /// Makes changes of the files of a policy at once.
-pub fn changed_together(policy: &mut Policy, changes: &[LineChange]) -> Outcome {
-    if can_be_made(policy, changes) {
+pub fn change_lines_if_allowed(policy: &mut Policy, changes: &[LineChange]) -> Outcome {
+    if are_changes_applicable(policy, changes) {
         Some(policy.changed(changes))
     } else {
         None
@@ -30,15 +30,15 @@ pub fn changed_together(policy: &mut Policy, changes: &[LineChange]) -> Outcome 
 /// # Errors
 ///
 /// Memory ran out.
-pub fn with_line(
+pub fn insert_line_if_allowed(
     policy: &mut Policy,
     file: usize,
     at: usize,
     line: &[u8],
 ) -> Result<Outcome, AllocError> {
     let text = Items::from_slice(policy.allocator(), line)?;
-    let change = Items::one(policy.allocator(), LineChange::Put { file, at, text })?;
-    if can_be_made(policy, change.as_slice()) {
+    let change = Items::list_of_one_item(policy.allocator(), LineChange::Put { file, at, text })?;
+    if are_changes_applicable(policy, change.as_slice()) {
         Ok(Some(policy.with_line(file, at, line)))
     } else {
         Ok(None)
@@ -50,9 +50,13 @@ pub fn with_line(
 /// # Errors
 ///
 /// Memory ran out.
-pub fn without_line(policy: &mut Policy, file: usize, at: usize) -> Result<Outcome, AllocError> {
-    let change = Items::one(policy.allocator(), LineChange::Take { file, at })?;
-    if can_be_made(policy, change.as_slice()) {
+pub fn take_out_line_if_allowed(
+    policy: &mut Policy,
+    file: usize,
+    at: usize,
+) -> Result<Outcome, AllocError> {
+    let change = Items::list_of_one_item(policy.allocator(), LineChange::Take { file, at })?;
+    if are_changes_applicable(policy, change.as_slice()) {
         Ok(Some(policy.without_line(file, at)))
     } else {
         Ok(None)
@@ -64,15 +68,15 @@ pub fn without_line(policy: &mut Policy, file: usize, at: usize) -> Result<Outco
 /// # Errors
 ///
 /// Memory ran out.
-pub fn line_replaced(
+pub fn replace_line_if_allowed(
     policy: &mut Policy,
     file: usize,
     at: usize,
     line: &[u8],
 ) -> Result<Outcome, AllocError> {
     let text = Items::from_slice(policy.allocator(), line)?;
-    let change = Items::one(policy.allocator(), LineChange::Swap { file, at, text })?;
-    if can_be_made(policy, change.as_slice()) {
+    let change = Items::list_of_one_item(policy.allocator(), LineChange::Swap { file, at, text })?;
+    if are_changes_applicable(policy, change.as_slice()) {
         Ok(Some(policy.replaced(file, at, line)))
     } else {
         Ok(None)
@@ -80,23 +84,23 @@ pub fn line_replaced(
 }
 
 /// Whether changes go by the files of a policy, are in order in each, and bring lines that end in LF, as all lines of the files do.
-#[tactic(auto, using(crate::proofs::FileChanges::can_be_made))]
-fn can_be_made(policy: &Policy, changes: &[LineChange]) -> bool
-    ensures { result ≡ true → CanBeMade changes.now policy.now.files }
+#[tactic(auto, using(crate::proofs::FileChanges::ended_changes_in_order_are_applicable))]
+fn are_changes_applicable(policy: &Policy, changes: &[LineChange]) -> bool
+    ensures { result ≡ true → AreApplicableChanges changes.now policy.now.files }
 {
-    go_by_files(changes, policy.files())
-        && are_in_order(policy, changes)
-        && bring_lines(changes)
-        && are_ended(policy)
+    are_changes_by_file(changes, policy.files())
+        && are_changes_ascending(policy, changes)
+        && are_all_texts_ended_lines(changes)
+        && are_all_lines_ended(policy)
 }
 
 /// Whether the numbers of the files of `changes` do not descend, and there are so many files.
-fn go_by_files(changes: &[LineChange], count: usize) -> bool
-    ensures { result ≡ true → GoByFiles 0 changes.now count }
+fn are_changes_by_file(changes: &[LineChange], count: usize) -> bool
+    ensures { result ≡ true → AreChangesInFileOrder 0 changes.now count }
 {
     let mut file = 0;
     for change in changes {
-        let next = file_of(change);
+        let next = file_number_of(change);
         if next < file || next >= count {
             return false;
         }
@@ -106,8 +110,8 @@ fn go_by_files(changes: &[LineChange], count: usize) -> bool
 }
 
 /// Returns the number of the file of a change.
-fn file_of(change: &LineChange) -> usize
-    ensures { result ≡ file_of change.now }
+fn file_number_of(change: &LineChange) -> usize
+    ensures { result ≡ file_number_of_change change.now }
 {
     match change {
         LineChange::Put { file, .. }
@@ -117,11 +121,11 @@ fn file_of(change: &LineChange) -> usize
 }
 
 /// Whether the places of `changes` ascend in each file of `policy`.
-fn are_in_order(policy: &Policy, changes: &[LineChange]) -> bool
-    ensures { result ≡ true → (f : ℕ) → f < length policy.now.files → AreInOrder 0 (changes_of f changes.now) (length (lines_of policy.now.files f)) }
+fn are_changes_ascending(policy: &Policy, changes: &[LineChange]) -> bool
+    ensures { result ≡ true → (f : ℕ) → f < length policy.now.files → AreChangesInOrder 0 (changes_of_file f changes.now) (length (lines_of_numbered_file policy.now.files f)) }
 {
     for file in 0..policy.files() {
-        if !are_in_order_of(changes, file, policy.len(file)) {
+        if !are_file_changes_ascending(changes, file, policy.len(file)) {
             return false;
         }
     }
@@ -129,15 +133,15 @@ fn are_in_order(policy: &Policy, changes: &[LineChange]) -> bool
 }
 
 /// Whether the places of those of `changes` ascend that are of the file with the number `wanted`, among its `count` lines.
-fn are_in_order_of(changes: &[LineChange], wanted: usize, count: usize) -> bool
-    ensures { result ≡ true → AreInOrder 0 (changes_of wanted changes.now) count }
+fn are_file_changes_ascending(changes: &[LineChange], wanted: usize, count: usize) -> bool
+    ensures { result ≡ true → AreChangesInOrder 0 (changes_of_file wanted changes.now) count }
 {
     let mut next = 0;
     for change in changes {
-        if file_of(change) != wanted {
+        if file_number_of(change) != wanted {
             continue;
         }
-        match place_after(change, next, count) {
+        match next_change_place_after(change, next, count) {
             Some(place) => next = place,
             None => return false,
         }
@@ -146,11 +150,11 @@ fn are_in_order_of(changes: &[LineChange], wanted: usize, count: usize) -> bool
 }
 
 /// Whether each line of each file of `policy` ends in LF.
-fn are_ended(policy: &Policy) -> bool
-    ensures { result ≡ true → (f : ℕ) → f < length policy.now.files → AllByRecursion (λ line. ends_in_lf line ≡ true) (texts (lines_of policy.now.files f)) }
+fn are_all_lines_ended(policy: &Policy) -> bool
+    ensures { result ≡ true → (f : ℕ) → f < length policy.now.files → AllByRecursion (λ line. ends_in_lf line ≡ true) (texts_of_lines (lines_of_numbered_file policy.now.files f)) }
 {
     for file in 0..policy.files() {
-        if !is_ended(policy, file) {
+        if !are_file_lines_ended(policy, file) {
             return false;
         }
     }
@@ -158,11 +162,11 @@ fn are_ended(policy: &Policy) -> bool
 }
 
 /// Whether each line of the file with the number `file` ends in LF.
-fn is_ended(policy: &Policy, file: usize) -> bool
-    ensures { result ≡ true → AllByRecursion (λ line. ends_in_lf line ≡ true) (texts (lines_of policy.now.files file)) }
+fn are_file_lines_ended(policy: &Policy, file: usize) -> bool
+    ensures { result ≡ true → AllByRecursion (λ line. ends_in_lf line ≡ true) (texts_of_lines (lines_of_numbered_file policy.now.files file)) }
 {
     for number in 0..policy.len(file) {
-        match policy.line(file, number) {
+        match policy.parsed_line(file, number) {
             Some(line) if ends_in_lf(line.text) => {}
             _ => return false,
         }

@@ -3,24 +3,24 @@
 //! It reads the cases from standard input, and writes the answer to each call in one line.
 #![tactic(auto)]
 
-mod asking;
-mod changes;
-mod drawn;
-mod edited;
-mod edits;
+mod answer_output;
+mod answers_after_edits;
+mod benchmark_work;
+mod case_frames;
+mod edit_calls;
 mod file_changes;
-mod file_policies;
-mod frames;
-mod gathers;
-mod given;
-mod line;
-mod loads;
-mod matches;
-mod people;
-mod scripts;
-mod works;
+mod gathering_calls;
+mod line_change_calls;
+mod loading_calls;
+mod matching_calls;
+mod people_calls;
+mod policy_calls;
+mod policy_questions;
+mod request_parts;
+mod script_calls;
+mod text_and_line_calls;
 
-use frames::{Case, Subject, next_case};
+use case_frames::{Case, CaseSubject, split_first_case};
 use std::alloc::AllocError;
 use std::io;
 use std::io::{Read, Write};
@@ -28,16 +28,16 @@ use std::io::{Read, Write};
 fn main(rt: HostRuntime) -> io::Result<()> {
     let mut input = Vec::new(rt.alloc());
     rt.stdin().read_to_end(&mut input)?;
-    let answers = answers_of(&rt, &input)?;
+    let answers = answers_of_cases(&rt, &input)?;
     rt.stdout().write_all(answers.as_bytes())
 }
 
 /// Returns the answers to all cases of `input`, each a line.
-fn answers_of(rt: &HostRuntime, input: &[u8]) -> Result<String, AllocError> {
+fn answers_of_cases(rt: &HostRuntime, input: &[u8]) -> Result<String, AllocError> {
     let mut answers = String::new(rt.alloc());
     let mut left = input;
     for _ in 0..input.len() {
-        let Some((case, rest)) = next_case(left) else {
+        let Some((case, rest)) = split_first_case(left) else {
             break;
         };
         push_answer(rt, case, &mut answers)?;
@@ -50,12 +50,16 @@ fn answers_of(rt: &HostRuntime, input: &[u8]) -> Result<String, AllocError> {
 fn push_answer(rt: &HostRuntime, case: Case<'_>, answers: &mut String) -> Result<(), AllocError> {
     let alloc = rt.alloc();
     match case.subject {
-        Some(Subject::Line) => line::push_answer(alloc, case.call, answers)?,
-        Some(Subject::Match) => matches::push_answer(alloc, case.call, answers)?,
-        Some(Subject::People) => people::push_answer(alloc, case.call, answers)?,
-        Some(Subject::Edit) => return edits::push_answers(alloc, case.call, answers),
-        Some(Subject::Work) => works::push_answer(alloc, case.call, answers)?,
-        Some(Subject::Disk) => gathers::push_on_disk(rt, case.call.body, answers)?,
+        Some(CaseSubject::Line) => text_and_line_calls::push_answer(alloc, case.call, answers)?,
+        Some(CaseSubject::Match) => matching_calls::push_answer(alloc, case.call, answers)?,
+        Some(CaseSubject::People) => people_calls::push_answer(alloc, case.call, answers)?,
+        Some(CaseSubject::Edit) => return edit_calls::push_call_answers(alloc, case.call, answers),
+        Some(CaseSubject::Work) => benchmark_work::push_answer(alloc, case.call, answers)?,
+        Some(CaseSubject::Disk) => gathering_calls::push_gathered_from_disk(
+            rt,
+            case.call.body,
+            answers,
+        )?,
         None => answers.push_str("unknown")?,
     }
     answers.push('\n')

@@ -124,14 +124,14 @@ fn convert(rt: &HostRuntime, policy: &Policy) -> Result<(), Stopped> {
     let Ok(kept) = filter_policy(alloc, policy, &filter, false) else {
         return Err(Stopped("not filtered\n"));
     };
-    let Ok(rules) = kept.rules(alloc) else {
+    let Ok(rules) = kept.collect_used_rules(alloc) else {
         return Err(Stopped("no memory\n"));
     };
     match print(alloc, &rules) {
         Ok(text) => write(rt, text.as_slice())?,
         Err(_) => return Err(Stopped("not printed\n")),
     }
-    let Ok(rules) = Rules::of(alloc, &policy.lines()) else {
+    let Ok(rules) = Rules::from_policy_lines(alloc, &policy.lines()) else {
         return Err(Stopped("no memory\n"));
     };
     match json(alloc, &rules) {

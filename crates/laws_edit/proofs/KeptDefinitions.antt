@@ -1,126 +1,99 @@
 -- The definitions that a prune keeps are those to which chains of mentions lead.
-use Rattle.std.proofs.Common.{◌≡◌, ◌⊎◌, inl, inr, ℕ, zero, suc, ◌+◌, ◌≤◌, ◌<◌, Bool, true, false, List, [], ◌∷◌, ◌++◌, length, remove, reverse, Some, refl, sym, ap, ap₂, subst, ◌∙◌, arith, if◌then◌else◌}
+use Rattle.std.proofs.Common.{◌≡◌, ◌⊎◌, inl, inr, ℕ, zero, suc, ◌+◌, ◌≤◌, ◌<◌, Bool, true, false, List, [], ◌∷◌, ◌++◌, length, remove, reverse, Some, refl, sym, ap, ap₂, subst, ◌∙◌, arith}
 use Rattle.std.proofs.lemmas.Bool.{and_parts, ltb-true, ltb-false}
 use Rattle.std.proofs.lemmas.List.{reverse-append}
 use Rattle.std.proofs.lemmas.Slice.Eq.{bytes_eq-Decides}
 use Rattle.std.specs.List.{AllByRecursion, filter}
 use Rattle.std.specs.Prelude.{nat_lt, slice_get}
 use Rattle.std.specs.Str.{bytes_eq}
-use Rattle.sudoers_line.specs.Node.{Def, Node}
-use Rattle.sudoers_line.specs.Node as node
-use Rattle.sudoers_line.specs.declared.node.Kind.{Kind}
+use Rattle.sudoers_grammar.specs.Node.{Def, Node}
+use Rattle.sudoers_grammar.specs.Node as node
+use Rattle.sudoers_grammar.specs.declared.node.Kind.{Kind}
 use Rattle.sudoers_tree.specs.Line.{Line}
-use Rattle.sudoers_tree.specs.Definition.{Definition, definitions, definitions_from, definitions_in, definitions_since}
-use Rattle.sudoers_check.specs.Chain.{Has}
+use Rattle.sudoers_tree.specs.Definition.{PlacedDefinition, definitions_of_lines, definitions_from_place, definitions_in_line, definitions_from_line_number}
+use Rattle.sudoers_check.specs.Chain.{ListHasElement}
 use Rattle.sudoers_check.specs.Chains.{IsReachable}
 use Rattle.sudoers_check.specs.Led.{is_unused}
-use Rattle.sudoers_check.proofs.Named.{has_front, has_back, has_filter}
+use Rattle.sudoers_check.proofs.Named.{element_of_front_is_in_appended, element_of_back_is_in_appended, passing_element_is_in_filtered}
 use Rattle.sudoers_match.proofs.Lasts.{all_append}
-use Rattle.sudoers_edit.specs.Alike.{are_alike, is_same_def, is_same_member}
+use Rattle.sudoers_line_rows.specs.Alike.{are_lists_alike, is_same_def, is_same_member}
 use Rattle.laws_edit.proofs.PruneLeaves.{WasAt, before_same}
 
 -- what the law of used definitions says
-abbrev pub UsedLaw : Type 0
-UsedLaw = (lines : List Line) (d : Definition) → Has (definitions lines) d → is_unused lines d ≡ false → IsReachable d.kind lines d.def.name
+abbrev pub UsedDefinitionsAreReachable : Type 0
+UsedDefinitionsAreReachable = (lines : List Line) (d : PlacedDefinition) → ListHasElement (definitions_of_lines lines) d → is_unused lines d ≡ false → IsReachable d.kind lines d.def.name
 
 -- ---- places that descend
 
 -- The places descend, each below the one before it.
-abbrev pub Descend : ℕ → ℕ → List Definition → Type 0
-Descend low high [] = Unit {0}
-Descend low high (d ∷ ds) = (d.place.def < high) × (low ≤ d.place.def) × Descend low d.place.def ds
+abbrev pub HaveDescendingPlaces : ℕ → ℕ → List PlacedDefinition → Type 0
+HaveDescendingPlaces low high [] = Unit {0}
+HaveDescendingPlaces low high (d ∷ ds) = (d.place.def < high) × (low ≤ d.place.def) × HaveDescendingPlaces low d.place.def ds
 
-pub lower : (low other high : ℕ) (ds : List Definition) → other ≤ low → Descend low high ds → Descend other high ds
-lower low other high [] l a = tt
-lower low other high (d ∷ ds) l a = (a.0, omega (arith, a.1, l), lower low other d.place.def ds l a.2)
+pub descending_places_have_lower_bound : (low other high : ℕ) (ds : List PlacedDefinition) → other ≤ low → HaveDescendingPlaces low high ds → HaveDescendingPlaces other high ds
+descending_places_have_lower_bound low other high [] l a = tt
+descending_places_have_lower_bound low other high (d ∷ ds) l a = (a.0, omega (arith, a.1, l), descending_places_have_lower_bound low other d.place.def ds l a.2)
 
-pub higher : (low high other : ℕ) (ds : List Definition) → high ≤ other → Descend low high ds → Descend low other ds
-higher low high other [] l a = tt
-higher low high other (d ∷ ds) l a = (omega (arith, a.0, l), a.1, a.2)
-
-pub lowest : (low high : ℕ) (ds : List Definition) (d : Definition) → d.place.def ≡ low → low < high → Descend (low + 1) high ds
-    → Descend low high (ds ++ d ∷ [])
-lowest low high [] d is some a = (omega (arith, is, some), omega (arith, is), tt)
-lowest low high (e ∷ ds) d is some a = (a.0, omega (arith, a.1), lowest low e.place.def ds d is (omega (arith, a.1)) a.2)
-
-pub from_descend : (test : Definition → Bool) (k : Kind) (l n : ℕ) (defs : List Def)
-    → Descend n (n + length defs) (reverse (filter test (definitions_from k l n defs)))
-from_descend test k l n [] = tt
-from_descend test k l n (d ∷ defs) =
-    by (test first) (subst (λ h. Descend (n + 1) h (reverse others)) high (from_descend test k l (n + 1) defs))
-  where
-    first : Definition
-    first = record { kind = k; place = record { line = l; def = n }; def = d }
-
-    others : List Definition
-    others = filter test (definitions_from k l (n + 1) defs)
-
-    high : (n + 1) + length defs ≡ n + length (d ∷ defs)
-    high = omega arith
-
-    by : (b : Bool) → Descend (n + 1) (n + length (d ∷ defs)) (reverse others)
-        → Descend n (n + length (d ∷ defs)) (reverse (if b then first ∷ others else others))
-    by true later =
-        subst (Descend n (n + length (d ∷ defs))) (sym (reverse-append (first ∷ []) others))
-        (lowest n (n + length (d ∷ defs)) (reverse others) first refl (omega arith) later)
-    by false later = lower (n + 1) n (n + length (d ∷ defs)) (reverse others) (omega arith) later
+pub descending_places_have_higher_bound : (low high other : ℕ) (ds : List PlacedDefinition) → high ≤ other → HaveDescendingPlaces low high ds → HaveDescendingPlaces low other ds
+descending_places_have_higher_bound low high other [] l a = tt
+descending_places_have_higher_bound low high other (d ∷ ds) l a = (omega (arith, a.0, l), a.1, a.2)
 
 -- One of these stands at this place.
-abbrev pub IsPlace : ℕ → List Definition → Type 0
-IsPlace p [] = ⊥
-IsPlace p (d ∷ ds) = (d.place.def ≡ p) ⊎ IsPlace p ds
+abbrev pub IsPlaceOfSomeDefinition : ℕ → List PlacedDefinition → Type 0
+IsPlaceOfSomeDefinition p [] = ⊥
+IsPlaceOfSomeDefinition p (d ∷ ds) = (d.place.def ≡ p) ⊎ IsPlaceOfSomeDefinition p ds
 
-place_below : (p high : ℕ) (ds : List Definition) → Descend 0 high ds → IsPlace p ds → p < high
-place_below p high [] descend is = absurd is
-place_below p high (d ∷ ds) descend (inl is) = omega (arith, is, descend.0)
-place_below p high (d ∷ ds) descend (inr is) = omega (arith, place_below p d.place.def ds descend.2 is, descend.0)
+place_of_descending_is_below_bound : (p high : ℕ) (ds : List PlacedDefinition) → HaveDescendingPlaces 0 high ds → IsPlaceOfSomeDefinition p ds → p < high
+place_of_descending_is_below_bound p high [] descend is = absurd is
+place_of_descending_is_below_bound p high (d ∷ ds) descend (inl is) = omega (arith, is, descend.0)
+place_of_descending_is_below_bound p high (d ∷ ds) descend (inr is) = omega (arith, place_of_descending_is_below_bound p d.place.def ds descend.2 is, descend.0)
 
-place_of_one : (ds : List Definition) (d : Definition) → Has ds d → IsPlace d.place.def ds
-place_of_one [] d has = absurd has
-place_of_one (x ∷ ds) d (inl is) = inl (ap (λ (y : Definition). y.place.def) is)
-place_of_one (x ∷ ds) d (inr has) = inr (place_of_one ds d has)
+place_of_definition_is_among_places : (ds : List PlacedDefinition) (d : PlacedDefinition) → ListHasElement ds d → IsPlaceOfSomeDefinition d.place.def ds
+place_of_definition_is_among_places [] d has = absurd has
+place_of_definition_is_among_places (x ∷ ds) d (inl is) = inl (ap (λ (y : PlacedDefinition). y.place.def) is)
+place_of_definition_is_among_places (x ∷ ds) d (inr has) = inr (place_of_definition_is_among_places ds d has)
 
-has_reverse : {X : Type 0} (xs : List X) (x : X) → Has xs x → Has (reverse xs) x
-has_reverse [] x has = absurd has
-has_reverse {X} (y ∷ xs) x has = subst (λ (zs : List X). Has zs x) (sym (reverse-append (y ∷ []) xs)) (by has (has_reverse xs x))
+element_of_list_is_in_reverse : {X : Type 0} (xs : List X) (x : X) → ListHasElement xs x → ListHasElement (reverse xs) x
+element_of_list_is_in_reverse [] x has = absurd has
+element_of_list_is_in_reverse {X} (y ∷ xs) x has = subst (λ (zs : List X). ListHasElement zs x) (sym (reverse-append (y ∷ []) xs)) (by has (element_of_list_is_in_reverse xs x))
   where
-    by : Has (y ∷ xs) x → (Has xs x → Has (reverse xs) x) → Has (reverse xs ++ y ∷ []) x
-    by (inl is) later = has_back (reverse xs) (y ∷ []) x (inl is)
-    by (inr more) later = has_front (reverse xs) (y ∷ []) x (later more)
+    by : ListHasElement (y ∷ xs) x → (ListHasElement xs x → ListHasElement (reverse xs) x) → ListHasElement (reverse xs ++ y ∷ []) x
+    by (inl is) later = element_of_back_is_in_appended (reverse xs) (y ∷ []) x (inl is)
+    by (inr more) later = element_of_front_is_in_appended (reverse xs) (y ∷ []) x (later more)
 
-from_has : (k : Kind) (l m : ℕ) (defs : List Def) (p : ℕ) (e : Def) → slice_get defs p ≡ Some e → (q : ℕ) → q ≡ m + p
-    → Has (definitions_from k l m defs) (record { kind = k; place = record { line = l; def = q }; def = e })
-from_has k l m [] p e is q at = absurd (cc)
-from_has k l m (d ∷ defs) zero e is q at =
+numbered_definition_is_among_placed : (k : Kind) (l m : ℕ) (defs : List Def) (p : ℕ) (e : Def) → slice_get defs p ≡ Some e → (q : ℕ) → q ≡ m + p
+    → ListHasElement (definitions_from_place k l m defs) (record { kind = k; place = record { line = l; def = q }; def = e })
+numbered_definition_is_among_placed k l m [] p e is q at = absurd (cc)
+numbered_definition_is_among_placed k l m (d ∷ defs) zero e is q at =
     let same : d ≡ e = cc in
     let here : m ≡ q = omega (arith, at) in
     inl (ap₂ (λ (n : ℕ) (x : Def). record { kind = k; place = record { line = l; def = n }; def = x }) here same)
-from_has k l m (d ∷ defs) (suc p) e is q at = inr (from_has k l (m + 1) defs p e is q (omega (arith, at)))
+numbered_definition_is_among_placed k l m (d ∷ defs) (suc p) e is q at = inr (numbered_definition_is_among_placed k l (m + 1) defs p e is q (omega (arith, at)))
 
 module _ (policy : List Line) where
   -- ---- used definitions
 
   -- A chain of mentions of the policy leads to the definition.
-  abbrev pub IsUsed : Definition → Type 0
+  abbrev pub IsUsed : PlacedDefinition → Type 0
   IsUsed d = IsReachable d.kind policy d.def.name
 
   -- So it is with all definitions of these lines.
   abbrev pub AreUsed : List Line → Type 0
-  AreUsed lines = (i : ℕ) → AllByRecursion IsUsed (definitions_since i lines)
+  AreUsed lines = (i : ℕ) → AllByRecursion IsUsed (definitions_from_line_number i lines)
 
   used_from : (k : Kind) (l n : ℕ) (defs : List Def) → AllByRecursion (λ (e : Def). IsReachable k policy e.name) defs
-      → AllByRecursion IsUsed (definitions_from k l n defs)
+      → AllByRecursion IsUsed (definitions_from_place k l n defs)
   used_from k l n [] all = tt
   used_from k l n (d ∷ defs) all = (all.0, used_from k l (n + 1) defs all.1)
 
-  used_line : (line : Line) (after : List Line) → ((i : ℕ) → AllByRecursion IsUsed (definitions_in i line.node)) → AreUsed after → AreUsed (line ∷ after)
-  used_line line after here behind i = all_append IsUsed (definitions_in i line.node) (definitions_since (i + 1) after) (here i) (behind (i + 1))
+  used_line : (line : Line) (after : List Line) → ((i : ℕ) → AllByRecursion IsUsed (definitions_in_line i line.node)) → AreUsed after → AreUsed (line ∷ after)
+  used_line line after here behind i = all_append IsUsed (definitions_in_line i line.node) (definitions_from_line_number (i + 1) after) (here i) (behind (i + 1))
 
   -- a line that says this
-  pub used_other : (line : Line) (after : List Line) (says : Node) → line.node ≡ says → ((i : ℕ) → AllByRecursion IsUsed (definitions_in i says)) → AreUsed after
+  pub used_other : (line : Line) (after : List Line) (says : Node) → line.node ≡ says → ((i : ℕ) → AllByRecursion IsUsed (definitions_in_line i says)) → AreUsed after
       → AreUsed (line ∷ after)
   used_other line after says is here behind =
-      used_line line after (λ i. subst (λ (n : Node). AllByRecursion IsUsed (definitions_in i n)) (sym is) (here i)) behind
+      used_line line after (λ i. subst (λ (n : Node). AllByRecursion IsUsed (definitions_in_line i n)) (sym is) (here i)) behind
 
   pub used_alias : (line : Line) (after : List Line) (k : Kind) (defs : List Def) → line.node ≡ node.Alias k defs
       → AllByRecursion (λ (e : Def). IsReachable k policy e.name) defs → AreUsed after → AreUsed (line ∷ after)
@@ -129,8 +102,8 @@ module _ (policy : List Line) where
   -- ---- used or about to go
 
   -- Each of the definitions is used, or one of these stands at its place.
-  abbrev pub UsedOrGoing : Kind → List Def → List Definition → Type 0
-  UsedOrGoing k defs ds = (p : ℕ) (e : Def) → slice_get defs p ≡ Some e → IsReachable k policy e.name ⊎ IsPlace p ds
+  abbrev pub UsedOrGoing : Kind → List Def → List PlacedDefinition → Type 0
+  UsedOrGoing k defs ds = (p : ℕ) (e : Def) → slice_get defs p ≡ Some e → IsReachable k policy e.name ⊎ IsPlaceOfSomeDefinition p ds
 
   pub none_going : (k : Kind) (defs : List Def) → UsedOrGoing k defs [] → AllByRecursion (λ (e : Def). IsReachable k policy e.name) defs
   none_going k [] going = tt
@@ -141,22 +114,22 @@ module _ (policy : List Line) where
       by (inr none) = absurd none
 
   -- a definition of alike ones
-  alike_at : (defs less : List Def) → are_alike is_same_def defs less ≡ true → (p : ℕ) (e : Def) → slice_get less p ≡ Some e → WasAt policy defs p e
+  alike_at : (defs less : List Def) → are_lists_alike is_same_def defs less ≡ true → (p : ℕ) (e : Def) → slice_get less p ≡ Some e → WasAt policy defs p e
   alike_at [] [] h p e is = absurd (cc)
   alike_at [] (x ∷ less) h p e is = absurd (cc)
   alike_at (d ∷ defs) [] h p e is = absurd (cc)
   alike_at (d ∷ defs) (x ∷ less) h zero e is =
-      let parts = and_parts (is_same_def d x) (are_alike is_same_def defs less) h in
-      let name = (bytes_eq-Decides d.name x.name).0 (and_parts (bytes_eq d.name x.name) (are_alike is_same_member d.members x.members) parts.0).0 in
+      let parts = and_parts (is_same_def d x) (are_lists_alike is_same_def defs less) h in
+      let name = (bytes_eq-Decides d.name x.name).0 (and_parts (bytes_eq d.name x.name) (are_lists_alike is_same_member d.members x.members) parts.0).0 in
       let same : x ≡ e = cc in
       record { one = d; at = refl; called = name ∙ ap (λ (y : Def). y.name) same }
   alike_at (d ∷ defs) (x ∷ less) h (suc p) e is =
-      let parts = and_parts (is_same_def d x) (are_alike is_same_def defs less) h in
+      let parts = and_parts (is_same_def d x) (are_lists_alike is_same_def defs less) h in
       let was = alike_at defs less parts.1 p e is in
       record { one = was.one; at = was.at; called = was.called }
 
   -- The definitions behind a dropped one move up.
-  behind_same : (defs : List Def) (at : ℕ) (less : List Def) → are_alike is_same_def (remove defs at) less ≡ true → (p : ℕ) → at ≤ p → (e : Def)
+  behind_same : (defs : List Def) (at : ℕ) (less : List Def) → are_lists_alike is_same_def (remove defs at) less ≡ true → (p : ℕ) → at ≤ p → (e : Def)
       → slice_get less p ≡ Some e → WasAt policy defs (suc p) e
   behind_same [] zero [] h p l e is = absurd (cc)
   behind_same [] (suc at) [] h p l e is = absurd (cc)
@@ -168,58 +141,58 @@ module _ (policy : List Line) where
   behind_same (d ∷ defs) (suc at) [] h p l e is = absurd (cc)
   behind_same (d ∷ defs) (suc at) (x ∷ less) h zero l e is = absurd (omega (arith, l))
   behind_same (d ∷ defs) (suc at) (x ∷ less) h (suc p) l e is =
-      let parts = and_parts (is_same_def d x) (are_alike is_same_def (remove defs at) less) h in
+      let parts = and_parts (is_same_def d x) (are_lists_alike is_same_def (remove defs at) less) h in
       let was = behind_same defs at less parts.1 p (omega (arith, l)) e is in
       record { one = was.one; at = was.at; called = was.called }
 
   -- Without the first of those that go, the others go.
-  pub less_going : (k : Kind) (defs less : List Def) (d : Definition) (ds : List Definition) → are_alike is_same_def (remove defs d.place.def) less ≡ true
-      → Descend 0 d.place.def ds → UsedOrGoing k defs (d ∷ ds) → UsedOrGoing k less ds
+  pub less_going : (k : Kind) (defs less : List Def) (d : PlacedDefinition) (ds : List PlacedDefinition) → are_lists_alike is_same_def (remove defs d.place.def) less ≡ true
+      → HaveDescendingPlaces 0 d.place.def ds → UsedOrGoing k defs (d ∷ ds) → UsedOrGoing k less ds
   less_going k defs less d ds alike descend going p e is = by (nat_lt p at) refl
     where
       at : ℕ
       at = d.place.def
 
-      still : (q : ℕ) (was : WasAt policy defs q e) → (q ≡ at → ⊥) → (IsPlace q ds → IsPlace p ds) → IsReachable k policy e.name ⊎ IsPlace p ds
+      still : (q : ℕ) (was : WasAt policy defs q e) → (q ≡ at → ⊥) → (IsPlaceOfSomeDefinition q ds → IsPlaceOfSomeDefinition p ds) → IsReachable k policy e.name ⊎ IsPlaceOfSomeDefinition p ds
       still q was other move = by_one (going q was.one was.at)
         where
-          by_one : IsReachable k policy was.one.name ⊎ IsPlace q (d ∷ ds) → IsReachable k policy e.name ⊎ IsPlace p ds
+          by_one : IsReachable k policy was.one.name ⊎ IsPlaceOfSomeDefinition q (d ∷ ds) → IsReachable k policy e.name ⊎ IsPlaceOfSomeDefinition p ds
           by_one (inl used) = inl (subst (IsReachable k policy) was.called used)
           by_one (inr (inl here)) = absurd (other (sym here))
           by_one (inr (inr more)) = inr (move more)
 
-      by : (b : Bool) → nat_lt p at ≡ b → IsReachable k policy e.name ⊎ IsPlace p ds
+      by : (b : Bool) → nat_lt p at ≡ b → IsReachable k policy e.name ⊎ IsPlaceOfSomeDefinition p ds
       by true below =
           let lower = ltb-true p at below in
           still p (before_same policy defs at less alike p lower e is) (λ same. omega (arith, same, lower)) (λ more. more)
       by false below =
           let higher : at ≤ p = ltb-false p at below in
           still (suc p) (behind_same defs at less alike p higher e is) (λ same. omega (arith, same, higher))
-          (λ more. absurd (omega (arith, place_below (suc p) at ds descend more, higher)))
+          (λ more. absurd (omega (arith, place_of_descending_is_below_bound (suc p) at ds descend more, higher)))
 
   -- ---- the definitions of a line
 
-  module _ (law : UsedLaw) (k : Kind) (n : ℕ) (defs : List Def) (among : (d : Definition) → Has (definitions_from k n 0 defs) d → Has (definitions policy) d) where
+  module _ (law : UsedDefinitionsAreReachable) (k : Kind) (n : ℕ) (defs : List Def) (among : (d : PlacedDefinition) → ListHasElement (definitions_from_place k n 0 defs) d → ListHasElement (definitions_of_lines policy) d) where
     -- Those that are not unused are used.
-    pub unused_going : UsedOrGoing k defs (reverse (filter (is_unused policy) (definitions_from k n 0 defs)))
+    pub unused_going : UsedOrGoing k defs (reverse (filter (is_unused policy) (definitions_from_place k n 0 defs)))
     unused_going p e is = by (is_unused policy d) refl
       where
-        d : Definition
+        d : PlacedDefinition
         d = record { kind = k; place = record { line = n; def = p }; def = e }
 
-        stands : Has (definitions_from k n 0 defs) d
-        stands = from_has k n 0 defs p e is p (omega arith)
+        stands : ListHasElement (definitions_from_place k n 0 defs) d
+        stands = numbered_definition_is_among_placed k n 0 defs p e is p (omega arith)
 
-        by : (b : Bool) → is_unused policy d ≡ b → IsReachable k policy e.name ⊎ IsPlace p (reverse (filter (is_unused policy) (definitions_from k n 0 defs)))
+        by : (b : Bool) → is_unused policy d ≡ b → IsReachable k policy e.name ⊎ IsPlaceOfSomeDefinition p (reverse (filter (is_unused policy) (definitions_from_place k n 0 defs)))
         by true unused =
-            let all = filter (is_unused policy) (definitions_from k n 0 defs) in
-            inr (place_of_one (reverse all) d (has_reverse all d (has_filter (is_unused policy) (definitions_from k n 0 defs) d stands unused)))
+            let all = filter (is_unused policy) (definitions_from_place k n 0 defs) in
+            inr (place_of_definition_is_among_places (reverse all) d (element_of_list_is_in_reverse all d (passing_element_is_in_filtered (is_unused policy) (definitions_from_place k n 0 defs) d stands unused)))
         by false used = inl (law policy d (among d stands) used)
 
     -- Without unused definitions all are used.
-    pub all_used : length (filter (is_unused policy) (definitions_from k n 0 defs)) ≡ 0 → AllByRecursion (λ (e : Def). IsReachable k policy e.name) defs
-    all_used none = none_going k defs (subst (λ (ds : List Definition). UsedOrGoing k defs (reverse ds)) (empty (filter (is_unused policy) (definitions_from k n 0 defs)) none) unused_going)
+    pub all_used : length (filter (is_unused policy) (definitions_from_place k n 0 defs)) ≡ 0 → AllByRecursion (λ (e : Def). IsReachable k policy e.name) defs
+    all_used none = none_going k defs (subst (λ (ds : List PlacedDefinition). UsedOrGoing k defs (reverse ds)) (empty (filter (is_unused policy) (definitions_from_place k n 0 defs)) none) unused_going)
       where
-        empty : (ds : List Definition) → length ds ≡ 0 → ds ≡ []
+        empty : (ds : List PlacedDefinition) → length ds ≡ 0 → ds ≡ []
         empty [] is = refl
         empty (d ∷ ds) is = absurd (omega (arith, is))

@@ -1,21 +1,21 @@
 -- What a prune leaves of a policy.
 use Rattle.std.specs.Prelude.{◌≡◌, ℕ, Bool, not, List}
 use Rattle.std.specs.List.{filter}
-use Rattle.sudoers_line.specs.declared.node.Kind.{Kind}
-use Rattle.sudoers_tree.specs.Definition.{Definition, definitions, members_of}
+use Rattle.sudoers_grammar.specs.declared.node.Kind.{Kind}
+use Rattle.sudoers_tree.specs.Definition.{PlacedDefinition, definitions_of_lines, members_of_alias_definition}
 use Rattle.sudoers_tree.specs.Fault.{is_some}
 use Rattle.sudoers_tree.specs.Line.{Line}
-use Rattle.sudoers_check.specs.Chain.{Has}
+use Rattle.sudoers_check.specs.Chain.{ListHasElement}
 use Rattle.sudoers_check.specs.Chains.{IsReachable}
-use Rattle.sudoers_match_list.specs.Alike.{AreDefinedSame}
-use Rattle.sudoers_edit.specs.SpliceEdits.{defs_of}
+use Rattle.sudoers_match_list.specs.Alike.{HaveSameAliasMembers}
+use Rattle.sudoers_edit.specs.SpliceEdits.{definitions_of_alias_line}
 
-abbrev pub defines_none : Line → Bool
-defines_none line = not (is_some (defs_of line.node))
+abbrev pub has_no_alias_definition : Line → Bool
+has_no_alias_definition line = not (is_some (definitions_of_alias_line line.node))
 
 -- The second policy has each line of the first that defines no alias, byte for byte and in its order. It has each alias to which a chain
 -- of mentions leads, with its members, and defines no other.
-pub record LeavesTheReachable (policy next : List Line) : Type 0 where
-  pub others : filter defines_none next ≡ filter defines_none policy
-  pub kept : (k : Kind) (name : List ℕ) → IsReachable k policy name → AreDefinedSame (members_of k name policy) (members_of k name next)
-  pub reachable : (d : Definition) → Has (definitions next) d → IsReachable d.kind policy d.def.name
+pub record KeepsReachableAliasesOnly (policy next : List Line) : Type 0 where
+  pub others : filter has_no_alias_definition next ≡ filter has_no_alias_definition policy
+  pub kept : (k : Kind) (name : List ℕ) → IsReachable k policy name → HaveSameAliasMembers (members_of_alias_definition k name policy) (members_of_alias_definition k name next)
+  pub reachable : (d : PlacedDefinition) → ListHasElement (definitions_of_lines next) d → IsReachable d.kind policy d.def.name

@@ -4,4 +4,4 @@
 mod answers;
 pub mod laws;
 
-pub use answers::answer_of;
+pub use answers::answer_of_editor_policy;

@@ -1,61 +1,61 @@
 -- The list of a definition, of each kind, as it is written.
-use Rattle.laws_print.proofs.Common.{true, false, List, [], ◌∷◌, refl, subst, Kind, User, Runas, Cmnd, Def, Member, printed_line, IsMemberOf, AreSome}
-use Rattle.laws_print.proofs.Common.{IsWritableDef, ReadsBack, Written}
-use Rattle.sudoers_text.specs.declared.context.Context.TheVariants as context
-use Rattle.sudoers_line.specs.declared.node.Kind.TheVariants.{Host}
-use Rattle.sudoers_line.specs.Node as node
-use Rattle.laws_print.proofs.ListTokens.{list_tokens}
-use Rattle.laws_print.proofs.CommandTokens.{list_of_commands}
-use Rattle.laws_print.proofs.Whole.{written_line, IsWhole}
+use Rattle.laws_print.proofs.Common.{true, false, List, [], ◌∷◌, refl, subst, Kind, User, Runas, Cmnd, Def, Member, printed_line, IsWritableMemberOfKind, IsNonEmptyListOf}
+use Rattle.laws_print.proofs.Common.{IsWritableDefinition, LineReadsBackAs, WrittenToken}
+use Rattle.sudoers_text.specs.declared.context.TokenContext.TheVariants as context
+use Rattle.sudoers_grammar.specs.declared.node.Kind.TheVariants.{Host}
+use Rattle.sudoers_grammar.specs.Node as node
+use Rattle.laws_print.proofs.ListTokens.{tokens_of_member_list}
+use Rattle.laws_print.proofs.CommandTokens.{tokens_of_command_list}
+use Rattle.laws_print.proofs.Whole.{cut_tokens_are_logical_line, IsLogicalLineWithoutNul}
 use Rattle.laws_print.proofs.UserCuts.{EndsUser}
-use Rattle.laws_print.proofs.ListCuts.{words_lists, list_cut}
-use Rattle.laws_print.proofs.ReadLists.{list_read}
-use Rattle.laws_print.proofs.PrintedLists.{list_text}
-use Rattle.laws_print.proofs.CommandLists.{commands_cut, end_cut}
-use Rattle.laws_print.proofs.ReadCommandLists.{commands_read}
-use Rattle.laws_print.proofs.PrintedCommands.{commands_text}
-use Rattle.laws_print.proofs.AliasLines.{IsWrittenList, alias_tokens, alias_text, CutLaw, alias_reads, alias_cut_first, mode_of_kind}
+use Rattle.laws_print.proofs.ListCuts.{words_context_is_list_context, member_list_before_tail_is_cut}
+use Rattle.laws_print.proofs.ReadLists.{member_list_is_read_back}
+use Rattle.laws_print.proofs.PrintedLists.{text_of_member_list_is_printed}
+use Rattle.laws_print.proofs.CommandLists.{command_list_before_tail_is_cut, no_tokens_are_cut_behind_command}
+use Rattle.laws_print.proofs.ReadCommandLists.{command_list_is_read_back}
+use Rattle.laws_print.proofs.PrintedCommands.{text_of_command_list_is_printed}
+use Rattle.laws_print.proofs.AliasLines.{AreTokensOfAliasList, tokens_of_alias_line, text_of_alias_tokens_is_printed_line, CutTokensAreTokensOfLine, printed_alias_line_with_list_reads_back, alias_line_with_written_list_is_cut, mode_of_alias_line}
 
 -- the tokens of a list of this kind
-abbrev pub tokens_of_list : Kind → List Member → List Written
-tokens_of_list User ms = list_tokens User true false ms []
-tokens_of_list Runas ms = list_tokens Runas true false ms []
-tokens_of_list Host ms = list_tokens Host true false ms []
-tokens_of_list Cmnd ms = list_of_commands true ms []
+abbrev pub tokens_of_alias_list : Kind → List Member → List WrittenToken
+tokens_of_alias_list User ms = tokens_of_member_list User true false ms []
+tokens_of_alias_list Runas ms = tokens_of_member_list Runas true false ms []
+tokens_of_alias_list Host ms = tokens_of_member_list Host true false ms []
+tokens_of_alias_list Cmnd ms = tokens_of_command_list true ms []
 
-line_ends : EndsUser (10 ∷ [])
-line_ends = record { word = refl; hash = refl; colon = refl; digit = refl }
+line_end_ends_user : EndsUser (10 ∷ [])
+line_end_ends_user = record { word = refl; hash = refl; colon = refl; digit = refl }
 
-written_list : (k : Kind) (ms : List Member) → AreSome (IsMemberOf k) ms → IsWrittenList k ms (tokens_of_list k ms)
-written_list k [] all = absurd all
-written_list User (m ∷ ms) all = record {
-  cut = list_cut User context.Words context.Words words_lists true true false (m ∷ ms) [] all refl line_ends tt;
-  read = λ ts shown. list_read User true false (m ∷ ms) [] ts all shown;
-  text = list_text User true false (m ∷ ms) [] all;
+tokens_of_writable_list_are_of_it : (k : Kind) (ms : List Member) → IsNonEmptyListOf (IsWritableMemberOfKind k) ms → AreTokensOfAliasList k ms (tokens_of_alias_list k ms)
+tokens_of_writable_list_are_of_it k [] all = absurd all
+tokens_of_writable_list_are_of_it User (m ∷ ms) all = record {
+  cut = member_list_before_tail_is_cut User context.Words context.Words words_context_is_list_context true true false (m ∷ ms) [] all refl line_end_ends_user tt;
+  read = λ ts shown. member_list_is_read_back User true false (m ∷ ms) [] ts all shown;
+  text = text_of_member_list_is_printed User true false (m ∷ ms) [] all;
 }
-written_list Runas (m ∷ ms) all = record {
-  cut = list_cut Runas context.Words context.Words words_lists true true false (m ∷ ms) [] all refl line_ends tt;
-  read = λ ts shown. list_read Runas true false (m ∷ ms) [] ts all shown;
-  text = list_text Runas true false (m ∷ ms) [] all;
+tokens_of_writable_list_are_of_it Runas (m ∷ ms) all = record {
+  cut = member_list_before_tail_is_cut Runas context.Words context.Words words_context_is_list_context true true false (m ∷ ms) [] all refl line_end_ends_user tt;
+  read = λ ts shown. member_list_is_read_back Runas true false (m ∷ ms) [] ts all shown;
+  text = text_of_member_list_is_printed Runas true false (m ∷ ms) [] all;
 }
-written_list Host (m ∷ ms) all = record {
-  cut = list_cut Host context.Words context.Words words_lists true true false (m ∷ ms) [] all tt line_ends tt;
-  read = λ ts shown. list_read Host true false (m ∷ ms) [] ts all shown;
-  text = list_text Host true false (m ∷ ms) [] all;
+tokens_of_writable_list_are_of_it Host (m ∷ ms) all = record {
+  cut = member_list_before_tail_is_cut Host context.Words context.Words words_context_is_list_context true true false (m ∷ ms) [] all tt line_end_ends_user tt;
+  read = λ ts shown. member_list_is_read_back Host true false (m ∷ ms) [] ts all shown;
+  text = text_of_member_list_is_printed Host true false (m ∷ ms) [] all;
 }
-written_list Cmnd (m ∷ ms) all = record {
-  cut = commands_cut true true m ms [] all end_cut;
-  read = λ ts shown. commands_read true m ms [] ts all shown;
-  text = commands_text true m ms [] all;
+tokens_of_writable_list_are_of_it Cmnd (m ∷ ms) all = record {
+  cut = command_list_before_tail_is_cut true true m ms [] all no_tokens_are_cut_behind_command;
+  read = λ ts shown. command_list_is_read_back true m ms [] ts all shown;
+  text = text_of_command_list_is_printed true m ms [] all;
 }
 
 -- A definition is read as it is printed, and its line is one logical line.
-pub alias_read : CutLaw → (k : Kind) (d : Def) → IsWritableDef k d → ReadsBack (printed_line (node.Alias k (d ∷ []))) (node.Alias k (d ∷ []))
-alias_read law k d is = alias_reads law k d (tokens_of_list k d.members) is.name (written_list k d.members is.members)
+pub printed_alias_line_reads_back : CutTokensAreTokensOfLine → (k : Kind) (d : Def) → IsWritableDefinition k d → LineReadsBackAs (printed_line (node.Alias k (d ∷ []))) (node.Alias k (d ∷ []))
+printed_alias_line_reads_back law k d is = printed_alias_line_with_list_reads_back law k d (tokens_of_alias_list k d.members) is.name (tokens_of_writable_list_are_of_it k d.members is.members)
 
-pub alias_line : (k : Kind) (d : Def) → IsWritableDef k d → IsWhole (printed_line (node.Alias k (d ∷ [])))
-alias_line k d is =
-    let list = tokens_of_list k d.members in
-    let written = written_list k d.members is.members in
-    subst IsWhole (alias_text k d list written.text)
-    (written_line (alias_tokens k d.name list) (context.First (mode_of_kind k)) (alias_cut_first k d list is.name written))
+pub printed_alias_line_is_logical_line : (k : Kind) (d : Def) → IsWritableDefinition k d → IsLogicalLineWithoutNul (printed_line (node.Alias k (d ∷ [])))
+printed_alias_line_is_logical_line k d is =
+    let list = tokens_of_alias_list k d.members in
+    let written = tokens_of_writable_list_are_of_it k d.members is.members in
+    subst IsLogicalLineWithoutNul (text_of_alias_tokens_is_printed_line k d list written.text)
+    (cut_tokens_are_logical_line (tokens_of_alias_line k d.name list) (context.First (mode_of_alias_line k)) (alias_line_with_written_list_is_cut k d list is.name written))

@@ -2,38 +2,38 @@
 use Rattle.std.specs.Prelude.{ℕ, ◌==◌, ◌&&◌, not, Bool, true, false, List, [], ◌∷◌, ◌++◌, if◌then◌else◌}
 use Rattle.sudoers_text.specs.declared.token.TokenKind.TheVariants as kind
 use Rattle.sudoers_text.specs.Unit.{LineUnit, Byte}
-use Rattle.sudoers_line.specs.declared.pattern.Spelling.TheVariants.{Command}
-use Rattle.laws_print.proofs.Written.{Written, flat}
-use Rattle.laws_print.proofs.PatternUnits.{escape_all}
+use Rattle.sudoers_grammar.specs.declared.pattern.PatternSpelling.TheVariants.{Command}
+use Rattle.laws_print.proofs.Written.{WrittenToken, text_of_units}
+use Rattle.laws_print.proofs.PatternUnits.{escaped_pattern_units}
 
-abbrev pub is_space : LineUnit → Bool
-is_space (Byte b) = b == 32
-is_space u = false
+abbrev pub is_space_unit : LineUnit → Bool
+is_space_unit (Byte b) = b == 32
+is_space_unit u = false
 
 -- something other than a space comes
-abbrev pub begins_word : List LineUnit → Bool
-begins_word [] = false
-begins_word (u ∷ us) = not (is_space u)
+abbrev pub begins_with_other_than_space : List LineUnit → Bool
+begins_with_other_than_space [] = false
+begins_with_other_than_space (u ∷ us) = not (is_space_unit u)
 
-abbrev pub in_first : LineUnit → List (List LineUnit) → List (List LineUnit)
-in_first u [] = (u ∷ []) ∷ []
-in_first u (w ∷ ws) = (u ∷ w) ∷ ws
+abbrev pub words_with_unit_in_first : LineUnit → List (List LineUnit) → List (List LineUnit)
+words_with_unit_in_first u [] = (u ∷ []) ∷ []
+words_with_unit_in_first u (w ∷ ws) = (u ∷ w) ∷ ws
 
 -- The arguments that a pattern is made of: one ends at each single space between two other units. behind: such a unit stands
 -- before.
-abbrev pub argument_words : Bool → List LineUnit → List (List LineUnit)
-argument_words behind [] = [] ∷ []
-argument_words behind (u ∷ us) =
-    if is_space u && (behind && begins_word us) then [] ∷ argument_words false us
-    else in_first u (argument_words (not (is_space u)) us)
+abbrev pub argument_words_of_units : Bool → List LineUnit → List (List LineUnit)
+argument_words_of_units behind [] = [] ∷ []
+argument_words_of_units behind (u ∷ us) =
+    if is_space_unit u && (behind && begins_with_other_than_space us) then [] ∷ argument_words_of_units false us
+    else words_with_unit_in_first u (argument_words_of_units (not (is_space_unit u)) us)
 
 -- the tokens of the arguments, before others
-abbrev pub argument_tokens : List (List LineUnit) → List Written → List Written
-argument_tokens [] tail = tail
-argument_tokens (w ∷ ws) tail = record { kind = kind.Arg; units = escape_all Command w; spaced = true } ∷ argument_tokens ws tail
+abbrev pub tokens_of_argument_words : List (List LineUnit) → List WrittenToken → List WrittenToken
+tokens_of_argument_words [] tail = tail
+tokens_of_argument_words (w ∷ ws) tail = record { kind = kind.Arg; units = escaped_pattern_units Command w; spaced = true } ∷ tokens_of_argument_words ws tail
 
 -- the words with single spaces between them
-abbrev pub joined : List (List LineUnit) → List ℕ
-joined [] = []
-joined (w ∷ []) = flat w
-joined (w ∷ v ∷ ws) = flat w ++ 32 ∷ joined (v ∷ ws)
+abbrev pub text_of_words_joined_by_spaces : List (List LineUnit) → List ℕ
+text_of_words_joined_by_spaces [] = []
+text_of_words_joined_by_spaces (w ∷ []) = text_of_units w
+text_of_words_joined_by_spaces (w ∷ v ∷ ws) = text_of_units w ++ 32 ∷ text_of_words_joined_by_spaces (v ∷ ws)

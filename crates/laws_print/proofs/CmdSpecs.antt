@@ -1,73 +1,73 @@
 -- A command with what stands before it as it is written is cut into its tokens.
 use Rattle.laws_print.proofs.Common.{◌≡◌, ℕ, Bool, true, false, List, [], ◌∷◌, length, Some, None, refl, sym, subst, arith, ◌==◌, Option}
-use Rattle.laws_print.proofs.Common.{AllByRecursion, nat_tests, Context, Byte, Quoted, run_size, between_quotes, behind, command_path_size, number_size}
-use Rattle.laws_print.proofs.Common.{hash_number_size, group_size, Runas, Tag, OptionName, Member, RunasSpec, option_word, printed_tag, IsUserMember}
-use Rattle.laws_print.proofs.Common.{IsCommandMember, IsRunasList, Written, flat, line_of, IsCut, AreCut, word_units}
+use Rattle.laws_print.proofs.Common.{AllByRecursion, nat_tests, TokenContext, Byte, Quoted, leading_run_size, quoted_run_size, context_after_token, command_path_size, numeric_id_size}
+use Rattle.laws_print.proofs.Common.{hash_id_size, non_unix_group_size, Runas, Tag, OptionName, Member, RunasSpec, option_keyword, printed_tag_or_negated, IsWritableUserMember}
+use Rattle.laws_print.proofs.Common.{IsWritableCommandMember, IsWritableRunasSpec, WrittenToken, text_of_units, line_of_written_tokens, IsTokenCut, AreTokensCut, units_of_spelled_word}
 use Rattle.sudoers_text.specs.declared.token.TokenKind.TheVariants as kind
-use Rattle.sudoers_text.specs.declared.context.Context.TheVariants as context
-use Rattle.sudoers_line.specs.declared.node.Tag.TheVariants as tag
-use Rattle.sudoers_line.specs.declared.node.OptionName.TheVariants as option
-use Rattle.laws_print.proofs.Units.{plain}
-use Rattle.laws_print.proofs.ListTokens.{mark, list_tokens}
-use Rattle.laws_print.proofs.CommandTokens.{value_token, tagged, optioned, runas_inside, cmd_tokens}
+use Rattle.sudoers_text.specs.declared.context.TokenContext.TheVariants as context
+use Rattle.sudoers_grammar.specs.declared.node.Tag.TheVariants as tag
+use Rattle.sudoers_grammar.specs.declared.node.OptionName.TheVariants as option
+use Rattle.laws_print.proofs.Units.{units_of_plain_bytes}
+use Rattle.laws_print.proofs.ListTokens.{token_of_mark, tokens_of_member_list}
+use Rattle.laws_print.proofs.CommandTokens.{token_of_option_value, tokens_of_tags_and_command, tokens_of_options_and_command, tokens_inside_runas_parentheses, tokens_of_command_spec}
 use Rattle.laws_print.proofs.Cuts.{EndsWord}
-use Rattle.laws_print.proofs.UserCuts.{EndsUser, sign_cut, mark_cut, units_cut, front_some}
-use Rattle.laws_print.proofs.Users.{word_front}
-use Rattle.laws_print.proofs.Values.{word_fits}
-use Rattle.laws_print.proofs.ListCuts.{parentheses_lists, list_cut}
-use Rattle.laws_print.proofs.CommandCuts.{TailCut, literal_cut, command_mark, is_literal}
-use Rattle.laws_print.proofs.CommandLists.{colon_ends, command_ends, command_then}
+use Rattle.laws_print.proofs.UserCuts.{EndsUser, found_punctuation_is_cut, punctuation_in_word_list_is_cut, word_units_in_word_list_are_cut, spelled_word_front_is_not_empty}
+use Rattle.laws_print.proofs.Users.{word_units_have_front_of_spelled_word}
+use Rattle.laws_print.proofs.Values.{units_of_spelled_word_are_word_units}
+use Rattle.laws_print.proofs.ListCuts.{parentheses_context_is_list_context, member_list_before_tail_is_cut}
+use Rattle.laws_print.proofs.CommandCuts.{IsCutBehindCommand, literal_word_is_cut_among_commands, punctuation_is_cut_among_commands, is_literal_word}
+use Rattle.laws_print.proofs.CommandLists.{colon_ends_word, spaced_command_ends_user, command_with_digests_before_tail_is_cut}
 
 -- ---- tags
 
-tag_literal : (g : Tag) (on : Bool) → is_literal (printed_tag g on) ≡ true
-tag_literal tag.Exec true = refl
-tag_literal tag.Exec false = refl
-tag_literal g true = refl
-tag_literal g false = refl
+printed_tag_is_literal_word : (g : Tag) (on : Bool) → is_literal_word (printed_tag_or_negated g on) ≡ true
+printed_tag_is_literal_word tag.Exec true = refl
+printed_tag_is_literal_word tag.Exec false = refl
+printed_tag_is_literal_word g true = refl
+printed_tag_is_literal_word g false = refl
 
-tag_behind : (g : Tag) (on : Bool) (rest : List ℕ) → behind context.Commands kind.Word (flat (plain (printed_tag g on))) rest ≡ context.BehindTag
-tag_behind tag.Exec true rest = refl
-tag_behind tag.Exec false rest = refl
-tag_behind g true rest = refl
-tag_behind g false rest = refl
+tag_context_follows_tag : (g : Tag) (on : Bool) (rest : List ℕ) → context_after_token context.Commands kind.Word (text_of_units (units_of_plain_bytes (printed_tag_or_negated g on))) rest ≡ context.BehindTag
+tag_context_follows_tag tag.Exec true rest = refl
+tag_context_follows_tag tag.Exec false rest = refl
+tag_context_follows_tag g true rest = refl
+tag_context_follows_tag g false rest = refl
 
-colon_cut : (rest : List ℕ) → IsCut context.BehindTag false true kind.Punct (Byte 58 ∷ []) rest
+colon_behind_tag_is_cut : (rest : List ℕ) → IsTokenCut context.BehindTag false true kind.Punct (Byte 58 ∷ []) rest
 unfolding command_path_size
-colon_cut rest = sign_cut context.BehindTag false true 58 rest (λ i first. refl) refl (λ before begins is. refl)
+colon_behind_tag_is_cut rest = found_punctuation_is_cut context.BehindTag false true 58 rest (λ i first. refl) refl (λ before begins is. refl)
 
-pub tagged_cut : (spaced item : Bool) (gs : List (Tag × Bool)) (m : Member) (tail : List Written) → IsCommandMember m → TailCut tail → AreCut context.Commands item (tagged spaced gs m tail)
-tagged_cut spaced item [] m tail is cut = command_then spaced item m.digests m.negated m.atom tail is.digests is.is_command cut
-tagged_cut spaced item (g ∷ gs) m tail is cut =
-    let later = tagged true gs m tail in
-    let colon = mark 58 false ∷ later in (
+pub tags_and_command_are_cut : (spaced item : Bool) (gs : List (Tag × Bool)) (m : Member) (tail : List WrittenToken) → IsWritableCommandMember m → IsCutBehindCommand tail → AreTokensCut context.Commands item (tokens_of_tags_and_command spaced gs m tail)
+tags_and_command_are_cut spaced item [] m tail is cut = command_with_digests_before_tail_is_cut spaced item m.digests m.negated m.atom tail is.digests is.is_command cut
+tags_and_command_are_cut spaced item (g ∷ gs) m tail is cut =
+    let later = tokens_of_tags_and_command true gs m tail in
+    let colon = token_of_mark 58 false ∷ later in (
       false,
-      literal_cut item (printed_tag g.0 g.1) (line_of colon) (tag_literal g.0 g.1) (colon_ends (line_of later)),
-      subst (λ (c : Context). AreCut c false colon) (sym (tag_behind g.0 g.1 (line_of colon)))
-          (true, colon_cut (line_of later), tagged_cut true true gs m tail is cut),
+      literal_word_is_cut_among_commands item (printed_tag_or_negated g.0 g.1) (line_of_written_tokens colon) (printed_tag_is_literal_word g.0 g.1) (colon_ends_word (line_of_written_tokens later)),
+      subst (λ (c : TokenContext). AreTokensCut c false colon) (sym (tag_context_follows_tag g.0 g.1 (line_of_written_tokens colon)))
+          (true, colon_behind_tag_is_cut (line_of_written_tokens later), tags_and_command_are_cut true true gs m tail is cut),
     )
 
 -- ---- options
 
-equals_ends : (rest : List ℕ) → EndsWord false (61 ∷ rest)
-equals_ends rest = record { ends = refl; apart = λ h. absurd (cc) }
+equals_sign_ends_option_word : (rest : List ℕ) → EndsWord false (61 ∷ rest)
+equals_sign_ends_option_word rest = record { ends = refl; apart = λ h. absurd (cc) }
 
-option_literal : (o : OptionName) → is_literal (option_word o) ≡ true
-option_literal option.Role = refl
-option_literal o = refl
+option_keyword_is_literal_word : (o : OptionName) → is_literal_word (option_keyword o) ≡ true
+option_keyword_is_literal_word option.Role = refl
+option_keyword_is_literal_word o = refl
 
-option_behind : (o : OptionName) (rest : List ℕ) → behind context.Commands kind.Word (flat (plain (option_word o))) rest ≡ context.BehindOption
-option_behind option.Role rest = refl
-option_behind o rest = refl
+option_context_follows_option_keyword : (o : OptionName) (rest : List ℕ) → context_after_token context.Commands kind.Word (text_of_units (units_of_plain_bytes (option_keyword o))) rest ≡ context.BehindOption
+option_context_follows_option_keyword option.Role rest = refl
+option_context_follows_option_keyword o rest = refl
 
-equals_cut : (rest : List ℕ) → IsCut context.BehindOption false true kind.Punct (Byte 61 ∷ []) rest
+equals_sign_behind_option_is_cut : (rest : List ℕ) → IsTokenCut context.BehindOption false true kind.Punct (Byte 61 ∷ []) rest
 unfolding command_path_size
-equals_cut rest = sign_cut context.BehindOption false true 61 rest (λ i first. refl) refl (λ before begins is. refl)
+equals_sign_behind_option_is_cut rest = found_punctuation_is_cut context.BehindOption false true 61 rest (λ i first. refl) refl (λ before begins is. refl)
 
 -- `""`
-empty_cut : (rest : List ℕ) → IsCut context.OptionValue true false kind.Quoted (Quoted (34 ∷ []) ∷ []) rest
-unfolding run_size between_quotes number_size hash_number_size group_size
-empty_cut rest = record {
+empty_quotes_option_value_is_cut : (rest : List ℕ) → IsTokenCut context.OptionValue true false kind.Quoted (Quoted (34 ∷ []) ∷ []) rest
+unfolding leading_run_size quoted_run_size numeric_id_size hash_id_size non_unix_group_size
+empty_quotes_option_value_is_cut rest = record {
   found = λ i first possible. refl;
   no_gap = refl;
   more = let some : (0 == length (34 ∷ 34 ∷ rest)) ≡ false = grind (arith, nat_tests) in some;
@@ -79,70 +79,70 @@ empty_cut rest = record {
   leaves_units = λ before begins none. absurd (cc);
 }
 
-value_then : (value : List ℕ) (tail : List Written) → EndsUser (line_of tail) → AreCut context.Commands false tail → AreCut context.OptionValue true (value_token value ∷ tail)
-value_then [] tail ends cut = (false, empty_cut (line_of tail), cut)
-value_then (b ∷ value) tail ends cut =
-    (false, units_cut context.OptionValue true (word_units (b ∷ value)) (line_of tail) refl (front_some b (flat (word_units (b ∷ value))) (word_front b value)) (word_fits (b ∷ value)) ends, cut)
+option_value_before_tail_is_cut : (value : List ℕ) (tail : List WrittenToken) → EndsUser (line_of_written_tokens tail) → AreTokensCut context.Commands false tail → AreTokensCut context.OptionValue true (token_of_option_value value ∷ tail)
+option_value_before_tail_is_cut [] tail ends cut = (false, empty_quotes_option_value_is_cut (line_of_written_tokens tail), cut)
+option_value_before_tail_is_cut (b ∷ value) tail ends cut =
+    (false, word_units_in_word_list_are_cut context.OptionValue true (units_of_spelled_word (b ∷ value)) (line_of_written_tokens tail) refl (spelled_word_front_is_not_empty b (text_of_units (units_of_spelled_word (b ∷ value))) (word_units_have_front_of_spelled_word b value)) (units_of_spelled_word_are_word_units (b ∷ value)) ends, cut)
 
 -- What stands behind an option begins with a blank.
-tagged_ends : (gs : List (Tag × Bool)) (m : Member) (tail : List Written) → IsCommandMember m → EndsUser (line_of (tagged true gs m tail))
-tagged_ends [] m tail is = command_ends m.digests m.negated m.atom tail is.is_command
-tagged_ends (g ∷ gs) m tail is = record { word = refl; hash = refl; colon = refl; digit = refl }
+tags_and_command_end_user : (gs : List (Tag × Bool)) (m : Member) (tail : List WrittenToken) → IsWritableCommandMember m → EndsUser (line_of_written_tokens (tokens_of_tags_and_command true gs m tail))
+tags_and_command_end_user [] m tail is = spaced_command_ends_user m.digests m.negated m.atom tail is.is_command
+tags_and_command_end_user (g ∷ gs) m tail is = record { word = refl; hash = refl; colon = refl; digit = refl }
 
-optioned_ends : (os : List (OptionName × List ℕ)) (gs : List (Tag × Bool)) (m : Member) (tail : List Written) → IsCommandMember m → EndsUser (line_of (optioned true os gs m tail))
-optioned_ends [] gs m tail is = tagged_ends gs m tail is
-optioned_ends (o ∷ os) gs m tail is = record { word = refl; hash = refl; colon = refl; digit = refl }
+options_and_command_end_user : (os : List (OptionName × List ℕ)) (gs : List (Tag × Bool)) (m : Member) (tail : List WrittenToken) → IsWritableCommandMember m → EndsUser (line_of_written_tokens (tokens_of_options_and_command true os gs m tail))
+options_and_command_end_user [] gs m tail is = tags_and_command_end_user gs m tail is
+options_and_command_end_user (o ∷ os) gs m tail is = record { word = refl; hash = refl; colon = refl; digit = refl }
 
-pub optioned_cut : (spaced item : Bool) (os : List (OptionName × List ℕ)) (gs : List (Tag × Bool)) (m : Member) (tail : List Written) → IsCommandMember m → TailCut tail → AreCut context.Commands item (optioned spaced os gs m tail)
-optioned_cut spaced item [] gs m tail is cut = tagged_cut spaced item gs m tail is cut
-optioned_cut spaced item (o ∷ os) gs m tail is cut =
-    let later = optioned true os gs m tail in
-    let value = value_token o.1 ∷ later in
-    let equals = mark 61 false ∷ value in (
+pub options_and_command_are_cut : (spaced item : Bool) (os : List (OptionName × List ℕ)) (gs : List (Tag × Bool)) (m : Member) (tail : List WrittenToken) → IsWritableCommandMember m → IsCutBehindCommand tail → AreTokensCut context.Commands item (tokens_of_options_and_command spaced os gs m tail)
+options_and_command_are_cut spaced item [] gs m tail is cut = tags_and_command_are_cut spaced item gs m tail is cut
+options_and_command_are_cut spaced item (o ∷ os) gs m tail is cut =
+    let later = tokens_of_options_and_command true os gs m tail in
+    let value = token_of_option_value o.1 ∷ later in
+    let equals = token_of_mark 61 false ∷ value in (
       false,
-      literal_cut item (option_word o.0) (line_of equals) (option_literal o.0) (equals_ends (line_of value)),
-      subst (λ (c : Context). AreCut c false equals) (sym (option_behind o.0 (line_of equals)))
-          (true, equals_cut (line_of value), value_then o.1 later (optioned_ends os gs m tail is) (optioned_cut true false os gs m tail is cut)),
+      literal_word_is_cut_among_commands item (option_keyword o.0) (line_of_written_tokens equals) (option_keyword_is_literal_word o.0) (equals_sign_ends_option_word (line_of_written_tokens value)),
+      subst (λ (c : TokenContext). AreTokensCut c false equals) (sym (option_context_follows_option_keyword o.0 (line_of_written_tokens equals)))
+          (true, equals_sign_behind_option_is_cut (line_of_written_tokens value), option_value_before_tail_is_cut o.1 later (options_and_command_end_user os gs m tail is) (options_and_command_are_cut true false os gs m tail is cut)),
     )
 
 -- ---- parentheses
 
-user_ends : (rest : List ℕ) → EndsUser (41 ∷ rest)
-user_ends rest = record { word = refl; hash = refl; colon = refl; digit = refl }
+closing_parenthesis_ends_user : (rest : List ℕ) → EndsUser (41 ∷ rest)
+closing_parenthesis_ends_user rest = record { word = refl; hash = refl; colon = refl; digit = refl }
 
 -- What is behind what stands in the parentheses.
-pub record Closes (tail : List Written) : Type 0 where
-  pub cut : (item : Bool) → AreCut context.Parentheses item tail
-  pub ends : EndsUser (line_of tail)
+pub record ClosesParentheses (tail : List WrittenToken) : Type 0 where
+  pub cut : (item : Bool) → AreTokensCut context.Parentheses item tail
+  pub ends : EndsUser (line_of_written_tokens tail)
 
-closes : (tail : List Written) → AreCut context.Commands false tail → Closes (mark 41 false ∷ tail)
-closes tail cut = record {
-  cut = λ item. (false, mark_cut context.Parentheses item false 41 (line_of tail) refl refl (λ before begins none. absurd (cc)), cut);
-  ends = user_ends (line_of tail);
+closing_parenthesis_token_closes : (tail : List WrittenToken) → AreTokensCut context.Commands false tail → ClosesParentheses (token_of_mark 41 false ∷ tail)
+closing_parenthesis_token_closes tail cut = record {
+  cut = λ item. (false, punctuation_in_word_list_is_cut context.Parentheses item false 41 (line_of_written_tokens tail) refl refl (λ before begins none. absurd (cc)), cut);
+  ends = closing_parenthesis_ends_user (line_of_written_tokens tail);
 }
 
-groups_cut : (item : Bool) (spaced : Bool) (g : Member) (gs : List Member) (tail : List Written) → AllByRecursion IsUserMember (g ∷ gs) → Closes tail → AreCut context.Parentheses item (mark 58 spaced ∷ list_tokens Runas true false (g ∷ gs) tail)
-groups_cut item spaced g gs tail all end = (
+runas_groups_before_closing_are_cut : (item : Bool) (spaced : Bool) (g : Member) (gs : List Member) (tail : List WrittenToken) → AllByRecursion IsWritableUserMember (g ∷ gs) → ClosesParentheses tail → AreTokensCut context.Parentheses item (token_of_mark 58 spaced ∷ tokens_of_member_list Runas true false (g ∷ gs) tail)
+runas_groups_before_closing_are_cut item spaced g gs tail all end = (
   true,
-  mark_cut context.Parentheses item true 58 (line_of (list_tokens Runas true false (g ∷ gs) tail)) refl refl (λ before begins is. refl),
-  list_cut Runas context.Parentheses context.Parentheses parentheses_lists true true false (g ∷ gs) tail all refl end.ends (end.cut false),
+  punctuation_in_word_list_is_cut context.Parentheses item true 58 (line_of_written_tokens (tokens_of_member_list Runas true false (g ∷ gs) tail)) refl refl (λ before begins is. refl),
+  member_list_before_tail_is_cut Runas context.Parentheses context.Parentheses parentheses_context_is_list_context true true false (g ∷ gs) tail all refl end.ends (end.cut false),
 )
 
-inside_cut : (us gs : List Member) (tail : List Written) → AllByRecursion IsUserMember us → AllByRecursion IsUserMember gs → Closes tail → AreCut context.Parentheses true (runas_inside us gs tail)
-inside_cut [] [] tail all others end = end.cut true
-inside_cut (u ∷ us) [] tail all others end = list_cut Runas context.Parentheses context.Parentheses parentheses_lists true false false (u ∷ us) tail all refl end.ends (end.cut false)
-inside_cut [] (g ∷ gs) tail all others end = groups_cut true false g gs tail others end
-inside_cut (u ∷ us) (g ∷ gs) tail all others end =
-    list_cut Runas context.Parentheses context.Parentheses parentheses_lists true false false (u ∷ us) (mark 58 true ∷ list_tokens Runas true false (g ∷ gs) tail) all refl
-    (record { word = refl; hash = refl; colon = refl; digit = refl }) (groups_cut false true g gs tail others end)
+runas_lists_before_closing_are_cut : (us gs : List Member) (tail : List WrittenToken) → AllByRecursion IsWritableUserMember us → AllByRecursion IsWritableUserMember gs → ClosesParentheses tail → AreTokensCut context.Parentheses true (tokens_inside_runas_parentheses us gs tail)
+runas_lists_before_closing_are_cut [] [] tail all others end = end.cut true
+runas_lists_before_closing_are_cut (u ∷ us) [] tail all others end = member_list_before_tail_is_cut Runas context.Parentheses context.Parentheses parentheses_context_is_list_context true false false (u ∷ us) tail all refl end.ends (end.cut false)
+runas_lists_before_closing_are_cut [] (g ∷ gs) tail all others end = runas_groups_before_closing_are_cut true false g gs tail others end
+runas_lists_before_closing_are_cut (u ∷ us) (g ∷ gs) tail all others end =
+    member_list_before_tail_is_cut Runas context.Parentheses context.Parentheses parentheses_context_is_list_context true false false (u ∷ us) (token_of_mark 58 true ∷ tokens_of_member_list Runas true false (g ∷ gs) tail) all refl
+    (record { word = refl; hash = refl; colon = refl; digit = refl }) (runas_groups_before_closing_are_cut false true g gs tail others end)
 
 -- A command with what stands before it is cut into its tokens.
-pub cmd_cut : (spaced : Bool) (runas : Option RunasSpec) (os : List (OptionName × List ℕ)) (gs : List (Tag × Bool)) (m : Member) (tail : List Written) → IsRunasList runas → IsCommandMember m → TailCut tail → AreCut context.Commands true (cmd_tokens spaced runas os gs m tail)
-cmd_cut spaced None os gs m tail list is cut = optioned_cut spaced true os gs m tail is cut
-cmd_cut spaced (Some r) os gs m tail list is cut =
-    let later = optioned true os gs m tail in
-    let inside = runas_inside r.users r.groups (mark 41 false ∷ later) in (
+pub command_spec_is_cut : (spaced : Bool) (runas : Option RunasSpec) (os : List (OptionName × List ℕ)) (gs : List (Tag × Bool)) (m : Member) (tail : List WrittenToken) → IsWritableRunasSpec runas → IsWritableCommandMember m → IsCutBehindCommand tail → AreTokensCut context.Commands true (tokens_of_command_spec spaced runas os gs m tail)
+command_spec_is_cut spaced None os gs m tail list is cut = options_and_command_are_cut spaced true os gs m tail is cut
+command_spec_is_cut spaced (Some r) os gs m tail list is cut =
+    let later = tokens_of_options_and_command true os gs m tail in
+    let inside = tokens_inside_runas_parentheses r.users r.groups (token_of_mark 41 false ∷ later) in (
       true,
-      command_mark true true 40 (line_of inside) refl refl (λ before begins. begins),
-      inside_cut r.users r.groups (mark 41 false ∷ later) list.0 list.1 (closes later (optioned_cut true false os gs m tail is cut)),
+      punctuation_is_cut_among_commands true true 40 (line_of_written_tokens inside) refl refl (λ before begins. begins),
+      runas_lists_before_closing_are_cut r.users r.groups (token_of_mark 41 false ∷ later) list.0 list.1 (closing_parenthesis_token_closes later (options_and_command_are_cut true false os gs m tail is cut)),
     )

@@ -1,41 +1,41 @@
 -- A Defaults line is read as it is printed, and is one logical line.
 use Rattle.laws_print.proofs.Common.{◌≡◌, ℕ, Bool, true, false, List, [], ◌∷◌, Some, None, refl, sym, subst, Option, codes, Mode, HasTokens, Scope}
-use Rattle.laws_print.proofs.Common.{Param, Piece, pieces, is_the_word, Reads, is_defaults, PerhapsScope, printed_line, AreSome, IsWritableScope}
-use Rattle.laws_print.proofs.Common.{IsWritableParam, IsSameScope, ReadsBack, Written, line_of, placed, Start, AreCutFrom, Shows}
+use Rattle.laws_print.proofs.Common.{Param, TokenWithBytes, tokens_with_bytes, is_given_word, Reads, is_defaults, PerhapsScope, printed_line, IsNonEmptyListOf, IsWritableScope}
+use Rattle.laws_print.proofs.Common.{IsWritableParam, IsScopeSameButPlace, LineReadsBackAs, WrittenToken, line_of_written_tokens, tokens_placed_from_offset, Start, AreTokensCutFromPlace, AreTokensShownBy}
 use Rattle.sudoers_text.specs.declared.token.TokenKind.TheVariants as kind
 use Rattle.sudoers_text.specs.declared.token.Mode.TheVariants as mode
-use Rattle.sudoers_text.specs.declared.context.Context.TheVariants as context
-use Rattle.sudoers_line.specs.Node as node
-use Rattle.laws_print.proofs.DefaultsTokens.{defaults_tokens, all_params, defaults_text, param_tokens, more_params}
-use Rattle.laws_print.proofs.Whole.{written_line_from, IsWhole}
-use Rattle.laws_print.proofs.Shown.{shows}
-use Rattle.laws_print.proofs.AliasLines.{nothing_left}
-use Rattle.laws_print.proofs.ScopeCuts.{defaults_cut, defaults_line_mode}
-use Rattle.laws_print.proofs.ReadDefaults.{params_read, StartsAt, scope_read}
+use Rattle.sudoers_text.specs.declared.context.TokenContext.TheVariants as context
+use Rattle.sudoers_grammar.specs.Node as node
+use Rattle.laws_print.proofs.DefaultsTokens.{tokens_of_defaults_line, tokens_of_parameters, text_of_defaults_tokens_is_printed_line, tokens_of_parameter_parts, tokens_of_further_parameters}
+use Rattle.laws_print.proofs.Whole.{tokens_cut_from_place_are_logical_line, IsLogicalLineWithoutNul}
+use Rattle.laws_print.proofs.Shown.{placed_tokens_of_line_show_written}
+use Rattle.laws_print.proofs.AliasLines.{no_written_token_shows_line_end}
+use Rattle.laws_print.proofs.ScopeCuts.{defaults_line_is_cut, mode_of_defaults_tokens_is_parameters}
+use Rattle.laws_print.proofs.ReadDefaults.{parameter_list_is_read_back, IsFirstTokenPlacedByScope, scope_is_read_back}
 
-abbrev pub CutFromLaw : Type 0
-CutFromLaw = (m : Mode) (ps : List Written) → AreCutFrom (context.First m) Start ps → HasTokens m (line_of ps) (placed 0 ps)
+abbrev pub TokensCutFromStartAreOfLine : Type 0
+TokensCutFromStartAreOfLine = (m : Mode) (ps : List WrittenToken) → AreTokensCutFromPlace (context.First m) Start ps → HasTokens m (line_of_written_tokens ps) (tokens_placed_from_offset 0 ps)
 
-word_read : (t : Piece) → t.kind ≡ kind.Word → t.text ≡ codes "Defaults" → is_defaults t ≡ true
-unfolding is_the_word
-word_read t k text = rw (k, text) refl
+defaults_keyword_is_read_as_defaults : (t : TokenWithBytes) → t.kind ≡ kind.Word → t.text ≡ codes "Defaults" → is_defaults t ≡ true
+unfolding is_given_word
+defaults_keyword_is_read_as_defaults t k text = rw (k, text) refl
 
 -- what is said of some tokens
-pub record SaysDefaults (ts : List Piece) (scope : Option Scope) (ps : List Param) : Type 0 where
+pub record ReadsAsDefaultsNode (ts : List TokenWithBytes) (scope : Option Scope) (ps : List Param) : Type 0 where
   pub read : Option Scope
   pub reads : Reads ts (node.Defaults read ps)
-  pub same : IsSameScope scope read
+  pub same : IsScopeSameButPlace scope read
 
 -- where the first token ends and the next begins
-abbrev pub Begun : Option Scope → List Piece → Type 0
-Begun scope [] = Unit {0}
-Begun scope (w ∷ ts) = (w.stop ≡ 8) × StartsAt scope ts
+abbrev pub AreDefaultsTokensPlacedByScope : Option Scope → List TokenWithBytes → Type 0
+AreDefaultsTokensPlacedByScope scope [] = Unit {0}
+AreDefaultsTokensPlacedByScope scope (w ∷ ts) = (w.stop ≡ 8) × IsFirstTokenPlacedByScope scope ts
 
-defaults_says : (scope : Option Scope) (ps : List Param) (ts : List Piece) → IsWritableScope scope → AreSome IsWritableParam ps → Begun scope ts → Shows (defaults_tokens scope ps) ts → SaysDefaults ts scope ps
-defaults_says scope ps [] is all begun shown = absurd shown
-defaults_says scope ps (w ∷ ts) is all begun shown =
-    let scoped = scope_read scope (all_params ps) ts is begun.1 shown.2 in
-    let params = params_read ps scoped.rest all scoped.behind in
+defaults_tokens_read_as_node : (scope : Option Scope) (ps : List Param) (ts : List TokenWithBytes) → IsWritableScope scope → IsNonEmptyListOf IsWritableParam ps → AreDefaultsTokensPlacedByScope scope ts → AreTokensShownBy (tokens_of_defaults_line scope ps) ts → ReadsAsDefaultsNode ts scope ps
+defaults_tokens_read_as_node scope ps [] is all begun shown = absurd shown
+defaults_tokens_read_as_node scope ps (w ∷ ts) is all begun shown =
+    let scoped = scope_is_read_back scope (tokens_of_parameters ps) ts is begun.1 shown.2 in
+    let params = parameter_list_is_read_back ps scoped.rest all scoped.behind in
     record {
       read = scoped.read;
       reads = (
@@ -45,42 +45,42 @@ defaults_says scope ps (w ∷ ts) is all begun shown =
           behind = ts;
           behind_scope = scoped.rest;
           split = refl;
-          is_word = word_read w shown.0 shown.1;
+          is_word = defaults_keyword_is_read_as_defaults w shown.0 shown.1;
           in_scope = subst (λ (n : ℕ). PerhapsScope n ts scoped.read scoped.rest) (sym begun.0) scoped.is;
           params = params.is;
         },
-        nothing_left params.rest params.behind,
+        no_written_token_shows_line_end params.rest params.behind,
       );
       same = scoped.same;
     }
 
-begun_there : (line : List ℕ) (scope : Option Scope) (ps : List Param) → AreSome IsWritableParam ps → Begun scope (pieces line (placed 0 (defaults_tokens scope ps)))
-begun_there line None [] all = absurd all
-begun_there line None (p ∷ ps) all = (refl, by_sign p.negated)
+placed_defaults_tokens_are_by_scope : (line : List ℕ) (scope : Option Scope) (ps : List Param) → IsNonEmptyListOf IsWritableParam ps → AreDefaultsTokensPlacedByScope scope (tokens_with_bytes line (tokens_placed_from_offset 0 (tokens_of_defaults_line scope ps)))
+placed_defaults_tokens_are_by_scope line None [] all = absurd all
+placed_defaults_tokens_are_by_scope line None (p ∷ ps) all = (refl, by_sign p.negated)
   where
-    by_sign : (negated : Bool) → StartsAt None (pieces line (placed 8 (param_tokens true negated p.name p.setting (more_params ps))))
+    by_sign : (negated : Bool) → IsFirstTokenPlacedByScope None (tokens_with_bytes line (tokens_placed_from_offset 8 (tokens_of_parameter_parts true negated p.name p.setting (tokens_of_further_parameters ps))))
     by_sign true = refl
     by_sign false = refl
-begun_there line (Some s) ps all = (refl, refl)
+placed_defaults_tokens_are_by_scope line (Some s) ps all = (refl, refl)
 
 -- A Defaults line is read as it is printed.
-pub defaults_read : CutFromLaw → (scope : Option Scope) (ps : List Param) → IsWritableScope scope → AreSome IsWritableParam ps → ReadsBack (printed_line (node.Defaults scope ps)) (node.Defaults scope ps)
-defaults_read law scope [] is all = absurd all
-defaults_read law scope (p ∷ ps) is all =
-    let tokens = defaults_tokens scope (p ∷ ps) in
-    let says = defaults_says scope (p ∷ ps) (pieces (line_of tokens) (placed 0 tokens)) is all (begun_there (line_of tokens) scope (p ∷ ps) all) (shows tokens) in
-    subst (λ (bytes : List ℕ). ReadsBack bytes (node.Defaults scope (p ∷ ps))) (defaults_text scope p ps is all) (record {
+pub printed_defaults_line_reads_back : TokensCutFromStartAreOfLine → (scope : Option Scope) (ps : List Param) → IsWritableScope scope → IsNonEmptyListOf IsWritableParam ps → LineReadsBackAs (printed_line (node.Defaults scope ps)) (node.Defaults scope ps)
+printed_defaults_line_reads_back law scope [] is all = absurd all
+printed_defaults_line_reads_back law scope (p ∷ ps) is all =
+    let tokens = tokens_of_defaults_line scope (p ∷ ps) in
+    let says = defaults_tokens_read_as_node scope (p ∷ ps) (tokens_with_bytes (line_of_written_tokens tokens) (tokens_placed_from_offset 0 tokens)) is all (placed_defaults_tokens_are_by_scope (line_of_written_tokens tokens) scope (p ∷ ps) all) (placed_tokens_of_line_show_written tokens) in
+    subst (λ (bytes : List ℕ). LineReadsBackAs bytes (node.Defaults scope (p ∷ ps))) (text_of_defaults_tokens_is_printed_line scope p ps is all) (record {
       read = node.Defaults says.read (p ∷ ps);
       reads = record {
-        tokens = placed 0 tokens;
-        has = subst (λ (m : Mode). HasTokens m (line_of tokens) (placed 0 tokens)) (sym (defaults_line_mode scope (p ∷ ps) all)) (law mode.Parameters tokens (defaults_cut scope (p ∷ ps) is all));
+        tokens = tokens_placed_from_offset 0 tokens;
+        has = subst (λ (m : Mode). HasTokens m (line_of_written_tokens tokens) (tokens_placed_from_offset 0 tokens)) (sym (mode_of_defaults_tokens_is_parameters scope (p ∷ ps) all)) (law mode.Parameters tokens (defaults_line_is_cut scope (p ∷ ps) is all));
         reads = says.reads;
       };
       same = (says.same, refl);
     })
 
-pub defaults_line : (scope : Option Scope) (ps : List Param) → IsWritableScope scope → AreSome IsWritableParam ps → IsWhole (printed_line (node.Defaults scope ps))
-defaults_line scope [] is all = absurd all
-defaults_line scope (p ∷ ps) is all =
-    subst IsWhole (defaults_text scope p ps is all)
-    (written_line_from (defaults_tokens scope (p ∷ ps)) (context.First mode.Parameters) Start refl (defaults_cut scope (p ∷ ps) is all))
+pub printed_defaults_line_is_logical_line : (scope : Option Scope) (ps : List Param) → IsWritableScope scope → IsNonEmptyListOf IsWritableParam ps → IsLogicalLineWithoutNul (printed_line (node.Defaults scope ps))
+printed_defaults_line_is_logical_line scope [] is all = absurd all
+printed_defaults_line_is_logical_line scope (p ∷ ps) is all =
+    subst IsLogicalLineWithoutNul (text_of_defaults_tokens_is_printed_line scope p ps is all)
+    (tokens_cut_from_place_are_logical_line (tokens_of_defaults_line scope (p ∷ ps)) (context.First mode.Parameters) Start refl (defaults_line_is_cut scope (p ∷ ps) is all))

@@ -1,90 +1,90 @@
 -- What is read as a user can be written.
 use Rattle.laws_print.proofs.Common.{◌≡◌, ◌≢◌, ℕ, ◌≤◌, Bool, true, false, ◌&&◌, not, List, [], ◌∷◌, Some, None, refl, subst, ◌==◌, if◌then◌else◌, codes}
-use Rattle.laws_print.proofs.Common.{option_map, nat_le, bytes_eq, TokenKind, value_of, is_name, Atom, id_limit, are_digits, up_to, filled, group_atom}
-use Rattle.laws_print.proofs.Common.{prefixed_atom, user_word, user_id, user_atom, IsUser}
+use Rattle.laws_print.proofs.Common.{option_map, nat_le, bytes_eq, TokenKind, value_of_word, is_name, Atom, id_limit, is_nonempty_digit_string, number_if_within_limit, some_if_not_empty, group_atom_after_percent}
+use Rattle.laws_print.proofs.Common.{user_atom_by_prefix, user_atom_of_word, user_atom_of_bounded_id, user_atom_of_token, IsWritableUserAtom}
 use Rattle.sudoers_text.specs.declared.token.TokenKind.TheVariants as kind
-use Rattle.sudoers_line.specs.declared.node.Atom.TheVariants as atom
-use Rattle.sudoers_line.specs.Number.{decimal}
-use Rattle.sudoers_line.specs.Atom.{unescaped, number_atom}
-use Rattle.laws_print.proofs.TidyPieces.{IsNumberText, hash, percent, colon}
-use Rattle.laws_print.proofs.GivenTokens.{GivenId}
-use Rattle.laws_print.proofs.Gives.{Gives, either}
+use Rattle.sudoers_grammar.specs.declared.node.Atom.TheVariants as atom
+use Rattle.sudoers_grammar.specs.Number.{number_of_decimal_digits}
+use Rattle.sudoers_grammar.specs.Atom.{word_value_or_bytes, user_atom_after_hash}
+use Rattle.laws_print.proofs.TidyPieces.{IsIdText, hash, percent, colon}
+use Rattle.laws_print.proofs.GivenTokens.{IsNumberTextIfId}
+use Rattle.laws_print.proofs.Gives.{GivesOnlySuchAtom, property_of_both_holds_for_choice}
 use Rattle.std.proofs.lemmas.Bool.{leb-true}
 
-some_list : (b : ℕ) (name : List ℕ) → (b ∷ name) ≢ []
-some_list b name e = absurd (cc)
+consed_name_is_not_empty : (b : ℕ) (name : List ℕ) → (b ∷ name) ≢ []
+consed_name_is_not_empty b name e = absurd (cc)
 
-filled_gives : (f : List ℕ → Atom) (name : List ℕ) → ((n : List ℕ) → n ≢ [] → IsUser (f n)) → Gives IsUser (option_map f (filled name))
-filled_gives f [] can = tt
-filled_gives f (b ∷ name) can = can (b ∷ name) (some_list b name)
+atom_of_filled_name_is_writable_user : (f : List ℕ → Atom) (name : List ℕ) → ((n : List ℕ) → n ≢ [] → IsWritableUserAtom (f n)) → GivesOnlySuchAtom IsWritableUserAtom (option_map f (some_if_not_empty name))
+atom_of_filled_name_is_writable_user f [] can = tt
+atom_of_filled_name_is_writable_user f (b ∷ name) can = can (b ∷ name) (consed_name_is_not_empty b name)
 
-limited_gives : (f : ℕ → Atom) (digits : List ℕ) → ((n : ℕ) → n ≤ id_limit → IsUser (f n)) → Gives IsUser (option_map f (up_to id_limit digits))
-limited_gives f digits can = by_limit (nat_le (decimal 0 digits) id_limit) refl
+atom_of_limited_number_is_writable_user : (f : ℕ → Atom) (digits : List ℕ) → ((n : ℕ) → n ≤ id_limit → IsWritableUserAtom (f n)) → GivesOnlySuchAtom IsWritableUserAtom (option_map f (number_if_within_limit id_limit digits))
+atom_of_limited_number_is_writable_user f digits can = by_limit (nat_le (number_of_decimal_digits 0 digits) id_limit) refl
   where
-    by_limit : (t : Bool) → nat_le (decimal 0 digits) id_limit ≡ t → Gives IsUser (option_map f (if t then Some (decimal 0 digits) else None))
-    by_limit true e = can (decimal 0 digits) (leb-true (decimal 0 digits) id_limit e)
+    by_limit : (t : Bool) → nat_le (number_of_decimal_digits 0 digits) id_limit ≡ t → GivesOnlySuchAtom IsWritableUserAtom (option_map f (if t then Some (number_of_decimal_digits 0 digits) else None))
+    by_limit true e = can (number_of_decimal_digits 0 digits) (leb-true (number_of_decimal_digits 0 digits) id_limit e)
     by_limit false e = tt
 
-group_gives : (escaped : Bool) (text : List ℕ) → Gives IsUser (group_atom escaped text)
-group_gives escaped [] = tt
-group_gives escaped (b ∷ rest) =
-    either (Gives IsUser) (b == 58) (option_map atom.NonUnix (filled (unescaped escaped rest))) (if b == 35 && are_digits rest then option_map atom.GroupId (up_to id_limit rest) else option_map atom.Group (filled (unescaped escaped (b ∷ rest))))
-    (filled_gives atom.NonUnix (unescaped escaped rest) (λ n some. some))
-    (either (Gives IsUser) (b == 35 && are_digits rest) (option_map atom.GroupId (up_to id_limit rest)) (option_map atom.Group (filled (unescaped escaped (b ∷ rest))))
-    (limited_gives atom.GroupId rest (λ n low. low)) (filled_gives atom.Group (unescaped escaped (b ∷ rest)) (λ n some. some)))
+group_after_percent_is_writable_user : (escaped : Bool) (text : List ℕ) → GivesOnlySuchAtom IsWritableUserAtom (group_atom_after_percent escaped text)
+group_after_percent_is_writable_user escaped [] = tt
+group_after_percent_is_writable_user escaped (b ∷ rest) =
+    property_of_both_holds_for_choice (GivesOnlySuchAtom IsWritableUserAtom) (b == 58) (option_map atom.NonUnix (some_if_not_empty (word_value_or_bytes escaped rest))) (if b == 35 && is_nonempty_digit_string rest then option_map atom.GroupId (number_if_within_limit id_limit rest) else option_map atom.Group (some_if_not_empty (word_value_or_bytes escaped (b ∷ rest))))
+    (atom_of_filled_name_is_writable_user atom.NonUnix (word_value_or_bytes escaped rest) (λ n some. some))
+    (property_of_both_holds_for_choice (GivesOnlySuchAtom IsWritableUserAtom) (b == 35 && is_nonempty_digit_string rest) (option_map atom.GroupId (number_if_within_limit id_limit rest)) (option_map atom.Group (some_if_not_empty (word_value_or_bytes escaped (b ∷ rest))))
+    (atom_of_limited_number_is_writable_user atom.GroupId rest (λ n low. low)) (atom_of_filled_name_is_writable_user atom.Group (word_value_or_bytes escaped (b ∷ rest)) (λ n some. some)))
 
-number_gives : (text : List ℕ) → Gives IsUser (number_atom text)
-number_gives [] = tt
-number_gives (b ∷ rest) =
-    either (Gives IsUser) (are_digits (b ∷ rest)) (option_map atom.Id (up_to id_limit (b ∷ rest))) (Some (atom.Name (35 ∷ b ∷ rest)))
-    (limited_gives atom.Id (b ∷ rest) (λ n low. low)) (some_list 35 (b ∷ rest))
+number_after_hash_is_writable_user : (text : List ℕ) → GivesOnlySuchAtom IsWritableUserAtom (user_atom_after_hash text)
+number_after_hash_is_writable_user [] = tt
+number_after_hash_is_writable_user (b ∷ rest) =
+    property_of_both_holds_for_choice (GivesOnlySuchAtom IsWritableUserAtom) (is_nonempty_digit_string (b ∷ rest)) (option_map atom.Id (number_if_within_limit id_limit (b ∷ rest))) (Some (atom.Name (35 ∷ b ∷ rest)))
+    (atom_of_limited_number_is_writable_user atom.Id (b ∷ rest) (λ n low. low)) (consed_name_is_not_empty 35 (b ∷ rest))
 
-prefixed_gives : (escaped : Bool) (text : List ℕ) → Gives IsUser (prefixed_atom escaped text)
-prefixed_gives escaped [] = tt
-prefixed_gives escaped (b ∷ rest) =
-    either (Gives IsUser) (b == 37) (group_atom escaped rest) (if b == 43 then option_map atom.Netgroup (filled (unescaped escaped rest)) else (if b == 35 then number_atom rest else option_map atom.Name (filled (unescaped escaped (b ∷ rest)))))
-    (group_gives escaped rest)
-    (either (Gives IsUser) (b == 43) (option_map atom.Netgroup (filled (unescaped escaped rest))) (if b == 35 then number_atom rest else option_map atom.Name (filled (unescaped escaped (b ∷ rest))))
-    (filled_gives atom.Netgroup (unescaped escaped rest) (λ n some. some))
-    (either (Gives IsUser) (b == 35) (number_atom rest) (option_map atom.Name (filled (unescaped escaped (b ∷ rest)))) (number_gives rest) (filled_gives atom.Name (unescaped escaped (b ∷ rest)) (λ n some. some))))
+prefixed_text_gives_writable_user : (escaped : Bool) (text : List ℕ) → GivesOnlySuchAtom IsWritableUserAtom (user_atom_by_prefix escaped text)
+prefixed_text_gives_writable_user escaped [] = tt
+prefixed_text_gives_writable_user escaped (b ∷ rest) =
+    property_of_both_holds_for_choice (GivesOnlySuchAtom IsWritableUserAtom) (b == 37) (group_atom_after_percent escaped rest) (if b == 43 then option_map atom.Netgroup (some_if_not_empty (word_value_or_bytes escaped rest)) else (if b == 35 then user_atom_after_hash rest else option_map atom.Name (some_if_not_empty (word_value_or_bytes escaped (b ∷ rest)))))
+    (group_after_percent_is_writable_user escaped rest)
+    (property_of_both_holds_for_choice (GivesOnlySuchAtom IsWritableUserAtom) (b == 43) (option_map atom.Netgroup (some_if_not_empty (word_value_or_bytes escaped rest))) (if b == 35 then user_atom_after_hash rest else option_map atom.Name (some_if_not_empty (word_value_or_bytes escaped (b ∷ rest))))
+    (atom_of_filled_name_is_writable_user atom.Netgroup (word_value_or_bytes escaped rest) (λ n some. some))
+    (property_of_both_holds_for_choice (GivesOnlySuchAtom IsWritableUserAtom) (b == 35) (user_atom_after_hash rest) (option_map atom.Name (some_if_not_empty (word_value_or_bytes escaped (b ∷ rest)))) (number_after_hash_is_writable_user rest) (atom_of_filled_name_is_writable_user atom.Name (word_value_or_bytes escaped (b ∷ rest)) (λ n some. some))))
 
-word_gives : (text : List ℕ) → Gives IsUser (user_word text)
-unfolding user_word
-word_gives text = by_all (bytes_eq text (codes "ALL")) refl
+word_gives_writable_user : (text : List ℕ) → GivesOnlySuchAtom IsWritableUserAtom (user_atom_of_word text)
+unfolding user_atom_of_word
+word_gives_writable_user text = by_all (bytes_eq text (codes "ALL")) refl
   where
-    by_name : (t : Bool) → is_name text ≡ t → bytes_eq text (codes "ALL") ≡ false → Gives IsUser (if t then Some (atom.Alias text) else prefixed_atom true text)
+    by_name : (t : Bool) → is_name text ≡ t → bytes_eq text (codes "ALL") ≡ false → GivesOnlySuchAtom IsWritableUserAtom (if t then Some (atom.Alias text) else user_atom_by_prefix true text)
     by_name true e other = (e, other)
-    by_name false e other = prefixed_gives true text
+    by_name false e other = prefixed_text_gives_writable_user true text
 
-    by_all : (t : Bool) → bytes_eq text (codes "ALL") ≡ t → Gives IsUser (if t then Some atom.All else (if is_name text then Some (atom.Alias text) else prefixed_atom true text))
+    by_all : (t : Bool) → bytes_eq text (codes "ALL") ≡ t → GivesOnlySuchAtom IsWritableUserAtom (if t then Some atom.All else (if is_name text then Some (atom.Alias text) else user_atom_by_prefix true text))
     by_all true e = tt
     by_all false e = by_name (is_name text) refl e
 
-id_gives : (text : List ℕ) → IsNumberText text → Gives IsUser (user_id text)
-unfolding user_id
-id_gives text (hash {digits = ds}) = by_limit (nat_le (decimal 0 ds) id_limit) refl
+bounded_id_gives_writable_user : (text : List ℕ) → IsIdText text → GivesOnlySuchAtom IsWritableUserAtom (user_atom_of_bounded_id text)
+unfolding user_atom_of_bounded_id
+bounded_id_gives_writable_user text (hash {digits = ds}) = by_limit (nat_le (number_of_decimal_digits 0 ds) id_limit) refl
   where
-    by_limit : (t : Bool) → nat_le (decimal 0 ds) id_limit ≡ t → Gives IsUser (if not t then None else Some (atom.Id (decimal 0 ds)))
-    by_limit true e = leb-true (decimal 0 ds) id_limit e
+    by_limit : (t : Bool) → nat_le (number_of_decimal_digits 0 ds) id_limit ≡ t → GivesOnlySuchAtom IsWritableUserAtom (if not t then None else Some (atom.Id (number_of_decimal_digits 0 ds)))
+    by_limit true e = leb-true (number_of_decimal_digits 0 ds) id_limit e
     by_limit false e = tt
-id_gives text (percent {digits = ds}) = by_limit (nat_le (decimal 0 ds) id_limit) refl
+bounded_id_gives_writable_user text (percent {digits = ds}) = by_limit (nat_le (number_of_decimal_digits 0 ds) id_limit) refl
   where
-    by_limit : (t : Bool) → nat_le (decimal 0 ds) id_limit ≡ t → Gives IsUser (if not t then None else Some (atom.GroupId (decimal 0 ds)))
-    by_limit true e = leb-true (decimal 0 ds) id_limit e
+    by_limit : (t : Bool) → nat_le (number_of_decimal_digits 0 ds) id_limit ≡ t → GivesOnlySuchAtom IsWritableUserAtom (if not t then None else Some (atom.GroupId (number_of_decimal_digits 0 ds)))
+    by_limit true e = leb-true (number_of_decimal_digits 0 ds) id_limit e
     by_limit false e = tt
-id_gives text (colon {digits = ds}) = by_limit (nat_le (decimal 0 ds) id_limit) refl
+bounded_id_gives_writable_user text (colon {digits = ds}) = by_limit (nat_le (number_of_decimal_digits 0 ds) id_limit) refl
   where
-    by_limit : (t : Bool) → nat_le (decimal 0 ds) id_limit ≡ t → Gives IsUser (if not t then None else Some (atom.NonUnix (35 ∷ ds)))
-    by_limit true e = some_list 35 ds
+    by_limit : (t : Bool) → nat_le (number_of_decimal_digits 0 ds) id_limit ≡ t → GivesOnlySuchAtom IsWritableUserAtom (if not t then None else Some (atom.NonUnix (35 ∷ ds)))
+    by_limit true e = consed_name_is_not_empty 35 ds
     by_limit false e = tt
 
-user_gives : (k : TokenKind) (text : List ℕ) → GivenId k text → Gives IsUser (user_atom k text)
-unfolding user_atom
-user_gives kind.Word text number = word_gives text
-user_gives kind.Quoted text number = prefixed_gives false (value_of text)
-user_gives kind.Id text number = id_gives text number
-user_gives k text number = tt
+user_token_gives_writable_user : (k : TokenKind) (text : List ℕ) → IsNumberTextIfId k text → GivesOnlySuchAtom IsWritableUserAtom (user_atom_of_token k text)
+unfolding user_atom_of_token
+user_token_gives_writable_user kind.Word text number = word_gives_writable_user text
+user_token_gives_writable_user kind.Quoted text number = prefixed_text_gives_writable_user false (value_of_word text)
+user_token_gives_writable_user kind.Id text number = bounded_id_gives_writable_user text number
+user_token_gives_writable_user k text number = tt
 
 -- What is read of a token as a user can be written.
-pub user_given : (k : TokenKind) (text : List ℕ) (a : Atom) → GivenId k text → user_atom k text ≡ Some a → IsUser a
-user_given k text a number is = subst (Gives IsUser) is (user_gives k text number)
+pub user_atom_of_given_token_is_writable : (k : TokenKind) (text : List ℕ) (a : Atom) → IsNumberTextIfId k text → user_atom_of_token k text ≡ Some a → IsWritableUserAtom a
+user_atom_of_given_token_is_writable k text a number is = subst (GivesOnlySuchAtom IsWritableUserAtom) is (user_token_gives_writable_user k text number)

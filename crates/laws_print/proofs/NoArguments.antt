@@ -1,164 +1,164 @@
 -- A Defaults line has no arguments, so the commands of its scope have none.
 use Rattle.laws_print.proofs.Common.{◌≡◌, ℕ, ◌-◌, true, false, ◌&&◌, ◌||◌, List, [], ◌∷◌, ◌++◌, take, drop, Some, None, refl, sym, ap, subst, ◌∙◌}
 use Rattle.laws_print.proofs.Common.{arith, inl, inr, if◌then◌else◌, codes, Option, AllByRecursion, bytes_eq, bytes_eq-Decides, TokenKind, Token, Mode}
-use Rattle.laws_print.proofs.Common.{Context, LineUnit, Form, kind_of, begins_scope, first_forms, word_forms, forms, is_member, behind_parameter}
-use Rattle.laws_print.proofs.Common.{behind, line_mode, is_among, include_words, IsToken, AreTokens, HasTokens, units_left, Kind, User, Runas, Cmnd}
-use Rattle.laws_print.proofs.Common.{Atom, Member, Scope, Digest, Piece, pieces, is_arg, is_the_word, is_a_word, command_atom, IsArg, IsMember}
-use Rattle.laws_print.proofs.Common.{IsDigest, Perhaps, IsScopeList, PerhapsScope, is_defaults, Many, Behind, Separated, ReadsScopeCommand}
-use Rattle.laws_print.proofs.Common.{IsUserMember, IsHostMember, IsScopeAtom, IsScopeCommand, IsScopeMember, AreSome, IsWritableScope}
+use Rattle.laws_print.proofs.Common.{TokenContext, LineUnit, TokenForm, kind_of_form, has_host_or_runas_sign, forms_of_first_token, token_forms_in_word_lists, token_forms_in_context, is_kind_of_list_member, context_after_parameter_token}
+use Rattle.laws_print.proofs.Common.{context_after_token, line_mode, is_among, include_words, IsTokenOfKindAndSize, AreTokensFrom, HasTokens, units_left_of_place, Kind, User, Runas, Cmnd}
+use Rattle.laws_print.proofs.Common.{Atom, Member, Scope, Digest, TokenWithBytes, tokens_with_bytes, is_arg, is_given_word, is_a_word, command_atom_of_tokens, IsArg, IsMember}
+use Rattle.laws_print.proofs.Common.{IsDigest, Perhaps, IsScopeList, PerhapsScope, is_defaults, Many, MarkThenRule, Separated, ReadsScopeCommand}
+use Rattle.laws_print.proofs.Common.{IsWritableUserMember, IsWritableHostMember, IsScopeCommandAtom, IsScopeCommandMember, IsWritableScopeMember, IsNonEmptyListOf, IsWritableScope}
 use Rattle.sudoers_text.specs.declared.token.TokenKind.TheVariants as kind
 use Rattle.sudoers_text.specs.declared.token.Mode.TheVariants as mode
-use Rattle.sudoers_text.specs.declared.context.ScopeList.TheVariants as scope
-use Rattle.sudoers_text.specs.declared.context.Context.TheVariants as context
-use Rattle.sudoers_text.specs.Part.{begins_with}
-use Rattle.sudoers_text.specs.Context.{is_mark, is_word}
-use Rattle.sudoers_line.specs.declared.node.Kind.TheVariants.{Host}
-use Rattle.sudoers_line.specs.Piece.{piece}
-use Rattle.laws_print.proofs.GivenTokens.{GivenPiece, GivenList}
-use Rattle.laws_print.proofs.GivenLists.{drop_given, separated_given, users_given, runas_given, hosts_given}
-use Rattle.laws_print.proofs.Gives.{Gives, either}
-use Rattle.laws_print.proofs.GivenCommands.{bare_gives}
-use Rattle.laws_print.proofs.DefaultsMode.{defaults_mode_is}
+use Rattle.sudoers_text.specs.declared.context.ScopeMemberKind.TheVariants as scope
+use Rattle.sudoers_text.specs.declared.context.TokenContext.TheVariants as context
+use Rattle.sudoers_text.specs.Part.{has_given_first_byte}
+use Rattle.sudoers_text.specs.Context.{is_given_punct_token, is_word_kind}
+use Rattle.sudoers_grammar.specs.declared.node.Kind.TheVariants.{Host}
+use Rattle.sudoers_grammar.specs.Piece.{token_with_bytes}
+use Rattle.laws_print.proofs.GivenTokens.{IsGivenToken, AreGivenTokens}
+use Rattle.laws_print.proofs.GivenLists.{rest_of_given_list_is_given, separated_rule_reads_only_writable, user_member_rule_reads_only_writable, runas_member_rule_reads_only_writable, host_member_rule_reads_only_writable}
+use Rattle.laws_print.proofs.Gives.{GivesOnlySuchAtom, property_of_both_holds_for_choice}
+use Rattle.laws_print.proofs.GivenCommands.{token_without_args_gives_scope_command}
+use Rattle.laws_print.proofs.DefaultsMode.{mode_of_defaults_line_is_parameters}
 
 -- ---- contexts
 
 -- behind the first word of a Defaults line
-abbrev pub InDefaults : Context → Type 0
-InDefaults context.ScopeSign = Unit {0}
-InDefaults (context.Scope list) = Unit {0}
-InDefaults (context.BehindMember list) = Unit {0}
-InDefaults context.Parameter = Unit {0}
-InDefaults context.ParameterValue = Unit {0}
-InDefaults c = ⊥
+abbrev pub IsContextInDefaults : TokenContext → Type 0
+IsContextInDefaults context.ScopeSign = Unit {0}
+IsContextInDefaults (context.Scope list) = Unit {0}
+IsContextInDefaults (context.BehindMember list) = Unit {0}
+IsContextInDefaults context.Parameter = Unit {0}
+IsContextInDefaults context.ParameterValue = Unit {0}
+IsContextInDefaults c = ⊥
 
-abbrev pub NoArg : Form → Type 0
-NoArg form = is_arg (kind_of form) ≡ false
+abbrev pub IsNoArgForm : TokenForm → Type 0
+IsNoArgForm form = is_arg (kind_of_form form) ≡ false
 
-no_word_args : AllByRecursion NoArg word_forms
-no_word_args = (refl, (refl, (refl, (refl, (refl, (refl, tt))))))
+forms_in_word_lists_are_no_args : AllByRecursion IsNoArgForm token_forms_in_word_lists
+forms_in_word_lists_are_no_args = (refl, (refl, (refl, (refl, (refl, (refl, tt))))))
 
-no_forms_args : (here : Context) → InDefaults here → AllByRecursion NoArg (forms here)
-no_forms_args context.ScopeSign is = (refl, tt)
-no_forms_args (context.Scope scope.Names) is = no_word_args
-no_forms_args (context.Scope scope.Commands) is = (refl, no_word_args)
-no_forms_args (context.BehindMember list) is = (refl, (refl, (refl, (refl, tt))))
-no_forms_args context.Parameter is = (refl, (refl, (refl, (refl, tt))))
-no_forms_args context.ParameterValue is = (refl, (refl, (refl, (refl, tt))))
-no_forms_args here is = absurd is
+forms_in_defaults_are_no_args : (here : TokenContext) → IsContextInDefaults here → AllByRecursion IsNoArgForm (token_forms_in_context here)
+forms_in_defaults_are_no_args context.ScopeSign is = (refl, tt)
+forms_in_defaults_are_no_args (context.Scope scope.Names) is = forms_in_word_lists_are_no_args
+forms_in_defaults_are_no_args (context.Scope scope.Commands) is = (refl, forms_in_word_lists_are_no_args)
+forms_in_defaults_are_no_args (context.BehindMember list) is = (refl, (refl, (refl, (refl, tt))))
+forms_in_defaults_are_no_args context.Parameter is = (refl, (refl, (refl, (refl, tt))))
+forms_in_defaults_are_no_args context.ParameterValue is = (refl, (refl, (refl, (refl, tt))))
+forms_in_defaults_are_no_args here is = absurd is
 
-parameter_in : (k : TokenKind) (text : List ℕ) → InDefaults (behind_parameter k text)
-parameter_in kind.Punct text = either InDefaults _ context.Parameter context.ParameterValue tt tt
-parameter_in k text = tt
+context_after_parameter_is_in_defaults : (k : TokenKind) (text : List ℕ) → IsContextInDefaults (context_after_parameter_token k text)
+context_after_parameter_is_in_defaults kind.Punct text = property_of_both_holds_for_choice IsContextInDefaults _ context.Parameter context.ParameterValue tt tt
+context_after_parameter_is_in_defaults k text = tt
 
-behind_in : (here : Context) (k : TokenKind) (text rest : List ℕ) → InDefaults here → InDefaults (behind here k text rest)
-behind_in context.ScopeSign k text rest is = either InDefaults (is_mark 33 k text) (context.Scope scope.Commands) (context.Scope scope.Names) tt tt
-behind_in (context.Scope list) k text rest is = either InDefaults (is_member k) (context.BehindMember list) (context.Scope list) tt tt
-behind_in (context.BehindMember list) k text rest is = either InDefaults (is_mark 44 k text) (context.Scope list) (behind_parameter k text) tt (parameter_in k text)
-behind_in context.Parameter k text rest is = parameter_in k text
-behind_in context.ParameterValue k text rest is = tt
-behind_in here k text rest is = absurd is
+context_after_token_stays_in_defaults : (here : TokenContext) (k : TokenKind) (text rest : List ℕ) → IsContextInDefaults here → IsContextInDefaults (context_after_token here k text rest)
+context_after_token_stays_in_defaults context.ScopeSign k text rest is = property_of_both_holds_for_choice IsContextInDefaults (is_given_punct_token 33 k text) (context.Scope scope.Commands) (context.Scope scope.Names) tt tt
+context_after_token_stays_in_defaults (context.Scope list) k text rest is = property_of_both_holds_for_choice IsContextInDefaults (is_kind_of_list_member k) (context.BehindMember list) (context.Scope list) tt tt
+context_after_token_stays_in_defaults (context.BehindMember list) k text rest is = property_of_both_holds_for_choice IsContextInDefaults (is_given_punct_token 44 k text) (context.Scope list) (context_after_parameter_token k text) tt (context_after_parameter_is_in_defaults k text)
+context_after_token_stays_in_defaults context.Parameter k text rest is = context_after_parameter_is_in_defaults k text
+context_after_token_stays_in_defaults context.ParameterValue k text rest is = tt
+context_after_token_stays_in_defaults here k text rest is = absurd is
 
-first_in : (k : TokenKind) (text rest : List ℕ) → (is_word k && is_among include_words text) ≡ false → InDefaults (behind (context.First mode.Parameters) k text rest)
-first_in k text rest none =
-    rw none (either InDefaults (is_word k) (if begins_scope rest || begins_with 58 rest || begins_with 33 rest then context.ScopeSign else context.Parameter) (behind_parameter k text)
-    (either InDefaults (begins_scope rest || begins_with 58 rest || begins_with 33 rest) context.ScopeSign context.Parameter tt tt) (parameter_in k text))
+context_after_first_token_is_in_defaults : (k : TokenKind) (text rest : List ℕ) → (is_word_kind k && is_among include_words text) ≡ false → IsContextInDefaults (context_after_token (context.First mode.Parameters) k text rest)
+context_after_first_token_is_in_defaults k text rest none =
+    rw none (property_of_both_holds_for_choice IsContextInDefaults (is_word_kind k) (if has_host_or_runas_sign rest || has_given_first_byte 58 rest || has_given_first_byte 33 rest then context.ScopeSign else context.Parameter) (context_after_parameter_token k text)
+    (property_of_both_holds_for_choice IsContextInDefaults (has_host_or_runas_sign rest || has_given_first_byte 58 rest || has_given_first_byte 33 rest) context.ScopeSign context.Parameter tt tt) (context_after_parameter_is_in_defaults k text))
 
-no_token_arg : (fs : List Form) → AllByRecursion NoArg fs → (before : List LineUnit) (bytes : List ℕ) (k : TokenKind) (n : ℕ) → IsToken fs before bytes k n → is_arg k ≡ false
-no_token_arg [] all before bytes k n is = ap is_arg is.0
-no_token_arg (form ∷ fs) all before bytes k n is =
+token_without_arg_forms_is_no_arg : (fs : List TokenForm) → AllByRecursion IsNoArgForm fs → (before : List LineUnit) (bytes : List ℕ) (k : TokenKind) (n : ℕ) → IsTokenOfKindAndSize fs before bytes k n → is_arg k ≡ false
+token_without_arg_forms_is_no_arg [] all before bytes k n is = ap is_arg is.0
+token_without_arg_forms_is_no_arg (form ∷ fs) all before bytes k n is =
     elim is [
       | inl w ↦ ap is_arg w.0 ∙ all.0
-      | inr w ↦ no_token_arg fs all.1 before bytes k n w.1
+      | inr w ↦ token_without_arg_forms_is_no_arg fs all.1 before bytes k n w.1
     ]
 
-abbrev pub NoArgs : List Piece → Type 0
-NoArgs ts = AllByRecursion (λ (t : Piece). is_arg t.kind ≡ false) ts
+abbrev pub HaveNoArgs : List TokenWithBytes → Type 0
+HaveNoArgs ts = AllByRecursion (λ (t : TokenWithBytes). is_arg t.kind ≡ false) ts
 
-no_args : (ts : List Token) (here : Context) (line : List ℕ) (at : ℕ) → InDefaults here → AreTokens here line at ts → NoArgs (pieces line ts)
-no_args [] here line at is are = tt
-no_args (t ∷ ts) here line at is are =
+tokens_in_defaults_have_no_args : (ts : List Token) (here : TokenContext) (line : List ℕ) (at : ℕ) → IsContextInDefaults here → AreTokensFrom here line at ts → HaveNoArgs (tokens_with_bytes line ts)
+tokens_in_defaults_have_no_args [] here line at is are = tt
+tokens_in_defaults_have_no_args (t ∷ ts) here line at is are =
     let body = drop t.start line in
     let size = t.stop - t.start in
-    (no_token_arg (forms here) (no_forms_args here is) (units_left line t.start) body t.kind size are.3, no_args ts (behind here t.kind (take size body) (drop size body)) line t.stop (behind_in here t.kind (take size body) (drop size body) is) are.4)
+    (token_without_arg_forms_is_no_arg (token_forms_in_context here) (forms_in_defaults_are_no_args here is) (units_left_of_place line t.start) body t.kind size are.3, tokens_in_defaults_have_no_args ts (context_after_token here t.kind (take size body) (drop size body)) line t.stop (context_after_token_stays_in_defaults here t.kind (take size body) (drop size body) is) are.4)
 
-abbrev pub NoArgsBehind : List Piece → Type 0
-NoArgsBehind [] = Unit {0}
-NoArgsBehind (t ∷ ts) = is_defaults t ≡ true → (is_word t.kind && is_among include_words t.text) ≡ false → NoArgs ts
+abbrev pub HaveNoArgsBehindDefaults : List TokenWithBytes → Type 0
+HaveNoArgsBehindDefaults [] = Unit {0}
+HaveNoArgsBehindDefaults (t ∷ ts) = is_defaults t ≡ true → (is_word_kind t.kind && is_among include_words t.text) ≡ false → HaveNoArgs ts
 
-word_text : (t : Piece) → is_defaults t ≡ true → (t.kind ≡ kind.Word) × (t.text ≡ codes "Defaults")
-unfolding is_the_word
-word_text t h = by_kind t.kind refl h
+defaults_token_is_word_defaults : (t : TokenWithBytes) → is_defaults t ≡ true → (t.kind ≡ kind.Word) × (t.text ≡ codes "Defaults")
+unfolding is_given_word
+defaults_token_is_word_defaults t h = by_kind t.kind refl h
   where
     by_kind : (k : TokenKind) → t.kind ≡ k → (is_a_word k && bytes_eq t.text (codes "Defaults")) ≡ true → (t.kind ≡ kind.Word) × (t.text ≡ codes "Defaults")
     by_kind kind.Word e h = (e, (bytes_eq-Decides t.text (codes "Defaults")).0 h)
     by_kind k e h = absurd (cc)
 
 -- Behind its first word a Defaults line has no arguments.
-pub no_args_behind : (line : List ℕ) (ts : List Token) → HasTokens (line_mode line) line ts → NoArgsBehind (pieces line ts)
-no_args_behind line [] has = tt
-no_args_behind line (t ∷ ts) has = λ defaults none.
+pub defaults_line_has_no_args_behind : (line : List ℕ) (ts : List Token) → HasTokens (line_mode line) line ts → HaveNoArgsBehindDefaults (tokens_with_bytes line ts)
+defaults_line_has_no_args_behind line [] has = tt
+defaults_line_has_no_args_behind line (t ∷ ts) has = λ defaults none.
     let body = drop t.start line in
     let size = t.stop - t.start in
-    let word = word_text (piece line t) defaults in
+    let word = defaults_token_is_word_defaults (token_with_bytes line t) defaults in
     let mode_is : line_mode line ≡ mode.Parameters =
-    defaults_mode_is line t.start (units_left line t.start) size (has.0 ∙ omega arith) word.1 (subst (λ (k : TokenKind). IsToken (first_forms (line_mode line)) (units_left line t.start) body k size) word.0 has.3) in
-    let later = subst (λ (m : Mode). AreTokens (behind (context.First m) t.kind (take size body) (drop size body)) line t.stop ts) mode_is has.4 in
-    no_args ts (behind (context.First mode.Parameters) t.kind (take size body) (drop size body)) line t.stop (first_in t.kind (take size body) (drop size body) none) later
+    mode_of_defaults_line_is_parameters line t.start (units_left_of_place line t.start) size (has.0 ∙ omega arith) word.1 (subst (λ (k : TokenKind). IsTokenOfKindAndSize (forms_of_first_token (line_mode line)) (units_left_of_place line t.start) body k size) word.0 has.3) in
+    let later = subst (λ (m : Mode). AreTokensFrom (context_after_token (context.First m) t.kind (take size body) (drop size body)) line t.stop ts) mode_is has.4 in
+    tokens_in_defaults_have_no_args ts (context_after_token (context.First mode.Parameters) t.kind (take size body) (drop size body)) line t.stop (context_after_first_token_is_in_defaults t.kind (take size body) (drop size body) none) later
 
 -- ---- commands of a scope
 
-drop_args : (xs ys : List Piece) → NoArgs (xs ++ ys) → NoArgs ys
-drop_args [] ys all = all
-drop_args (x ∷ xs) ys all = drop_args xs ys all.1
+rest_of_tokens_without_args_has_none : (xs ys : List TokenWithBytes) → HaveNoArgs (xs ++ ys) → HaveNoArgs ys
+rest_of_tokens_without_args_has_none [] ys all = all
+rest_of_tokens_without_args_has_none (x ∷ xs) ys all = rest_of_tokens_without_args_has_none xs ys all.1
 
 -- A command without arguments.
-scope_atom : (word : Piece) (args rest : List Piece) (a : Atom) → GivenPiece word → AllByRecursion IsArg args → NoArgs (args ++ rest) → command_atom word args ≡ Some a → IsScopeAtom a
-scope_atom word [] rest a given all none e = subst (Gives IsScopeAtom) e (bare_gives word.kind word.text given.0 given.1)
-scope_atom word (x ∷ args) rest a given all none e = absurd (let is = all.0 in let no_arg = none.0 in let both : true ≡ false = sym is ∙ no_arg in cc)
+command_without_args_is_scope_command : (word : TokenWithBytes) (args rest : List TokenWithBytes) (a : Atom) → IsGivenToken word → AllByRecursion IsArg args → HaveNoArgs (args ++ rest) → command_atom_of_tokens word args ≡ Some a → IsScopeCommandAtom a
+command_without_args_is_scope_command word [] rest a given all none e = subst (GivesOnlySuchAtom IsScopeCommandAtom) e (token_without_args_gives_scope_command word.kind word.text given.0 given.1)
+command_without_args_is_scope_command word (x ∷ args) rest a given all none e = absurd (let is = all.0 in let no_arg = none.0 in let both : true ≡ false = sym is ∙ no_arg in cc)
 
 -- what is known of the tokens there
-abbrev pub Both : List Piece → Type 0
-Both ts = GivenList ts × NoArgs ts
+abbrev pub AreGivenWithoutArgs : List TokenWithBytes → Type 0
+AreGivenWithoutArgs ts = AreGivenTokens ts × HaveNoArgs ts
 
-command_both : (ts : List Piece) (m : Member) (rest : List Piece) → Both ts → ReadsScopeCommand ts m rest → IsScopeCommand m × Both rest
-command_both ts m rest both is =
+scope_command_of_given_tokens_is_writable : (ts : List TokenWithBytes) (m : Member) (rest : List TokenWithBytes) → AreGivenWithoutArgs ts → ReadsScopeCommand ts m rest → IsScopeCommandMember m × AreGivenWithoutArgs rest
+scope_command_of_given_tokens_is_writable ts m rest both is =
     let own = is.1 in
     let start = digests_none ts m.digests own.behind is.0 own.digests in
     let split : ts ≡ own.signs ++ (own.word ∷ (own.args ++ rest)) = start ∙ own.split in
-    let given = drop_given own.signs (own.word ∷ (own.args ++ rest)) (subst GivenList split both.0) in
-    let none = drop_args own.signs (own.word ∷ (own.args ++ rest)) (subst NoArgs split both.1) in (
-      record { is = scope_atom own.word own.args rest m.atom given.0 own.are_args none.1 own.atom; no_digests = is.0 },
-      (drop_given own.args rest given.2, drop_args own.args rest none.1),
+    let given = rest_of_given_list_is_given own.signs (own.word ∷ (own.args ++ rest)) (subst AreGivenTokens split both.0) in
+    let none = rest_of_tokens_without_args_has_none own.signs (own.word ∷ (own.args ++ rest)) (subst HaveNoArgs split both.1) in (
+      record { is = command_without_args_is_scope_command own.word own.args rest m.atom given.0 own.are_args none.1 own.atom; no_digests = is.0 },
+      (rest_of_given_list_is_given own.args rest given.2, rest_of_tokens_without_args_has_none own.args rest none.1),
     )
   where
-    digests_none : (ts : List Piece) (ds : List Digest) (behind : List Piece) → ds ≡ [] → Perhaps (Separated 44 IsDigest) ts ds behind → ts ≡ behind
+    digests_none : (ts : List TokenWithBytes) (ds : List Digest) (behind : List TokenWithBytes) → ds ≡ [] → Perhaps (Separated 44 IsDigest) ts ds behind → ts ≡ behind
     digests_none ts [] behind e is = is
     digests_none ts (d ∷ ds) behind e is = absurd (cc)
 
-more_both : (ts : List Piece) (ms : List Member) (rest : List Piece) → Both ts → Many (Behind 44 ReadsScopeCommand) ts ms rest → AllByRecursion IsScopeCommand ms × GivenList rest
-more_both ts [] rest both are = (tt, subst GivenList are both.0)
-more_both ts (m ∷ ms) rest both are =
+scope_commands_of_given_tokens_are_writable : (ts : List TokenWithBytes) (ms : List Member) (rest : List TokenWithBytes) → AreGivenWithoutArgs ts → Many (MarkThenRule 44 ReadsScopeCommand) ts ms rest → AllByRecursion IsScopeCommandMember ms × AreGivenTokens rest
+scope_commands_of_given_tokens_are_writable ts [] rest both are = (tt, subst AreGivenTokens are both.0)
+scope_commands_of_given_tokens_are_writable ts (m ∷ ms) rest both are =
     let mark = are.1 in
-    let given = subst GivenList mark.split both.0 in
-    let none = subst NoArgs mark.split both.1 in
-    let one = command_both mark.behind m are.0 (given.2, none.1) mark.is in
-    let more = more_both are.0 ms rest one.1 are.2 in
+    let given = subst AreGivenTokens mark.split both.0 in
+    let none = subst HaveNoArgs mark.split both.1 in
+    let one = scope_command_of_given_tokens_is_writable mark.behind m are.0 (given.2, none.1) mark.is in
+    let more = scope_commands_of_given_tokens_are_writable are.0 ms rest one.1 are.2 in
     ((one.0, more.0), more.1)
 
-list_both : (k : Kind) (ts : List Piece) (ms : List Member) (rest : List Piece) → Both ts → IsScopeList k ts ms rest → AreSome (IsScopeMember k) ms × GivenList rest
-list_both User ts ms rest both are = separated_given 44 (IsMember User) IsUserMember users_given ts ms rest both.0 are
-list_both Runas ts ms rest both are = separated_given 44 (IsMember Runas) IsUserMember runas_given ts ms rest both.0 are
-list_both Host ts ms rest both are = separated_given 44 (IsMember Host) IsHostMember hosts_given ts ms rest both.0 are
-list_both Cmnd ts [] rest both are = absurd are
-list_both Cmnd ts (m ∷ ms) rest both are =
-    let one = command_both ts m are.0 both are.1 in
-    let more = more_both are.0 ms rest one.1 are.2 in
+scope_list_of_given_tokens_is_writable : (k : Kind) (ts : List TokenWithBytes) (ms : List Member) (rest : List TokenWithBytes) → AreGivenWithoutArgs ts → IsScopeList k ts ms rest → IsNonEmptyListOf (IsWritableScopeMember k) ms × AreGivenTokens rest
+scope_list_of_given_tokens_is_writable User ts ms rest both are = separated_rule_reads_only_writable 44 (IsMember User) IsWritableUserMember user_member_rule_reads_only_writable ts ms rest both.0 are
+scope_list_of_given_tokens_is_writable Runas ts ms rest both are = separated_rule_reads_only_writable 44 (IsMember Runas) IsWritableUserMember runas_member_rule_reads_only_writable ts ms rest both.0 are
+scope_list_of_given_tokens_is_writable Host ts ms rest both are = separated_rule_reads_only_writable 44 (IsMember Host) IsWritableHostMember host_member_rule_reads_only_writable ts ms rest both.0 are
+scope_list_of_given_tokens_is_writable Cmnd ts [] rest both are = absurd are
+scope_list_of_given_tokens_is_writable Cmnd ts (m ∷ ms) rest both are =
+    let one = scope_command_of_given_tokens_is_writable ts m are.0 both are.1 in
+    let more = scope_commands_of_given_tokens_are_writable are.0 ms rest one.1 are.2 in
     ((one.0, more.0), more.1)
 
 -- The scope of a Defaults line can be written.
-pub scope_both : (stop : ℕ) (ts : List Piece) (scope : Option Scope) (rest : List Piece) → Both ts → PerhapsScope stop ts scope rest → IsWritableScope scope × GivenList rest
-scope_both stop ts None rest both is = (tt, subst GivenList is.0 both.0)
-scope_both stop ts (Some s) rest both is =
-    let given = subst GivenList is.split both.0 in
-    let none = subst NoArgs is.split both.1 in
-    list_both s.kind is.behind s.members rest (given.2, none.1) is.members
+pub scope_of_given_tokens_is_writable : (stop : ℕ) (ts : List TokenWithBytes) (scope : Option Scope) (rest : List TokenWithBytes) → AreGivenWithoutArgs ts → PerhapsScope stop ts scope rest → IsWritableScope scope × AreGivenTokens rest
+scope_of_given_tokens_is_writable stop ts None rest both is = (tt, subst AreGivenTokens is.0 both.0)
+scope_of_given_tokens_is_writable stop ts (Some s) rest both is =
+    let given = subst AreGivenTokens is.split both.0 in
+    let none = subst HaveNoArgs is.split both.1 in
+    scope_list_of_given_tokens_is_writable s.kind is.behind s.members rest (given.2, none.1) is.members

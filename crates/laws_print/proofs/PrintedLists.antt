@@ -1,107 +1,107 @@
 -- The tokens of lists of users, runas users and hosts are these lists as they are printed.
-use Rattle.laws_print.proofs.Common.{◌≡◌, ◌≢◌, ℕ, Bool, true, false, ◌&&◌, not, List, [], ◌∷◌, ◌++◌, refl, sym, ap, ◌∙◌, ◌/◌, ◌%◌, if◌then◌else◌, Pair, AreSome}
-use Rattle.laws_print.proofs.Common.{Kind, User, Runas, Cmnd, Atom, Digest, Member, HostName, host_atom, is_escaped, is_control, low_digit}
-use Rattle.laws_print.proofs.Common.{reads_as_host, is_host, reads_else, printed_atom, printed_digests, sign, printed_member, printed_list, is_pattern}
-use Rattle.laws_print.proofs.Common.{IsUser, IsHost, Written, flat, gap, line_of, word_units, escape_all, pattern_units}
+use Rattle.laws_print.proofs.Common.{◌≡◌, ◌≢◌, ℕ, Bool, true, false, ◌&&◌, not, List, [], ◌∷◌, ◌++◌, refl, sym, ap, ◌∙◌, ◌/◌, ◌%◌, if◌then◌else◌, Pair, IsNonEmptyListOf}
+use Rattle.laws_print.proofs.Common.{Kind, User, Runas, Cmnd, Atom, Digest, Member, HostName, host_atom_of_token, is_word_escape_needed, is_control, lower_hex_digit}
+use Rattle.laws_print.proofs.Common.{is_read_as_host_name, is_host_name_atom, is_read_as_special_word, printed_atom, printed_digests, negation_sign, printed_member, printed_member_list, is_writable_pattern}
+use Rattle.laws_print.proofs.Common.{IsWritableUserAtom, IsWritableHostAtom, WrittenToken, text_of_units, gap_bytes_if_spaced, line_of_written_tokens, units_of_spelled_word, escaped_pattern_units, units_of_pattern}
 use Rattle.std.specs.Fmt.{decimal}
 use Rattle.sudoers_text.specs.declared.token.TokenKind.TheVariants as kind
-use Rattle.sudoers_line.specs.declared.node.Kind.TheVariants.{Host}
-use Rattle.sudoers_line.specs.declared.node.Atom.TheVariants as atom
-use Rattle.sudoers_cvt_spell.specs.Spelling.{spelled, escaped, guarded}
+use Rattle.sudoers_grammar.specs.declared.node.Kind.TheVariants.{Host}
+use Rattle.sudoers_grammar.specs.declared.node.Atom.TheVariants as atom
+use Rattle.sudoers_cvt_spell.specs.Spelling.{spelled_word, escaped_pattern, backslash_guarded_text}
 use Rattle.sudoers_cvt_spell.specs.Hosts.{printed_host}
-use Rattle.sudoers_cvt_spell.specs.Members.{printed_name, printed_netgroup}
-use Rattle.laws_print.proofs.ListTokens.{name_units, user_units, backed, host_name_units, host_units, list_units, IsListAtom, member_tokens, list_tokens}
-use Rattle.laws_print.proofs.ListTokens.{one_member}
-use Rattle.laws_print.proofs.Values.{flat_words}
-use Rattle.laws_print.proofs.Users.{flat_plain, backslash_reads}
-use Rattle.laws_print.proofs.Patterns.{are_pattern, flat_escaped}
-use Rattle.laws_print.proofs.Hosts.{some_pattern}
-use Rattle.laws_print.proofs.HostNames.{backed_text}
-use Rattle.laws_print.proofs.ReadLists.{IsListed}
+use Rattle.sudoers_cvt_spell.specs.Members.{printed_user_name, printed_netgroup}
+use Rattle.laws_print.proofs.ListTokens.{units_of_user_name, units_of_user_atom, units_with_leading_backslash, units_of_host_name, units_of_host_atom, units_of_list_atom, IsAtomOfListKind, tokens_of_list_member, tokens_of_member_list}
+use Rattle.laws_print.proofs.ListTokens.{tokens_of_member}
+use Rattle.laws_print.proofs.Values.{text_of_word_units_is_spelled_word}
+use Rattle.laws_print.proofs.Users.{text_of_plain_units_is_bytes, word_with_leading_backslash_is_not_special}
+use Rattle.laws_print.proofs.Patterns.{units_of_writable_pattern_are_pattern_units, text_of_escaped_units_is_escaped_pattern}
+use Rattle.laws_print.proofs.Hosts.{units_of_nonempty_pattern_are_not_empty}
+use Rattle.laws_print.proofs.HostNames.{text_of_backslashed_units_has_backslash}
+use Rattle.laws_print.proofs.ReadLists.{IsListedMemberOfKind}
 use Rattle.laws_print.proofs.Many.{many_text}
 use Rattle.std.proofs.lemmas.Bool.{and_right}
 
 -- ---- names
 
 -- A word that would be read as something else begins with its first byte.
-else_itself : (first : Bool) (b : ℕ) (name : List ℕ) → reads_else first (spelled (b ∷ name)) ≡ true → spelled (b ∷ name) ≡ b ∷ spelled name
-else_itself first b name h = by_escaped (is_escaped b) h
+special_spelled_word_begins_with_its_byte : (first : Bool) (b : ℕ) (name : List ℕ) → is_read_as_special_word first (spelled_word (b ∷ name)) ≡ true → spelled_word (b ∷ name) ≡ b ∷ spelled_word name
+special_spelled_word_begins_with_its_byte first b name h = by_escaped (is_word_escape_needed b) h
   where
-    by_control : (t : Bool) → reads_else first ((if t then 92 ∷ 120 ∷ low_digit (b / 16) ∷ low_digit (b % 16) ∷ [] else b ∷ []) ++ spelled name) ≡ true → (if t then 92 ∷ 120 ∷ low_digit (b / 16) ∷ low_digit (b % 16) ∷ [] else b ∷ []) ++ spelled name ≡ b ∷ spelled name
-    by_control true h = absurd (let none = backslash_reads first (120 ∷ low_digit (b / 16) ∷ low_digit (b % 16) ∷ spelled name) in cc)
+    by_control : (t : Bool) → is_read_as_special_word first ((if t then 92 ∷ 120 ∷ lower_hex_digit (b / 16) ∷ lower_hex_digit (b % 16) ∷ [] else b ∷ []) ++ spelled_word name) ≡ true → (if t then 92 ∷ 120 ∷ lower_hex_digit (b / 16) ∷ lower_hex_digit (b % 16) ∷ [] else b ∷ []) ++ spelled_word name ≡ b ∷ spelled_word name
+    by_control true h = absurd (let none = word_with_leading_backslash_is_not_special first (120 ∷ lower_hex_digit (b / 16) ∷ lower_hex_digit (b % 16) ∷ spelled_word name) in cc)
     by_control false h = refl
 
-    by_escaped : (t : Bool) → reads_else first ((if t then 92 ∷ b ∷ [] else (if is_control b then 92 ∷ 120 ∷ low_digit (b / 16) ∷ low_digit (b % 16) ∷ [] else b ∷ [])) ++ spelled name) ≡ true
-        → (if t then 92 ∷ b ∷ [] else (if is_control b then 92 ∷ 120 ∷ low_digit (b / 16) ∷ low_digit (b % 16) ∷ [] else b ∷ [])) ++ spelled name ≡ b ∷ spelled name
-    by_escaped true h = absurd (let none = backslash_reads first (b ∷ spelled name) in cc)
+    by_escaped : (t : Bool) → is_read_as_special_word first ((if t then 92 ∷ b ∷ [] else (if is_control b then 92 ∷ 120 ∷ lower_hex_digit (b / 16) ∷ lower_hex_digit (b % 16) ∷ [] else b ∷ [])) ++ spelled_word name) ≡ true
+        → (if t then 92 ∷ b ∷ [] else (if is_control b then 92 ∷ 120 ∷ lower_hex_digit (b / 16) ∷ lower_hex_digit (b % 16) ∷ [] else b ∷ [])) ++ spelled_word name ≡ b ∷ spelled_word name
+    by_escaped true h = absurd (let none = word_with_leading_backslash_is_not_special first (b ∷ spelled_word name) in cc)
     by_escaped false h = by_control (is_control b) h
 
-name_text : (first : Bool) (name : List ℕ) → name ≢ [] → flat (name_units first name) ≡ printed_name first name
-name_text first [] some = absurd (some refl)
-name_text first (b ∷ name) some = by_else (reads_else first (spelled (b ∷ name))) refl
+text_of_user_name_is_printed : (first : Bool) (name : List ℕ) → name ≢ [] → text_of_units (units_of_user_name first name) ≡ printed_user_name first name
+text_of_user_name_is_printed first [] some = absurd (some refl)
+text_of_user_name_is_printed first (b ∷ name) some = by_else (is_read_as_special_word first (spelled_word (b ∷ name))) refl
   where
-    by_else : (t : Bool) → reads_else first (spelled (b ∷ name)) ≡ t → flat (if t then Pair b ∷ word_units name else word_units (b ∷ name)) ≡ guarded t (spelled (b ∷ name))
-    by_else true e = ap (λ (t : List ℕ). 92 ∷ b ∷ t) (flat_words name) ∙ ap (λ (t : List ℕ). 92 ∷ t) (sym (else_itself first b name e))
-    by_else false e = flat_words (b ∷ name)
+    by_else : (t : Bool) → is_read_as_special_word first (spelled_word (b ∷ name)) ≡ t → text_of_units (if t then Pair b ∷ units_of_spelled_word name else units_of_spelled_word (b ∷ name)) ≡ backslash_guarded_text t (spelled_word (b ∷ name))
+    by_else true e = ap (λ (t : List ℕ). 92 ∷ b ∷ t) (text_of_word_units_is_spelled_word name) ∙ ap (λ (t : List ℕ). 92 ∷ t) (sym (special_spelled_word_begins_with_its_byte first b name e))
+    by_else false e = text_of_word_units_is_spelled_word (b ∷ name)
 
-host_name_text : (p : List ℕ) → p ≢ [] → is_pattern HostName p ≡ true → flat (host_name_units p) ≡ printed_host p
-host_name_text p some is = by_host (reads_as_host (escaped HostName p)) refl
+text_of_host_name_is_printed : (p : List ℕ) → p ≢ [] → is_writable_pattern HostName p ≡ true → text_of_units (units_of_host_name p) ≡ printed_host p
+text_of_host_name_is_printed p some is = by_host (is_read_as_host_name (escaped_pattern HostName p)) refl
   where
-    same : flat (escape_all HostName (pattern_units p)) ≡ escaped HostName p
-    same = flat_escaped HostName p is
+    same : text_of_units (escaped_pattern_units HostName (units_of_pattern p)) ≡ escaped_pattern HostName p
+    same = text_of_escaped_units_is_escaped_pattern HostName p is
 
-    by_host : (t : Bool) → reads_as_host (escaped HostName p) ≡ t → flat (if t then escape_all HostName (pattern_units p) else backed (escape_all HostName (pattern_units p))) ≡ guarded (not t) (escaped HostName p)
+    by_host : (t : Bool) → is_read_as_host_name (escaped_pattern HostName p) ≡ t → text_of_units (if t then escaped_pattern_units HostName (units_of_pattern p) else units_with_leading_backslash (escaped_pattern_units HostName (units_of_pattern p))) ≡ backslash_guarded_text (not t) (escaped_pattern HostName p)
     by_host true e = same
     by_host false e =
-        backed_text (pattern_units p) (are_pattern HostName p is) (some_pattern p some) (ap (λ (t : List ℕ). is_host (host_atom kind.Word t)) same ∙ e)
+        text_of_backslashed_units_has_backslash (units_of_pattern p) (units_of_writable_pattern_are_pattern_units HostName p is) (units_of_nonempty_pattern_are_not_empty p some) (ap (λ (t : List ℕ). is_host_name_atom (host_atom_of_token kind.Word t)) same ∙ e)
         ∙ ap (λ (t : List ℕ). 92 ∷ t) same
 
 -- ---- members
 
-user_text : (k : Kind) (first : Bool) (a : Atom) → ((name : List ℕ) → printed_netgroup k name ≡ 43 ∷ spelled name) → IsUser a → flat (user_units first a) ≡ printed_atom first k a
-user_text k first atom.All netgroup is = refl
-user_text k first (atom.Alias name) netgroup is = flat_plain name
-user_text k first (atom.Name name) netgroup is = name_text first name is
-user_text k first (atom.Id n) netgroup is = ap (λ (t : List ℕ). 35 ∷ t) (flat_plain (decimal n))
-user_text k first (atom.Group name) netgroup is = ap (λ (t : List ℕ). 37 ∷ t) (flat_words name)
-user_text k first (atom.GroupId n) netgroup is = ap (λ (t : List ℕ). 37 ∷ 35 ∷ t) (flat_plain (decimal n))
-user_text k first (atom.NonUnix name) netgroup is = ap (λ (t : List ℕ). 37 ∷ 58 ∷ t) (flat_words name)
-user_text k first (atom.Netgroup name) netgroup is = ap (λ (t : List ℕ). 43 ∷ t) (flat_words name) ∙ sym (netgroup name)
-user_text k first a netgroup is = absurd is
+text_of_user_atom_is_printed : (k : Kind) (first : Bool) (a : Atom) → ((name : List ℕ) → printed_netgroup k name ≡ 43 ∷ spelled_word name) → IsWritableUserAtom a → text_of_units (units_of_user_atom first a) ≡ printed_atom first k a
+text_of_user_atom_is_printed k first atom.All netgroup is = refl
+text_of_user_atom_is_printed k first (atom.Alias name) netgroup is = text_of_plain_units_is_bytes name
+text_of_user_atom_is_printed k first (atom.Name name) netgroup is = text_of_user_name_is_printed first name is
+text_of_user_atom_is_printed k first (atom.Id n) netgroup is = ap (λ (t : List ℕ). 35 ∷ t) (text_of_plain_units_is_bytes (decimal n))
+text_of_user_atom_is_printed k first (atom.Group name) netgroup is = ap (λ (t : List ℕ). 37 ∷ t) (text_of_word_units_is_spelled_word name)
+text_of_user_atom_is_printed k first (atom.GroupId n) netgroup is = ap (λ (t : List ℕ). 37 ∷ 35 ∷ t) (text_of_plain_units_is_bytes (decimal n))
+text_of_user_atom_is_printed k first (atom.NonUnix name) netgroup is = ap (λ (t : List ℕ). 37 ∷ 58 ∷ t) (text_of_word_units_is_spelled_word name)
+text_of_user_atom_is_printed k first (atom.Netgroup name) netgroup is = ap (λ (t : List ℕ). 43 ∷ t) (text_of_word_units_is_spelled_word name) ∙ sym (netgroup name)
+text_of_user_atom_is_printed k first a netgroup is = absurd is
 
-host_text : (first : Bool) (a : Atom) → IsHost a → flat (host_units a) ≡ printed_atom first Host a
-host_text first atom.All is = refl
-host_text first (atom.Alias name) is = flat_plain name
-host_text first (atom.Netgroup name) is = ap (λ (t : List ℕ). 43 ∷ t) (flat_plain name)
-host_text first (atom.Host p) is = host_name_text p is.0 is.1
-host_text first (atom.Address a) is = flat_plain _
-host_text first (atom.Network a m) is = flat_plain _
-host_text first a is = absurd is
+text_of_host_atom_is_printed : (first : Bool) (a : Atom) → IsWritableHostAtom a → text_of_units (units_of_host_atom a) ≡ printed_atom first Host a
+text_of_host_atom_is_printed first atom.All is = refl
+text_of_host_atom_is_printed first (atom.Alias name) is = text_of_plain_units_is_bytes name
+text_of_host_atom_is_printed first (atom.Netgroup name) is = ap (λ (t : List ℕ). 43 ∷ t) (text_of_plain_units_is_bytes name)
+text_of_host_atom_is_printed first (atom.Host p) is = text_of_host_name_is_printed p is.0 is.1
+text_of_host_atom_is_printed first (atom.Address a) is = text_of_plain_units_is_bytes _
+text_of_host_atom_is_printed first (atom.Network a m) is = text_of_plain_units_is_bytes _
+text_of_host_atom_is_printed first a is = absurd is
 
-atom_text : (k : Kind) (first : Bool) (a : Atom) → IsListAtom k a → flat (list_units k first a) ≡ printed_atom first k a
-atom_text User first a is = user_text User first a (λ name. refl) is
-atom_text Runas first a is = user_text Runas first a (λ name. refl) is
-atom_text Host first a is = host_text first a is
-atom_text Cmnd first a is = absurd is
+text_of_list_atom_is_printed : (k : Kind) (first : Bool) (a : Atom) → IsAtomOfListKind k a → text_of_units (units_of_list_atom k first a) ≡ printed_atom first k a
+text_of_list_atom_is_printed User first a is = text_of_user_atom_is_printed User first a (λ name. refl) is
+text_of_list_atom_is_printed Runas first a is = text_of_user_atom_is_printed Runas first a (λ name. refl) is
+text_of_list_atom_is_printed Host first a is = text_of_host_atom_is_printed first a is
+text_of_list_atom_is_printed Cmnd first a is = absurd is
 
-and_true : (x : Bool) → (x && true) ≡ x
-and_true true = refl
-and_true false = refl
+conjunction_with_true_is_itself : (x : Bool) → (x && true) ≡ x
+conjunction_with_true_is_itself true = refl
+conjunction_with_true_is_itself false = refl
 
-signed_text : (k : Kind) (spaced first negated : Bool) (a : Atom) (tail : List Written) → IsListAtom k a → line_of (member_tokens k spaced first negated a tail) ≡ gap spaced ++ ((sign negated ++ printed_atom (first && not negated) k a) ++ line_of tail)
-signed_text k spaced first true a tail is =
-    ap (λ (t : List ℕ). gap spaced ++ (33 ∷ (t ++ line_of tail))) (atom_text k false a is ∙ ap (λ (t : Bool). printed_atom t k a) (sym (and_right first false refl)))
-signed_text k spaced first false a tail is =
-    ap (λ (t : List ℕ). gap spaced ++ (t ++ line_of tail)) (atom_text k first a is ∙ ap (λ (t : Bool). printed_atom t k a) (sym (and_true first)))
+text_of_signed_list_member_is_printed : (k : Kind) (spaced first negated : Bool) (a : Atom) (tail : List WrittenToken) → IsAtomOfListKind k a → line_of_written_tokens (tokens_of_list_member k spaced first negated a tail) ≡ gap_bytes_if_spaced spaced ++ ((negation_sign negated ++ printed_atom (first && not negated) k a) ++ line_of_written_tokens tail)
+text_of_signed_list_member_is_printed k spaced first true a tail is =
+    ap (λ (t : List ℕ). gap_bytes_if_spaced spaced ++ (33 ∷ (t ++ line_of_written_tokens tail))) (text_of_list_atom_is_printed k false a is ∙ ap (λ (t : Bool). printed_atom t k a) (sym (and_right first false refl)))
+text_of_signed_list_member_is_printed k spaced first false a tail is =
+    ap (λ (t : List ℕ). gap_bytes_if_spaced spaced ++ (t ++ line_of_written_tokens tail)) (text_of_list_atom_is_printed k first a is ∙ ap (λ (t : Bool). printed_atom t k a) (sym (conjunction_with_true_is_itself first)))
 
-pub member_text : (k : Kind) (spaced first : Bool) (m : Member) (tail : List Written) → IsListed k m → line_of (member_tokens k spaced first m.negated m.atom tail) ≡ gap spaced ++ (printed_member first k m ++ line_of tail)
-member_text k spaced first m tail is =
-    signed_text k spaced first m.negated m.atom tail is.is
-    ∙ ap (λ (ds : List Digest). gap spaced ++ ((printed_digests ds ++ sign m.negated ++ printed_atom (first && not m.negated) k m.atom) ++ line_of tail)) (sym is.no_digests)
+pub text_of_list_member_is_printed : (k : Kind) (spaced first : Bool) (m : Member) (tail : List WrittenToken) → IsListedMemberOfKind k m → line_of_written_tokens (tokens_of_list_member k spaced first m.negated m.atom tail) ≡ gap_bytes_if_spaced spaced ++ (printed_member first k m ++ line_of_written_tokens tail)
+text_of_list_member_is_printed k spaced first m tail is =
+    text_of_signed_list_member_is_printed k spaced first m.negated m.atom tail is.is
+    ∙ ap (λ (ds : List Digest). gap_bytes_if_spaced spaced ++ ((printed_digests ds ++ negation_sign m.negated ++ printed_atom (first && not m.negated) k m.atom) ++ line_of_written_tokens tail)) (sym is.no_digests)
 
 -- A list, before other tokens.
-pub list_text : (k : Kind) (spaced first : Bool) (ms : List Member) (tail : List Written) → AreSome (IsListed k) ms → line_of (list_tokens k spaced first ms tail) ≡ gap spaced ++ (printed_list first k ms ++ line_of tail)
-list_text k spaced first [] tail all = absurd all
-list_text k spaced first (m ∷ ms) tail all =
-    many_text 44 false (printed_member false k) (one_member k true false) (IsListed k) (member_text k true false) (gap spaced) (printed_member first k m)
-    (λ t. line_of (one_member k spaced first m t)) (λ t. member_text k spaced first m t all.0) ms tail all.1
+pub text_of_member_list_is_printed : (k : Kind) (spaced first : Bool) (ms : List Member) (tail : List WrittenToken) → IsNonEmptyListOf (IsListedMemberOfKind k) ms → line_of_written_tokens (tokens_of_member_list k spaced first ms tail) ≡ gap_bytes_if_spaced spaced ++ (printed_member_list first k ms ++ line_of_written_tokens tail)
+text_of_member_list_is_printed k spaced first [] tail all = absurd all
+text_of_member_list_is_printed k spaced first (m ∷ ms) tail all =
+    many_text 44 false (printed_member false k) (tokens_of_member k true false) (IsListedMemberOfKind k) (text_of_list_member_is_printed k true false) (gap_bytes_if_spaced spaced) (printed_member first k m)
+    (λ t. line_of_written_tokens (tokens_of_member k spaced first m t)) (λ t. text_of_list_member_is_printed k spaced first m t all.0) ms tail all.1

@@ -1,134 +1,134 @@
 -- A Defaults line as it is written is read as this line.
 use Rattle.laws_print.proofs.Common.{◌≡◌, ℕ, Bool, true, false, ◌&&◌, List, [], ◌∷◌, ◌++◌, length, Some, None, refl, sym, ap, ◌∙◌, append-nil}
-use Rattle.laws_print.proofs.Common.{nat_lt, if◌then◌else◌, Option, AllByRecursion, list_all, and_parts, Quoted, value_from, value_of, Kind, User}
-use Rattle.laws_print.proofs.Common.{Runas, Cmnd, Member, Setting, Param, Scope, Piece, is_parameter, looked_up, IsParamWith, IsParam, IsScopeList}
-use Rattle.laws_print.proofs.Common.{PerhapsScope, Many, Behind, Separated, stop_of, start_of, ReadsScopeCommand, operator_mark, is_plain}
-use Rattle.laws_print.proofs.Common.{is_plain_value, fits_quotes, AreSome, IsScopeCommand, IsScopeMember, IsWritableScope, IsSettingOf, IsWritableParam}
-use Rattle.laws_print.proofs.Common.{IsSameMember, AllSame, IsSameScope, Written, flat, Shows, word_units}
+use Rattle.laws_print.proofs.Common.{nat_lt, if◌then◌else◌, Option, AllByRecursion, list_all, and_parts, Quoted, value_of_remaining_bytes, value_of_word, Kind, User}
+use Rattle.laws_print.proofs.Common.{Runas, Cmnd, Member, Setting, Param, Scope, TokenWithBytes, is_parameter_name_kind, value_of_matching_row, IsParamWith, IsParam, IsScopeList}
+use Rattle.laws_print.proofs.Common.{PerhapsScope, Many, MarkThenRule, Separated, stop_of_last_token, start_of_first_token, ReadsScopeCommand, defaults_operator_mark, is_byte_without_quotes}
+use Rattle.laws_print.proofs.Common.{is_value_without_quotes, is_quotable_value, IsNonEmptyListOf, IsScopeCommandMember, IsWritableScopeMember, IsWritableScope, IsSettingAllowedIfNegated, IsWritableParam}
+use Rattle.laws_print.proofs.Common.{IsMemberSameButPlace, AreItemsPairwiseRelated, IsScopeSameButPlace, WrittenToken, text_of_units, AreTokensShownBy, units_of_spelled_word}
 use Rattle.sudoers_text.specs.declared.token.TokenKind.TheVariants as kind
-use Rattle.sudoers_line.specs.declared.node.Kind.TheVariants.{Host}
-use Rattle.sudoers_line.specs.declared.node.Operator.{Operator}
-use Rattle.sudoers_line.specs.declared.node.Operator.TheVariants as operator
-use Rattle.sudoers_line.specs.Piece.{is_punct, is_value, operator_of, scope_signs, scope_sign}
-use Rattle.sudoers_line.specs.Grammar.{IsFlag, IsSetting}
-use Rattle.laws_print.proofs.Units.{plain}
-use Rattle.laws_print.proofs.CommandTokens.{signed_tokens}
-use Rattle.laws_print.proofs.DefaultsTokens.{param_units, param_tokens, more_params, all_params, sign_byte, scope_list, scope_tokens, scope_command}
-use Rattle.laws_print.proofs.DefaultsTokens.{one_scope_command}
-use Rattle.laws_print.proofs.Shown.{mark_read}
-use Rattle.laws_print.proofs.Values.{word_value}
-use Rattle.laws_print.proofs.Users.{flat_plain}
-use Rattle.laws_print.proofs.ReadLists.{list_read}
-use Rattle.laws_print.proofs.ReadCommandLists.{Front, command_back, signed_read}
-use Rattle.laws_print.proofs.ParamCuts.{fits_byte, fits_quoted}
-use Rattle.laws_print.proofs.Words.{differs}
-use Rattle.laws_print.proofs.Many.{Read, many_read}
+use Rattle.sudoers_grammar.specs.declared.node.Kind.TheVariants.{Host}
+use Rattle.sudoers_grammar.specs.declared.node.Operator.{Operator}
+use Rattle.sudoers_grammar.specs.declared.node.Operator.TheVariants as operator
+use Rattle.sudoers_grammar.specs.Piece.{is_punct, is_value, operator_of_token, scope_kinds_by_sign, scope_kind_of_token}
+use Rattle.sudoers_grammar.specs.Grammar.{IsFlag, IsSetting}
+use Rattle.laws_print.proofs.Units.{units_of_plain_bytes}
+use Rattle.laws_print.proofs.CommandTokens.{tokens_of_signed_command}
+use Rattle.laws_print.proofs.DefaultsTokens.{units_of_parameter_value, tokens_of_parameter_parts, tokens_of_further_parameters, tokens_of_parameters, mark_byte_of_scope_kind, tokens_of_scope_list, tokens_of_scope, scope_command_atom_is_writable}
+use Rattle.laws_print.proofs.DefaultsTokens.{tokens_of_scope_command}
+use Rattle.laws_print.proofs.Shown.{punctuation_of_byte_is_its_mark}
+use Rattle.laws_print.proofs.Values.{value_of_word_units_is_word}
+use Rattle.laws_print.proofs.Users.{text_of_plain_units_is_bytes}
+use Rattle.laws_print.proofs.ReadLists.{member_list_is_read_back}
+use Rattle.laws_print.proofs.ReadCommandLists.{ReadsBeforeTail, writable_command_atom_reads_back_as_itself, signed_command_is_read_back}
+use Rattle.laws_print.proofs.ParamCuts.{is_byte_plain_in_quotes, byte_test_implies_plain_in_quotes}
+use Rattle.laws_print.proofs.Words.{passing_byte_differs_from_failing_byte}
+use Rattle.laws_print.proofs.Many.{ReadsAsSameThing, many_read}
 
 -- ---- values
 
-plain_from : (value : List ℕ) → list_all is_plain value ≡ true → value_from 0 false value ≡ value
-plain_from [] all = refl
-plain_from (b ∷ value) all =
-    let parts = and_parts (is_plain b) (list_all is_plain value) all in
-    rw (differs is_plain 34 b parts.0 refl, differs is_plain 92 b parts.0 refl) (ap (λ (t : List ℕ). b ∷ t) (plain_from value parts.1))
+value_of_bytes_without_quotes_is_itself : (value : List ℕ) → list_all is_byte_without_quotes value ≡ true → value_of_remaining_bytes 0 false value ≡ value
+value_of_bytes_without_quotes_is_itself [] all = refl
+value_of_bytes_without_quotes_is_itself (b ∷ value) all =
+    let parts = and_parts (is_byte_without_quotes b) (list_all is_byte_without_quotes value) all in
+    rw (passing_byte_differs_from_failing_byte is_byte_without_quotes 34 b parts.0 refl, passing_byte_differs_from_failing_byte is_byte_without_quotes 92 b parts.0 refl) (ap (λ (t : List ℕ). b ∷ t) (value_of_bytes_without_quotes_is_itself value parts.1))
 
-quoted_from : (value : List ℕ) → list_all fits_byte value ≡ true → value_from 0 true (value ++ 34 ∷ []) ≡ value
-quoted_from [] all = refl
-quoted_from (b ∷ value) all =
-    let parts = and_parts (fits_byte b) (list_all fits_byte value) all in
-    let is = fits_quoted b parts.0 in
-    rw (is.quote, is.backslash) (ap (λ (t : List ℕ). b ∷ t) (quoted_from value parts.1))
+value_of_quoted_bytes_is_read_back : (value : List ℕ) → list_all is_byte_plain_in_quotes value ≡ true → value_of_remaining_bytes 0 true (value ++ 34 ∷ []) ≡ value
+value_of_quoted_bytes_is_read_back [] all = refl
+value_of_quoted_bytes_is_read_back (b ∷ value) all =
+    let parts = and_parts (is_byte_plain_in_quotes b) (list_all is_byte_plain_in_quotes value) all in
+    let is = byte_test_implies_plain_in_quotes b parts.0 in
+    rw (is.quote, is.backslash) (ap (λ (t : List ℕ). b ∷ t) (value_of_quoted_bytes_is_read_back value parts.1))
 
-plain_some : (value : List ℕ) → is_plain_value value ≡ true → list_all is_plain value ≡ true
-plain_some [] is = absurd (cc)
-plain_some (b ∷ value) is = (and_parts (nat_lt 0 (length (b ∷ value))) (list_all is_plain (b ∷ value)) is).1
+value_without_quotes_is_such_bytes : (value : List ℕ) → is_value_without_quotes value ≡ true → list_all is_byte_without_quotes value ≡ true
+value_without_quotes_is_such_bytes [] is = absurd (cc)
+value_without_quotes_is_such_bytes (b ∷ value) is = (and_parts (nat_lt 0 (length (b ∷ value))) (list_all is_byte_without_quotes (b ∷ value)) is).1
 
-value_read : (value : List ℕ) → value_of (flat (param_units value)) ≡ value
-unfolding value_of
-value_read value = by_plain (is_plain_value value) refl
+parameter_value_is_read_back : (value : List ℕ) → value_of_word (text_of_units (units_of_parameter_value value)) ≡ value
+unfolding value_of_word
+parameter_value_is_read_back value = by_plain (is_value_without_quotes value) refl
   where
-    by_quotes : (t : Bool) → fits_quotes value ≡ t → value_from 0 false (flat (if t then Quoted (value ++ 34 ∷ []) ∷ [] else word_units value)) ≡ value
-    by_quotes true e = ap (value_from 0 false) (append-nil (34 ∷ (value ++ 34 ∷ []))) ∙ quoted_from value e
-    by_quotes false e = word_value value
+    by_quotes : (t : Bool) → is_quotable_value value ≡ t → value_of_remaining_bytes 0 false (text_of_units (if t then Quoted (value ++ 34 ∷ []) ∷ [] else units_of_spelled_word value)) ≡ value
+    by_quotes true e = ap (value_of_remaining_bytes 0 false) (append-nil (34 ∷ (value ++ 34 ∷ []))) ∙ value_of_quoted_bytes_is_read_back value e
+    by_quotes false e = value_of_word_units_is_word value
 
-    by_plain : (t : Bool) → is_plain_value value ≡ t → value_from 0 false (flat (if t then plain value else (if fits_quotes value then Quoted (value ++ 34 ∷ []) ∷ [] else word_units value))) ≡ value
-    by_plain true e = ap (value_from 0 false) (flat_plain value) ∙ plain_from value (plain_some value e)
-    by_plain false e = by_quotes (fits_quotes value) refl
+    by_plain : (t : Bool) → is_value_without_quotes value ≡ t → value_of_remaining_bytes 0 false (text_of_units (if t then units_of_plain_bytes value else (if is_quotable_value value then Quoted (value ++ 34 ∷ []) ∷ [] else units_of_spelled_word value))) ≡ value
+    by_plain true e = ap (value_of_remaining_bytes 0 false) (text_of_plain_units_is_bytes value) ∙ value_of_bytes_without_quotes_is_itself value (value_without_quotes_is_such_bytes value e)
+    by_plain false e = by_quotes (is_quotable_value value) refl
 
-operator_read : (o : Operator) (t : Piece) → t.kind ≡ kind.Punct → t.text ≡ flat (plain (operator_mark o)) → operator_of t ≡ Some o
-unfolding operator_of
-operator_read operator.Set t k text = rw (k, text) refl
-operator_read o t k text = rw (k, text) refl
+operator_token_is_read_back : (o : Operator) (t : TokenWithBytes) → t.kind ≡ kind.Punct → t.text ≡ text_of_units (units_of_plain_bytes (defaults_operator_mark o)) → operator_of_token t ≡ Some o
+unfolding operator_of_token
+operator_token_is_read_back operator.Set t k text = rw (k, text) refl
+operator_token_is_read_back o t k text = rw (k, text) refl
 
 -- ---- parameters
 
-flag_read : (spaced negated : Bool) (p : Param) (tail : List Written) (ts : List Piece) → negated ≡ p.negated → Shows (param_tokens spaced negated p.name None tail) ts → Front (λ us rest. IsFlag us p rest) ts tail
-flag_read spaced false p tail [] same shows = absurd shows
-flag_read spaced false p tail (n ∷ ts) same shows = record {
+flag_parameter_is_read_back : (spaced negated : Bool) (p : Param) (tail : List WrittenToken) (ts : List TokenWithBytes) → negated ≡ p.negated → AreTokensShownBy (tokens_of_parameter_parts spaced negated p.name None tail) ts → ReadsBeforeTail (λ us rest. IsFlag us p rest) ts tail
+flag_parameter_is_read_back spaced false p tail [] same shows = absurd shows
+flag_parameter_is_read_back spaced false p tail (n ∷ ts) same shows = record {
   rest = ts;
-  is = record { signs = []; name = n; split = refl; are_signs = tt; is_name = ap is_parameter shows.0; negated = sym same; same_name = sym (shows.1 ∙ flat_plain p.name) };
+  is = record { signs = []; name = n; split = refl; are_signs = tt; is_name = ap is_parameter_name_kind shows.0; negated = sym same; same_name = sym (shows.1 ∙ text_of_plain_units_is_bytes p.name) };
   behind = shows.2;
 }
-flag_read spaced true p tail [] same shows = absurd shows
-flag_read spaced true p tail (s ∷ []) same shows = absurd shows.2
-flag_read spaced true p tail (s ∷ n ∷ ts) same shows = record {
+flag_parameter_is_read_back spaced true p tail [] same shows = absurd shows
+flag_parameter_is_read_back spaced true p tail (s ∷ []) same shows = absurd shows.2
+flag_parameter_is_read_back spaced true p tail (s ∷ n ∷ ts) same shows = record {
   rest = ts;
-  is = record { signs = s ∷ []; name = n; split = refl; are_signs = (mark_read 33 s shows.0 shows.1, tt); is_name = ap is_parameter shows.2.0; negated = sym same; same_name = sym (shows.2.1 ∙ flat_plain p.name) };
+  is = record { signs = s ∷ []; name = n; split = refl; are_signs = (punctuation_of_byte_is_its_mark 33 s shows.0 shows.1, tt); is_name = ap is_parameter_name_kind shows.2.0; negated = sym same; same_name = sym (shows.2.1 ∙ text_of_plain_units_is_bytes p.name) };
   behind = shows.2.2;
 }
 
-setting_read : (spaced negated : Bool) (p : Param) (s : Setting) (tail : List Written) (ts : List Piece) → negated ≡ false → p.negated ≡ false → Shows (param_tokens spaced negated p.name (Some s) tail) ts → Front (λ us rest. IsSetting us p s rest) ts tail
-setting_read spaced true p s tail ts off none shows = absurd (cc)
-setting_read spaced false p s tail [] off none shows = absurd shows
-setting_read spaced false p s tail (n ∷ []) off none shows = absurd shows.2
-setting_read spaced false p s tail (n ∷ o ∷ []) off none shows = absurd shows.2.2
-setting_read spaced false p s tail (n ∷ o ∷ v ∷ ts) off none shows = record {
+setting_parameter_is_read_back : (spaced negated : Bool) (p : Param) (s : Setting) (tail : List WrittenToken) (ts : List TokenWithBytes) → negated ≡ false → p.negated ≡ false → AreTokensShownBy (tokens_of_parameter_parts spaced negated p.name (Some s) tail) ts → ReadsBeforeTail (λ us rest. IsSetting us p s rest) ts tail
+setting_parameter_is_read_back spaced true p s tail ts off none shows = absurd (cc)
+setting_parameter_is_read_back spaced false p s tail [] off none shows = absurd shows
+setting_parameter_is_read_back spaced false p s tail (n ∷ []) off none shows = absurd shows.2
+setting_parameter_is_read_back spaced false p s tail (n ∷ o ∷ []) off none shows = absurd shows.2.2
+setting_parameter_is_read_back spaced false p s tail (n ∷ o ∷ v ∷ ts) off none shows = record {
   rest = ts;
   is = record {
     name = n;
     operator = o;
     value = v;
     split = refl;
-    is_name = ap is_parameter shows.0;
-    is_operator = operator_read s.operator o shows.2.0 shows.2.1;
+    is_name = ap is_parameter_name_kind shows.0;
+    is_operator = operator_token_is_read_back s.operator o shows.2.0 shows.2.1;
     is_value = ap is_value shows.2.2.0;
     not_negated = none;
-    same_name = sym (shows.1 ∙ flat_plain p.name);
-    same_value = sym (ap value_of shows.2.2.1 ∙ value_read s.value);
+    same_name = sym (shows.1 ∙ text_of_plain_units_is_bytes p.name);
+    same_value = sym (ap value_of_word shows.2.2.1 ∙ parameter_value_is_read_back s.value);
   };
   behind = shows.2.2.2;
 }
 
-with_read : (spaced : Bool) (p : Param) (s : Option Setting) (tail : List Written) (ts : List Piece) → IsSettingOf p.negated s → Shows (param_tokens spaced p.negated p.name s tail) ts → Front (λ us rest. IsParamWith s us p rest) ts tail
-with_read spaced p None tail ts is shows = flag_read spaced p.negated p tail ts refl shows
-with_read spaced p (Some s) tail ts is shows = setting_read spaced p.negated p s tail ts is is shows
+parameter_with_setting_is_read_back : (spaced : Bool) (p : Param) (s : Option Setting) (tail : List WrittenToken) (ts : List TokenWithBytes) → IsSettingAllowedIfNegated p.negated s → AreTokensShownBy (tokens_of_parameter_parts spaced p.negated p.name s tail) ts → ReadsBeforeTail (λ us rest. IsParamWith s us p rest) ts tail
+parameter_with_setting_is_read_back spaced p None tail ts is shows = flag_parameter_is_read_back spaced p.negated p tail ts refl shows
+parameter_with_setting_is_read_back spaced p (Some s) tail ts is shows = setting_parameter_is_read_back spaced p.negated p s tail ts is is shows
 
-param_read : (spaced : Bool) (p : Param) (tail : List Written) (ts : List Piece) → IsWritableParam p → Shows (param_tokens spaced p.negated p.name p.setting tail) ts → Front (λ us rest. IsParam us p rest) ts tail
-param_read spaced p tail ts is shows = with_read spaced p p.setting tail ts is.setting shows
+writable_parameter_is_read_back : (spaced : Bool) (p : Param) (tail : List WrittenToken) (ts : List TokenWithBytes) → IsWritableParam p → AreTokensShownBy (tokens_of_parameter_parts spaced p.negated p.name p.setting tail) ts → ReadsBeforeTail (λ us rest. IsParam us p rest) ts tail
+writable_parameter_is_read_back spaced p tail ts is shows = parameter_with_setting_is_read_back spaced p p.setting tail ts is.setting shows
 
-more_params_read : (ps : List Param) (ts : List Piece) → AllByRecursion IsWritableParam ps → Shows (more_params ps) ts → Front (λ us rest. Many (Behind 44 IsParam) us ps rest) ts []
-more_params_read [] ts all shows = record { rest = ts; is = refl; behind = shows }
-more_params_read (p ∷ ps) [] all shows = absurd shows
-more_params_read (p ∷ ps) (t ∷ ts) all shows =
-    let one = param_read true p (more_params ps) ts all.0 shows.2 in
-    let more = more_params_read ps one.rest all.1 one.behind in
-    record { rest = more.rest; is = (one.rest, record { mark = t; behind = ts; split = refl; is_mark = mark_read 44 t shows.0 shows.1; is = one.is }, more.is); behind = more.behind }
+further_parameters_are_read_back : (ps : List Param) (ts : List TokenWithBytes) → AllByRecursion IsWritableParam ps → AreTokensShownBy (tokens_of_further_parameters ps) ts → ReadsBeforeTail (λ us rest. Many (MarkThenRule 44 IsParam) us ps rest) ts []
+further_parameters_are_read_back [] ts all shows = record { rest = ts; is = refl; behind = shows }
+further_parameters_are_read_back (p ∷ ps) [] all shows = absurd shows
+further_parameters_are_read_back (p ∷ ps) (t ∷ ts) all shows =
+    let one = writable_parameter_is_read_back true p (tokens_of_further_parameters ps) ts all.0 shows.2 in
+    let more = further_parameters_are_read_back ps one.rest all.1 one.behind in
+    record { rest = more.rest; is = (one.rest, record { mark = t; behind = ts; split = refl; is_mark = punctuation_of_byte_is_its_mark 44 t shows.0 shows.1; is = one.is }, more.is); behind = more.behind }
 
-pub params_read : (ps : List Param) (ts : List Piece) → AreSome IsWritableParam ps → Shows (all_params ps) ts → Front (λ us rest. Separated 44 IsParam us ps rest) ts []
-params_read [] ts all shows = absurd all
-params_read (p ∷ ps) ts all shows =
-    let one = param_read true p (more_params ps) ts all.0 shows in
-    let more = more_params_read ps one.rest all.1 one.behind in
+pub parameter_list_is_read_back : (ps : List Param) (ts : List TokenWithBytes) → IsNonEmptyListOf IsWritableParam ps → AreTokensShownBy (tokens_of_parameters ps) ts → ReadsBeforeTail (λ us rest. Separated 44 IsParam us ps rest) ts []
+parameter_list_is_read_back [] ts all shows = absurd all
+parameter_list_is_read_back (p ∷ ps) ts all shows =
+    let one = writable_parameter_is_read_back true p (tokens_of_further_parameters ps) ts all.0 shows in
+    let more = further_parameters_are_read_back ps one.rest all.1 one.behind in
     record { rest = more.rest; is = (one.rest, one.is, more.is); behind = more.behind }
 
 -- ---- scopes
 
-command_read : (spaced : Bool) (m : Member) (tail : List Written) (ts : List Piece) → IsScopeCommand m → Shows (signed_tokens spaced m.negated m.atom tail) ts → Read ReadsScopeCommand IsSameMember ts m tail
-command_read spaced m tail ts is shows =
-    let atom = scope_command m.atom is.is in
-    let one = signed_read spaced m.negated m.atom tail ts atom shows in
+scope_command_is_read_back : (spaced : Bool) (m : Member) (tail : List WrittenToken) (ts : List TokenWithBytes) → IsScopeCommandMember m → AreTokensShownBy (tokens_of_signed_command spaced m.negated m.atom tail) ts → ReadsAsSameThing ReadsScopeCommand IsMemberSameButPlace ts m tail
+scope_command_is_read_back spaced m tail ts is shows =
+    let atom = scope_command_atom_is_writable m.atom is.is in
+    let one = signed_command_is_read_back spaced m.negated m.atom tail ts atom shows in
     record {
-      thing = record { start = start_of ts; stop = stop_of one.word one.args; negated = m.negated; digests = []; atom = m.atom };
+      thing = record { start = start_of_first_token ts; stop = stop_of_last_token one.word one.args; negated = m.negated; digests = []; atom = m.atom };
       rest = one.rest;
       is = (
         refl,
@@ -148,55 +148,55 @@ command_read spaced m tail ts is shows =
           stop = refl;
         },
       );
-      alike = record { negated = refl; digests = is.no_digests; atom = command_back m.atom atom };
+      alike = record { negated = refl; digests = is.no_digests; atom = writable_command_atom_reads_back_as_itself m.atom atom };
       behind = one.behind;
     }
 
-scope_list_read : (k : Kind) (ms : List Member) (tail : List Written) (ts : List Piece) → AreSome (IsScopeMember k) ms → Shows (scope_list k ms tail) ts → Read (IsScopeList k) (AllSame IsSameMember) ts ms tail
-scope_list_read User = list_read User false false
-scope_list_read Runas = list_read Runas false false
-scope_list_read Host = list_read Host false false
-scope_list_read Cmnd =
-    many_read 44 false ReadsScopeCommand IsSameMember IsScopeCommand (one_scope_command true) (command_read true) (one_scope_command false) (command_read false)
+scope_list_is_read_back : (k : Kind) (ms : List Member) (tail : List WrittenToken) (ts : List TokenWithBytes) → IsNonEmptyListOf (IsWritableScopeMember k) ms → AreTokensShownBy (tokens_of_scope_list k ms tail) ts → ReadsAsSameThing (IsScopeList k) (AreItemsPairwiseRelated IsMemberSameButPlace) ts ms tail
+scope_list_is_read_back User = member_list_is_read_back User false false
+scope_list_is_read_back Runas = member_list_is_read_back Runas false false
+scope_list_is_read_back Host = member_list_is_read_back Host false false
+scope_list_is_read_back Cmnd =
+    many_read 44 false ReadsScopeCommand IsMemberSameButPlace IsScopeCommandMember (tokens_of_scope_command true) (scope_command_is_read_back true) (tokens_of_scope_command false) (scope_command_is_read_back false)
 
-sign_read : (k : Kind) (t : Piece) → t.kind ≡ kind.Punct → t.text ≡ sign_byte k ∷ [] → t.start ≡ 8 → scope_sign 8 t ≡ Some k
-unfolding scope_sign
-sign_read User t k text start = rw (k, text, start) refl
-sign_read n t k text start = rw (k, text, start) refl
+scope_mark_is_read_back : (k : Kind) (t : TokenWithBytes) → t.kind ≡ kind.Punct → t.text ≡ mark_byte_of_scope_kind k ∷ [] → t.start ≡ 8 → scope_kind_of_token 8 t ≡ Some k
+unfolding scope_kind_of_token
+scope_mark_is_read_back User t k text start = rw (k, text, start) refl
+scope_mark_is_read_back n t k text start = rw (k, text, start) refl
 
-and_none : (x : Bool) (t : Piece) → (if x && false then looked_up scope_signs t.text else None) ≡ None
-and_none true t = refl
-and_none false t = refl
+choice_by_false_conjunction_is_none : (x : Bool) (t : TokenWithBytes) → (if x && false then value_of_matching_row scope_kinds_by_sign t.text else None) ≡ None
+choice_by_false_conjunction_is_none true t = refl
+choice_by_false_conjunction_is_none false t = refl
 
 -- behind a blank stands no scope
-no_sign : (t : Piece) → t.start ≡ 9 → scope_sign 8 t ≡ None
-unfolding scope_sign
-no_sign t start = rw start (and_none (is_punct t.kind) t)
+token_behind_blank_is_no_scope_mark : (t : TokenWithBytes) → t.start ≡ 9 → scope_kind_of_token 8 t ≡ None
+unfolding scope_kind_of_token
+token_behind_blank_is_no_scope_mark t start = rw start (choice_by_false_conjunction_is_none (is_punct t.kind) t)
 
 -- a scope and what is behind it, as they are read
-pub record ScopeRead (ts : List Piece) (scope : Option Scope) (tail : List Written) : Type 0 where
+pub record ReadsAsScopeBeforeTail (ts : List TokenWithBytes) (scope : Option Scope) (tail : List WrittenToken) : Type 0 where
   pub read : Option Scope
-  pub rest : List Piece
+  pub rest : List TokenWithBytes
   pub is : PerhapsScope 8 ts read rest
-  pub same : IsSameScope scope read
-  pub behind : Shows tail rest
+  pub same : IsScopeSameButPlace scope read
+  pub behind : AreTokensShownBy tail rest
 
 -- where the first of some tokens begins, by whether it is a scope's sign
-abbrev pub StartsAt : Option Scope → List Piece → Type 0
-StartsAt scope [] = Unit {0}
-StartsAt None (t ∷ ts) = t.start ≡ 9
-StartsAt (Some s) (t ∷ ts) = t.start ≡ 8
+abbrev pub IsFirstTokenPlacedByScope : Option Scope → List TokenWithBytes → Type 0
+IsFirstTokenPlacedByScope scope [] = Unit {0}
+IsFirstTokenPlacedByScope None (t ∷ ts) = t.start ≡ 9
+IsFirstTokenPlacedByScope (Some s) (t ∷ ts) = t.start ≡ 8
 
-pub scope_read : (scope : Option Scope) (tail : List Written) (ts : List Piece) → IsWritableScope scope → StartsAt scope ts → Shows (scope_tokens scope tail) ts → ScopeRead ts scope tail
-scope_read None tail [] is starts shows = record { read = None; rest = []; is = (refl, tt); same = tt; behind = shows }
-scope_read None tail (t ∷ ts) is starts shows = record { read = None; rest = t ∷ ts; is = (refl, no_sign t starts); same = tt; behind = shows }
-scope_read (Some s) tail [] is starts shows = absurd shows
-scope_read (Some s) tail (t ∷ ts) is starts shows =
-    let list = scope_list_read s.kind s.members tail ts is shows.2 in
+pub scope_is_read_back : (scope : Option Scope) (tail : List WrittenToken) (ts : List TokenWithBytes) → IsWritableScope scope → IsFirstTokenPlacedByScope scope ts → AreTokensShownBy (tokens_of_scope scope tail) ts → ReadsAsScopeBeforeTail ts scope tail
+scope_is_read_back None tail [] is starts shows = record { read = None; rest = []; is = (refl, tt); same = tt; behind = shows }
+scope_is_read_back None tail (t ∷ ts) is starts shows = record { read = None; rest = t ∷ ts; is = (refl, token_behind_blank_is_no_scope_mark t starts); same = tt; behind = shows }
+scope_is_read_back (Some s) tail [] is starts shows = absurd shows
+scope_is_read_back (Some s) tail (t ∷ ts) is starts shows =
+    let list = scope_list_is_read_back s.kind s.members tail ts is shows.2 in
     record {
       read = Some (record { kind = s.kind; members = list.thing });
       rest = list.rest;
-      is = record { sign = t; behind = ts; split = refl; is_sign = sign_read s.kind t shows.0 shows.1 starts; members = list.is };
+      is = record { sign = t; behind = ts; split = refl; is_sign = scope_mark_is_read_back s.kind t shows.0 shows.1 starts; members = list.is };
       same = (refl, list.alike);
       behind = list.behind;
     }

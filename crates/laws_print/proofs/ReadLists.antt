@@ -1,52 +1,52 @@
 -- Lists of users, runas users and hosts as they are written are read as these lists.
-use Rattle.laws_print.proofs.Common.{◌≡◌, Bool, true, false, List, [], ◌∷◌, Some, refl, sym, ap, ◌∙◌, TokenKind, Kind, User, Runas, Cmnd, Atom, Member, AreSome}
-use Rattle.laws_print.proofs.Common.{Piece, atom_of, user_atom, host_atom, IsMember, AreMembers, IsUser, IsListMember, read_back, IsSameMember, AllSame}
-use Rattle.laws_print.proofs.Common.{Written, flat, Shows}
-use Rattle.sudoers_line.specs.declared.node.Kind.TheVariants.{Host}
-use Rattle.sudoers_line.specs.declared.node.Atom.TheVariants as atom
-use Rattle.laws_print.proofs.ListTokens.{user_kind, user_units, list_units, IsListAtom, member_tokens, list_tokens, one_member}
-use Rattle.laws_print.proofs.Shown.{mark_read}
-use Rattle.laws_print.proofs.Users.{user_read}
-use Rattle.laws_print.proofs.HostNames.{host_read}
-use Rattle.laws_print.proofs.Many.{Read, many_read}
+use Rattle.laws_print.proofs.Common.{◌≡◌, Bool, true, false, List, [], ◌∷◌, Some, refl, sym, ap, ◌∙◌, TokenKind, Kind, User, Runas, Cmnd, Atom, Member, IsNonEmptyListOf}
+use Rattle.laws_print.proofs.Common.{TokenWithBytes, atom_of_token, user_atom_of_token, host_atom_of_token, IsMember, AreMembers, IsWritableUserAtom, IsMemberWithoutDigests, atom_read_back, IsMemberSameButPlace, AreItemsPairwiseRelated}
+use Rattle.laws_print.proofs.Common.{WrittenToken, text_of_units, AreTokensShownBy}
+use Rattle.sudoers_grammar.specs.declared.node.Kind.TheVariants.{Host}
+use Rattle.sudoers_grammar.specs.declared.node.Atom.TheVariants as atom
+use Rattle.laws_print.proofs.ListTokens.{token_kind_of_atom, units_of_user_atom, units_of_list_atom, IsAtomOfListKind, tokens_of_list_member, tokens_of_member_list, tokens_of_member}
+use Rattle.laws_print.proofs.Shown.{punctuation_of_byte_is_its_mark}
+use Rattle.laws_print.proofs.Users.{user_units_are_read_back}
+use Rattle.laws_print.proofs.HostNames.{writable_host_is_read_back}
+use Rattle.laws_print.proofs.Many.{ReadsAsSameThing, many_read}
 
 -- A user is read back as it is.
-pub user_back : (a : Atom) → IsUser a → read_back a ≡ a
-user_back atom.All is = refl
-user_back (atom.Alias name) is = refl
-user_back (atom.Name name) is = refl
-user_back (atom.Id n) is = refl
-user_back (atom.Group name) is = refl
-user_back (atom.GroupId n) is = refl
-user_back (atom.NonUnix name) is = refl
-user_back (atom.Netgroup name) is = refl
-user_back a is = absurd is
+pub writable_user_atom_reads_back_as_itself : (a : Atom) → IsWritableUserAtom a → atom_read_back a ≡ a
+writable_user_atom_reads_back_as_itself atom.All is = refl
+writable_user_atom_reads_back_as_itself (atom.Alias name) is = refl
+writable_user_atom_reads_back_as_itself (atom.Name name) is = refl
+writable_user_atom_reads_back_as_itself (atom.Id n) is = refl
+writable_user_atom_reads_back_as_itself (atom.Group name) is = refl
+writable_user_atom_reads_back_as_itself (atom.GroupId n) is = refl
+writable_user_atom_reads_back_as_itself (atom.NonUnix name) is = refl
+writable_user_atom_reads_back_as_itself (atom.Netgroup name) is = refl
+writable_user_atom_reads_back_as_itself a is = absurd is
 
-users_read : (first : Bool) (a : Atom) → IsUser a → user_atom (user_kind a) (flat (user_units first a)) ≡ Some (read_back a)
-users_read first a is = user_read first a is ∙ ap Some (sym (user_back a is))
+user_atom_is_read_back : (first : Bool) (a : Atom) → IsWritableUserAtom a → user_atom_of_token (token_kind_of_atom a) (text_of_units (units_of_user_atom first a)) ≡ Some (atom_read_back a)
+user_atom_is_read_back first a is = user_units_are_read_back first a is ∙ ap Some (sym (writable_user_atom_reads_back_as_itself a is))
 
-atom_read : (k : Kind) (first : Bool) (a : Atom) (t : Piece) → IsListAtom k a → t.kind ≡ user_kind a → t.text ≡ flat (list_units k first a) → atom_of k t ≡ Some (read_back a)
-unfolding atom_of
-atom_read User first a t is kind text = ap (λ (c : TokenKind). user_atom c t.text) kind ∙ ap (user_atom (user_kind a)) text ∙ users_read first a is
-atom_read Runas first a t is kind text = ap (λ (c : TokenKind). user_atom c t.text) kind ∙ ap (user_atom (user_kind a)) text ∙ users_read first a is
-atom_read Host first a t is kind text = ap (λ (c : TokenKind). host_atom c t.text) kind ∙ ap (host_atom (user_kind a)) text ∙ host_read a is
-atom_read Cmnd first a t is kind text = absurd is
+list_atom_is_read_back : (k : Kind) (first : Bool) (a : Atom) (t : TokenWithBytes) → IsAtomOfListKind k a → t.kind ≡ token_kind_of_atom a → t.text ≡ text_of_units (units_of_list_atom k first a) → atom_of_token k t ≡ Some (atom_read_back a)
+unfolding atom_of_token
+list_atom_is_read_back User first a t is kind text = ap (λ (c : TokenKind). user_atom_of_token c t.text) kind ∙ ap (user_atom_of_token (token_kind_of_atom a)) text ∙ user_atom_is_read_back first a is
+list_atom_is_read_back Runas first a t is kind text = ap (λ (c : TokenKind). user_atom_of_token c t.text) kind ∙ ap (user_atom_of_token (token_kind_of_atom a)) text ∙ user_atom_is_read_back first a is
+list_atom_is_read_back Host first a t is kind text = ap (λ (c : TokenKind). host_atom_of_token c t.text) kind ∙ ap (host_atom_of_token (token_kind_of_atom a)) text ∙ writable_host_is_read_back a is
+list_atom_is_read_back Cmnd first a t is kind text = absurd is
 
 -- A member is as it is listed.
-abbrev pub IsListed : Kind → Member → Type 0
-IsListed k m = IsListMember (IsListAtom k) m
+abbrev pub IsListedMemberOfKind : Kind → Member → Type 0
+IsListedMemberOfKind k m = IsMemberWithoutDigests (IsAtomOfListKind k) m
 
-member_read : (k : Kind) (spaced first : Bool) (m : Member) (negated : Bool) (tail : List Written) (ts : List Piece) → negated ≡ m.negated → IsListed k m → Shows (member_tokens k spaced first negated m.atom tail) ts → Read (IsMember k) IsSameMember ts m tail
-member_read k spaced first m false tail [] same is shows = absurd shows
-member_read k spaced first m false tail (t ∷ ts) same is shows = record {
-  thing = record { start = t.start; stop = t.stop; negated = false; digests = []; atom = read_back m.atom };
+list_member_is_read_back : (k : Kind) (spaced first : Bool) (m : Member) (negated : Bool) (tail : List WrittenToken) (ts : List TokenWithBytes) → negated ≡ m.negated → IsListedMemberOfKind k m → AreTokensShownBy (tokens_of_list_member k spaced first negated m.atom tail) ts → ReadsAsSameThing (IsMember k) IsMemberSameButPlace ts m tail
+list_member_is_read_back k spaced first m false tail [] same is shows = absurd shows
+list_member_is_read_back k spaced first m false tail (t ∷ ts) same is shows = record {
+  thing = record { start = t.start; stop = t.stop; negated = false; digests = []; atom = atom_read_back m.atom };
   rest = ts;
   is = record {
     signs = [];
     last = t;
     split = refl;
     are_signs = tt;
-    atom = atom_read k first m.atom t is.is shows.0 shows.1;
+    atom = list_atom_is_read_back k first m.atom t is.is shows.0 shows.1;
     negated = refl;
     digests = refl;
     start = refl;
@@ -55,17 +55,17 @@ member_read k spaced first m false tail (t ∷ ts) same is shows = record {
   alike = record { negated = sym same; digests = is.no_digests; atom = refl };
   behind = shows.2;
 }
-member_read k spaced first m true tail [] same is shows = absurd shows
-member_read k spaced first m true tail (s ∷ []) same is shows = absurd shows.2
-member_read k spaced first m true tail (s ∷ t ∷ ts) same is shows = record {
-  thing = record { start = s.start; stop = t.stop; negated = true; digests = []; atom = read_back m.atom };
+list_member_is_read_back k spaced first m true tail [] same is shows = absurd shows
+list_member_is_read_back k spaced first m true tail (s ∷ []) same is shows = absurd shows.2
+list_member_is_read_back k spaced first m true tail (s ∷ t ∷ ts) same is shows = record {
+  thing = record { start = s.start; stop = t.stop; negated = true; digests = []; atom = atom_read_back m.atom };
   rest = ts;
   is = record {
     signs = s ∷ [];
     last = t;
     split = refl;
-    are_signs = (mark_read 33 s shows.0 shows.1, tt);
-    atom = atom_read k false m.atom t is.is shows.2.0 shows.2.1;
+    are_signs = (punctuation_of_byte_is_its_mark 33 s shows.0 shows.1, tt);
+    atom = list_atom_is_read_back k false m.atom t is.is shows.2.0 shows.2.1;
     negated = refl;
     digests = refl;
     start = refl;
@@ -76,7 +76,7 @@ member_read k spaced first m true tail (s ∷ t ∷ ts) same is shows = record {
 }
 
 -- A list is read as it is written.
-pub list_read : (k : Kind) (spaced first : Bool) (ms : List Member) (tail : List Written) (ts : List Piece) → AreSome (IsListed k) ms → Shows (list_tokens k spaced first ms tail) ts → Read (AreMembers k) (AllSame IsSameMember) ts ms tail
-list_read k spaced first =
-    many_read 44 false (IsMember k) IsSameMember (IsListed k) (one_member k true false) (λ n t us is. member_read k true false n n.negated t us refl is)
-    (one_member k spaced first) (λ n t us is. member_read k spaced first n n.negated t us refl is)
+pub member_list_is_read_back : (k : Kind) (spaced first : Bool) (ms : List Member) (tail : List WrittenToken) (ts : List TokenWithBytes) → IsNonEmptyListOf (IsListedMemberOfKind k) ms → AreTokensShownBy (tokens_of_member_list k spaced first ms tail) ts → ReadsAsSameThing (AreMembers k) (AreItemsPairwiseRelated IsMemberSameButPlace) ts ms tail
+member_list_is_read_back k spaced first =
+    many_read 44 false (IsMember k) IsMemberSameButPlace (IsListedMemberOfKind k) (tokens_of_member k true false) (λ n t us is. list_member_is_read_back k true false n n.negated t us refl is)
+    (tokens_of_member k spaced first) (λ n t us is. list_member_is_read_back k spaced first n n.negated t us refl is)

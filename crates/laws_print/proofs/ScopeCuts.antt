@@ -1,69 +1,69 @@
 -- The word `Defaults` and a scope as they are written are tokens of the line.
 use Rattle.laws_print.proofs.Common.{◌≡◌, ℕ, Bool, true, false, ◌||◌, List, [], ◌∷◌, ◌++◌, take, Some, None, refl, sym, ap, subst, arith, ◌==◌}
-use Rattle.laws_print.proofs.Common.{if◌then◌else◌, nat_lt, Option, codes, AllByRecursion, Context, ScopeList, LineUnit, Byte, begun, defaults_word}
-use Rattle.laws_print.proofs.Common.{run_size, is_path_byte, is_word_byte, is_include_byte, TokenKind, begins_scope, bytes_eq, behind, forms}
-use Rattle.laws_print.proofs.Common.{parameter_forms, is_among, line_mode, found, include_at, passed, Kind, User, Runas, Cmnd, Args, Atom, Member}
-use Rattle.laws_print.proofs.Common.{Scope, Param, AreSome, IsScopeAtom, IsScopeCommand, IsScopeMember, IsWritableScope, IsWritableParam, Written, flat}
-use Rattle.laws_print.proofs.Common.{line_of, Place, At, Start, BehindDefaults, Begins, Stands, onto, IsCut, AreCut, AreCutFrom}
-use Rattle.sudoers_text.specs.declared.part.Rule.TheVariants as rule
+use Rattle.laws_print.proofs.Common.{if◌then◌else◌, nat_lt, Option, codes, AllByRecursion, TokenContext, ScopeMemberKind, LineUnit, Byte, bytes_after_leading_gap, defaults_word}
+use Rattle.laws_print.proofs.Common.{leading_run_size, is_path_byte, is_word_byte, is_byte_of_include_path, TokenKind, has_host_or_runas_sign, bytes_eq, context_after_token, token_forms_in_context}
+use Rattle.laws_print.proofs.Common.{token_forms_of_parameters, is_among, line_mode, kind_and_size_of_token, hash_include_size_at, units_with_those_of_bytes, Kind, User, Runas, Cmnd, Args, Atom, Member}
+use Rattle.laws_print.proofs.Common.{Scope, Param, IsNonEmptyListOf, IsScopeCommandAtom, IsScopeCommandMember, IsWritableScopeMember, IsWritableScope, IsWritableParam, WrittenToken, text_of_units}
+use Rattle.laws_print.proofs.Common.{line_of_written_tokens, TokenPlace, At, Start, BehindDefaults, AllowsIdBehindUnits, StandsAtPlace, units_put_onto, IsTokenCut, AreTokensCut, AreTokensCutFromPlace}
+use Rattle.sudoers_text.specs.declared.part.ByteRunKind.TheVariants as rule
 use Rattle.sudoers_text.specs.declared.token.TokenKind.TheVariants as kind
 use Rattle.sudoers_text.specs.declared.token.Mode.TheVariants as mode
-use Rattle.sudoers_text.specs.declared.context.Context.TheVariants as context
-use Rattle.sudoers_text.specs.declared.context.ScopeList.TheVariants as scope
-use Rattle.sudoers_text.specs.Piece.{first_word_size}
-use Rattle.sudoers_text.specs.Word.{at_includes}
-use Rattle.sudoers_line.specs.declared.node.Kind.TheVariants.{Host}
-use Rattle.sudoers_line.specs.declared.node.Atom.TheVariants as atom
-use Rattle.laws_print.proofs.Written.{IsCutFrom}
-use Rattle.laws_print.proofs.Units.{plain}
-use Rattle.laws_print.proofs.ListTokens.{mark, word}
-use Rattle.laws_print.proofs.CommandTokens.{path_token, args_tokens, atom_tokens, signed_tokens}
-use Rattle.laws_print.proofs.DefaultsTokens.{sign_byte, more_scope_commands, scope_list, scope_tokens, defaults_tokens, all_params}
-use Rattle.laws_print.proofs.Lines.{cut_from}
-use Rattle.laws_print.proofs.Words.{plain_stands, size_by, run_closed, run_stands, plain_begins, plain_by, bytes_fit, run_clean}
+use Rattle.sudoers_text.specs.declared.context.TokenContext.TheVariants as context
+use Rattle.sudoers_text.specs.declared.context.ScopeMemberKind.TheVariants as scope
+use Rattle.sudoers_text.specs.Piece.{leading_keyword_size}
+use Rattle.sudoers_text.specs.Word.{at_include_words}
+use Rattle.sudoers_grammar.specs.declared.node.Kind.TheVariants.{Host}
+use Rattle.sudoers_grammar.specs.declared.node.Atom.TheVariants as atom
+use Rattle.laws_print.proofs.Written.{IsTokenCutFromPlace}
+use Rattle.laws_print.proofs.Units.{units_of_plain_bytes}
+use Rattle.laws_print.proofs.ListTokens.{token_of_mark, token_of_plain_word}
+use Rattle.laws_print.proofs.CommandTokens.{token_of_path, tokens_of_arguments, tokens_of_command_atom, tokens_of_signed_command}
+use Rattle.laws_print.proofs.DefaultsTokens.{mark_byte_of_scope_kind, tokens_of_further_scope_commands, tokens_of_scope_list, tokens_of_scope, tokens_of_defaults_line, tokens_of_parameters}
+use Rattle.laws_print.proofs.Lines.{cut_tokens_are_cut_from_place}
+use Rattle.laws_print.proofs.Words.{plain_byte_stands_as_unit, size_of_matching_byte_or_pair, text_of_units_is_closed, units_stand_in_text, plain_byte_begins_token, plain_test_byte_is_plain, bytes_passing_test_are_units_of_it, text_of_units_has_no_nul}
 use Rattle.laws_print.proofs.Cuts.{EndsWord}
-use Rattle.laws_print.proofs.UserCuts.{EndsUser, sign_cut}
-use Rattle.laws_print.proofs.ListCuts.{scope_lists, list_cut}
-use Rattle.laws_print.proofs.CommandCuts.{pattern_cut, weak_end, literal_there, mark_there, alias_there, is_literal}
-use Rattle.laws_print.proofs.ParamLists.{member_params, own_params, params_cut, params_part}
+use Rattle.laws_print.proofs.UserCuts.{EndsUser, found_punctuation_is_cut}
+use Rattle.laws_print.proofs.ListCuts.{scope_context_is_list_context, member_list_before_tail_is_cut}
+use Rattle.laws_print.proofs.CommandCuts.{path_pattern_is_cut_as_path, word_end_by_percent_is_word_end, literal_there, mark_there, alias_there, is_literal_word}
+use Rattle.laws_print.proofs.ParamLists.{context_behind_scope_member_takes_parameters, parameter_context_is_one, parameter_list_is_cut, text_of_parameters_begins_with_blank}
 
 -- ---- commands of a scope
 
 -- What follows a member of a scope.
-pub record ScopeTail (list : ScopeList) (tail : List Written) : Type 0 where
-  pub cut : AreCut (context.BehindMember list) false tail
-  pub user : EndsUser (line_of tail)
-  pub word : EndsWord true (line_of tail)
-  pub path : size_by is_path_byte (line_of tail) ≡ 0
+pub record IsCutBehindScopeMember (list : ScopeMemberKind) (tail : List WrittenToken) : Type 0 where
+  pub cut : AreTokensCut (context.BehindMember list) false tail
+  pub user : EndsUser (line_of_written_tokens tail)
+  pub word : EndsWord true (line_of_written_tokens tail)
+  pub path : size_of_matching_byte_or_pair is_path_byte (line_of_written_tokens tail) ≡ 0
 
-word_there : (item : Bool) (text : List ℕ) (tail : List Written) → is_literal text ≡ true → ScopeTail scope.Commands tail → IsCut (context.Scope scope.Commands) item false kind.Word (plain text) (line_of tail)
-word_there item text tail is ends = literal_there (context.Scope scope.Commands) refl item text (line_of tail) is (weak_end false (line_of tail) ends.word)
+literal_word_in_scope_is_cut : (item : Bool) (text : List ℕ) (tail : List WrittenToken) → is_literal_word text ≡ true → IsCutBehindScopeMember scope.Commands tail → IsTokenCut (context.Scope scope.Commands) item false kind.Word (units_of_plain_bytes text) (line_of_written_tokens tail)
+literal_word_in_scope_is_cut item text tail is ends = literal_there (context.Scope scope.Commands) refl item text (line_of_written_tokens tail) is (word_end_by_percent_is_word_end false (line_of_written_tokens tail) ends.word)
 
-atom_then : (spaced item : Bool) (a : Atom) (tail : List Written) → IsScopeAtom a → ScopeTail scope.Commands tail → AreCut (context.Scope scope.Commands) item (atom_tokens spaced a tail)
-atom_then spaced item atom.All tail is ends = (false, word_there item (codes "ALL") tail refl ends, ends.cut)
-atom_then spaced item (atom.Alias name) tail is ends = (false, alias_there (context.Scope scope.Commands) refl item name (line_of tail) is.0 ends.word, ends.cut)
-atom_then spaced item atom.Listing tail is ends = (false, word_there item (codes "list") tail refl ends, ends.cut)
-atom_then spaced item (atom.Path path args) tail is ends =
-    subst (λ (x : Args). AreCut (context.Scope scope.Commands) item (path_token spaced path ∷ args_tokens x tail)) (sym is.1)
-    (false, pattern_cut (context.Scope scope.Commands) path (line_of tail) item refl is.0.0 is.0.1 ends.path, ends.cut)
-atom_then spaced item (atom.Sudoedit args) tail is ends =
-    subst (λ (x : Args). AreCut (context.Scope scope.Commands) item (word (codes "sudoedit") spaced ∷ args_tokens x tail)) (sym is)
-    (false, word_there item (codes "sudoedit") tail refl ends, ends.cut)
-atom_then spaced item a tail is ends = absurd is
+scope_command_atom_before_tail_is_cut : (spaced item : Bool) (a : Atom) (tail : List WrittenToken) → IsScopeCommandAtom a → IsCutBehindScopeMember scope.Commands tail → AreTokensCut (context.Scope scope.Commands) item (tokens_of_command_atom spaced a tail)
+scope_command_atom_before_tail_is_cut spaced item atom.All tail is ends = (false, literal_word_in_scope_is_cut item (codes "ALL") tail refl ends, ends.cut)
+scope_command_atom_before_tail_is_cut spaced item (atom.Alias name) tail is ends = (false, alias_there (context.Scope scope.Commands) refl item name (line_of_written_tokens tail) is.0 ends.word, ends.cut)
+scope_command_atom_before_tail_is_cut spaced item atom.Listing tail is ends = (false, literal_word_in_scope_is_cut item (codes "list") tail refl ends, ends.cut)
+scope_command_atom_before_tail_is_cut spaced item (atom.Path path args) tail is ends =
+    subst (λ (x : Args). AreTokensCut (context.Scope scope.Commands) item (token_of_path spaced path ∷ tokens_of_arguments x tail)) (sym is.1)
+    (false, path_pattern_is_cut_as_path (context.Scope scope.Commands) path (line_of_written_tokens tail) item refl is.0.0 is.0.1 ends.path, ends.cut)
+scope_command_atom_before_tail_is_cut spaced item (atom.Sudoedit args) tail is ends =
+    subst (λ (x : Args). AreTokensCut (context.Scope scope.Commands) item (token_of_plain_word (codes "sudoedit") spaced ∷ tokens_of_arguments x tail)) (sym is)
+    (false, literal_word_in_scope_is_cut item (codes "sudoedit") tail refl ends, ends.cut)
+scope_command_atom_before_tail_is_cut spaced item a tail is ends = absurd is
 
-signed_then : (spaced item negated : Bool) (a : Atom) (tail : List Written) → IsScopeAtom a → ScopeTail scope.Commands tail → AreCut (context.Scope scope.Commands) item (signed_tokens spaced negated a tail)
-signed_then spaced item false a tail is ends = atom_then spaced item a tail is ends
-signed_then spaced item true a tail is ends = (item, mark_there (context.Scope scope.Commands) refl item item 33 (line_of (atom_tokens false a tail)) refl refl (λ before begins. begins), atom_then false item a tail is ends)
+signed_scope_command_before_tail_is_cut : (spaced item negated : Bool) (a : Atom) (tail : List WrittenToken) → IsScopeCommandAtom a → IsCutBehindScopeMember scope.Commands tail → AreTokensCut (context.Scope scope.Commands) item (tokens_of_signed_command spaced negated a tail)
+signed_scope_command_before_tail_is_cut spaced item false a tail is ends = scope_command_atom_before_tail_is_cut spaced item a tail is ends
+signed_scope_command_before_tail_is_cut spaced item true a tail is ends = (item, mark_there (context.Scope scope.Commands) refl item item 33 (line_of_written_tokens (tokens_of_command_atom false a tail)) refl refl (λ before begins. begins), scope_command_atom_before_tail_is_cut false item a tail is ends)
 
-more_tail : (ms : List Member) (tail : List Written) → AllByRecursion IsScopeCommand ms → ScopeTail scope.Commands tail → ScopeTail scope.Commands (more_scope_commands ms tail)
-more_tail [] tail all ends = ends
-more_tail (m ∷ ms) tail all ends =
-    let next = signed_tokens true m.negated m.atom (more_scope_commands ms tail) in
+further_scope_commands_are_cut : (ms : List Member) (tail : List WrittenToken) → AllByRecursion IsScopeCommandMember ms → IsCutBehindScopeMember scope.Commands tail → IsCutBehindScopeMember scope.Commands (tokens_of_further_scope_commands ms tail)
+further_scope_commands_are_cut [] tail all ends = ends
+further_scope_commands_are_cut (m ∷ ms) tail all ends =
+    let next = tokens_of_signed_command true m.negated m.atom (tokens_of_further_scope_commands ms tail) in
     record {
       cut = (
         true,
-        sign_cut (context.BehindMember scope.Commands) false true 44 (line_of next) (λ i first. refl) refl (λ before begins none. refl),
-        signed_then true true m.negated m.atom (more_scope_commands ms tail) all.0.is (more_tail ms tail all.1 ends),
+        found_punctuation_is_cut (context.BehindMember scope.Commands) false true 44 (line_of_written_tokens next) (λ i first. refl) refl (λ before begins none. refl),
+        signed_scope_command_before_tail_is_cut true true m.negated m.atom (tokens_of_further_scope_commands ms tail) all.0.is (further_scope_commands_are_cut ms tail all.1 ends),
       );
       user = record { word = refl; hash = refl; colon = refl; digit = refl };
       word = record { ends = refl; apart = λ h. (refl, refl) };
@@ -73,156 +73,156 @@ more_tail (m ∷ ms) tail all ends =
 -- ---- scopes
 
 -- the list of a scope, and the place behind its sign
-abbrev pub list_kind : Kind → ScopeList
-list_kind Cmnd = scope.Commands
-list_kind k = scope.Names
+abbrev pub member_kind_of_scope_list : Kind → ScopeMemberKind
+member_kind_of_scope_list Cmnd = scope.Commands
+member_kind_of_scope_list k = scope.Names
 
-abbrev pub sign_item : Kind → Bool
-sign_item User = true
-sign_item Runas = true
-sign_item Host = false
-sign_item Cmnd = false
+abbrev pub is_id_allowed_behind_scope_mark : Kind → Bool
+is_id_allowed_behind_scope_mark User = true
+is_id_allowed_behind_scope_mark Runas = true
+is_id_allowed_behind_scope_mark Host = false
+is_id_allowed_behind_scope_mark Cmnd = false
 
-list_then : (k : Kind) (ms : List Member) (tail : List Written) → AreSome (IsScopeMember k) ms → ScopeTail (list_kind k) tail → AreCut (context.Scope (list_kind k)) (sign_item k) (scope_list k ms tail)
-list_then User ms tail all ends = list_cut User (context.Scope scope.Names) (context.BehindMember scope.Names) scope_lists true false false ms tail all refl ends.user ends.cut
-list_then Runas ms tail all ends = list_cut Runas (context.Scope scope.Names) (context.BehindMember scope.Names) scope_lists true false false ms tail all refl ends.user ends.cut
-list_then Host ms tail all ends = list_cut Host (context.Scope scope.Names) (context.BehindMember scope.Names) scope_lists false false false ms tail all tt ends.user ends.cut
-list_then Cmnd [] tail all ends = absurd all
-list_then Cmnd (m ∷ ms) tail all ends = signed_then false false m.negated m.atom (more_scope_commands ms tail) all.0.is (more_tail ms tail all.1 ends)
+scope_list_before_tail_is_cut : (k : Kind) (ms : List Member) (tail : List WrittenToken) → IsNonEmptyListOf (IsWritableScopeMember k) ms → IsCutBehindScopeMember (member_kind_of_scope_list k) tail → AreTokensCut (context.Scope (member_kind_of_scope_list k)) (is_id_allowed_behind_scope_mark k) (tokens_of_scope_list k ms tail)
+scope_list_before_tail_is_cut User ms tail all ends = member_list_before_tail_is_cut User (context.Scope scope.Names) (context.BehindMember scope.Names) scope_context_is_list_context true false false ms tail all refl ends.user ends.cut
+scope_list_before_tail_is_cut Runas ms tail all ends = member_list_before_tail_is_cut Runas (context.Scope scope.Names) (context.BehindMember scope.Names) scope_context_is_list_context true false false ms tail all refl ends.user ends.cut
+scope_list_before_tail_is_cut Host ms tail all ends = member_list_before_tail_is_cut Host (context.Scope scope.Names) (context.BehindMember scope.Names) scope_context_is_list_context false false false ms tail all tt ends.user ends.cut
+scope_list_before_tail_is_cut Cmnd [] tail all ends = absurd all
+scope_list_before_tail_is_cut Cmnd (m ∷ ms) tail all ends = signed_scope_command_before_tail_is_cut false false m.negated m.atom (tokens_of_further_scope_commands ms tail) all.0.is (further_scope_commands_are_cut ms tail all.1 ends)
 
 -- the sign of a scope behind `Defaults`
-sign_cut_behind : (b : ℕ) (next : Bool) (rest : List ℕ) → is_include_byte b ≡ true → ((i first : Bool) → found (forms context.ScopeSign) i first (b ∷ rest) ≡ (kind.Punct, 1)) → ((before : List LineUnit) → begun before ≡ defaults_word → Begins next (Byte b ∷ before))
-    → IsCutFrom context.ScopeSign BehindDefaults (At next) kind.Punct (Byte b ∷ []) rest
-sign_cut_behind b next rest is told leaves =
-    let plain = plain_by is_include_byte refl b is in
-    let there = plain_begins b rest plain in
+scope_sign_behind_defaults_is_cut : (b : ℕ) (next : Bool) (rest : List ℕ) → is_byte_of_include_path b ≡ true → ((i first : Bool) → kind_and_size_of_token (token_forms_in_context context.ScopeSign) i first (b ∷ rest) ≡ (kind.Punct, 1)) → ((before : List LineUnit) → bytes_after_leading_gap before ≡ defaults_word → AllowsIdBehindUnits next (Byte b ∷ before))
+    → IsTokenCutFromPlace context.ScopeSign BehindDefaults (At next) kind.Punct (Byte b ∷ []) rest
+scope_sign_behind_defaults_is_cut b next rest is told leaves =
+    let plain = plain_test_byte_is_plain is_byte_of_include_path refl b is in
+    let there = plain_byte_begins_token b rest plain in
     record {
       found = λ i first possible. told i first;
       no_gap = there.no_gap;
       more = there.more;
       some = omega arith;
-      closed = run_closed is_include_byte refl (Byte b ∷ []) (is, tt);
-      clean = run_clean is_include_byte refl (Byte b ∷ []) (is, tt);
+      closed = text_of_units_is_closed is_byte_of_include_path refl (Byte b ∷ []) (is, tt);
+      clean = text_of_units_has_no_nul is_byte_of_include_path refl (Byte b ∷ []) (is, tt);
       leaves = λ before stands. rw plain.backslash (leaves before stands);
-      stand = λ before more stands. (plain_stands before b (rest ++ more) plain, tt);
+      stand = λ before more stands. (plain_byte_stands_as_unit before b (rest ++ more) plain, tt);
       leaves_units = leaves;
     }
 
-sign_there : (k : Kind) (rest : List ℕ) → IsCutFrom context.ScopeSign BehindDefaults (At (sign_item k)) kind.Punct (Byte (sign_byte k) ∷ []) rest
-sign_there User rest = sign_cut_behind 58 true rest refl (λ i first. refl) (λ before stands is. refl)
-sign_there Runas rest = sign_cut_behind 62 true rest refl (λ i first. refl) (λ before stands is. ap (λ (t : List ℕ). bytes_eq t defaults_word) stands)
-sign_there Host rest = sign_cut_behind 64 false rest refl (λ i first. refl) (λ before stands none. absurd (cc))
-sign_there Cmnd rest = sign_cut_behind 33 false rest refl (λ i first. refl) (λ before stands none. absurd (cc))
+scope_mark_of_kind_is_cut : (k : Kind) (rest : List ℕ) → IsTokenCutFromPlace context.ScopeSign BehindDefaults (At (is_id_allowed_behind_scope_mark k)) kind.Punct (Byte (mark_byte_of_scope_kind k) ∷ []) rest
+scope_mark_of_kind_is_cut User rest = scope_sign_behind_defaults_is_cut 58 true rest refl (λ i first. refl) (λ before stands is. refl)
+scope_mark_of_kind_is_cut Runas rest = scope_sign_behind_defaults_is_cut 62 true rest refl (λ i first. refl) (λ before stands is. ap (λ (t : List ℕ). bytes_eq t defaults_word) stands)
+scope_mark_of_kind_is_cut Host rest = scope_sign_behind_defaults_is_cut 64 false rest refl (λ i first. refl) (λ before stands none. absurd (cc))
+scope_mark_of_kind_is_cut Cmnd rest = scope_sign_behind_defaults_is_cut 33 false rest refl (λ i first. refl) (λ before stands none. absurd (cc))
 
-sign_behind : (k : Kind) (rest : List ℕ) → behind context.ScopeSign kind.Punct (flat (plain (sign_byte k ∷ []))) rest ≡ context.Scope (list_kind k)
-sign_behind User rest = refl
-sign_behind k rest = refl
+scope_context_follows_scope_mark : (k : Kind) (rest : List ℕ) → context_after_token context.ScopeSign kind.Punct (text_of_units (units_of_plain_bytes (mark_byte_of_scope_kind k ∷ []))) rest ≡ context.Scope (member_kind_of_scope_list k)
+scope_context_follows_scope_mark User rest = refl
+scope_context_follows_scope_mark k rest = refl
 
 -- ---- the word
 
-or_true : (x : Bool) → (x || true) ≡ true
-or_true true = refl
-or_true false = refl
+disjunction_with_true_is_true : (x : Bool) → (x || true) ≡ true
+disjunction_with_true_is_true true = refl
+disjunction_with_true_is_true false = refl
 
 -- What follows `Defaults` is a blank or a scope's sign.
 abbrev pub FollowsDefaults : List ℕ → Type 0
-FollowsDefaults rest = (run_size rule.Word (codes "Defaults" ++ rest) == 8 || begins_scope rest) ≡ true
+FollowsDefaults rest = (leading_run_size rule.Word (codes "Defaults" ++ rest) == 8 || has_host_or_runas_sign rest) ≡ true
 
-blank_follows : (rest : List ℕ) → FollowsDefaults (32 ∷ rest)
-unfolding run_size
-blank_follows rest = refl
+blank_follows_defaults : (rest : List ℕ) → FollowsDefaults (32 ∷ rest)
+unfolding leading_run_size
+blank_follows_defaults rest = refl
 
-sign_follows : (k : Kind) (rest : List ℕ) → FollowsDefaults (sign_byte k ∷ rest)
-unfolding run_size
-sign_follows User rest = refl
-sign_follows Cmnd rest = refl
-sign_follows Host rest = or_true (run_size rule.Word (codes "Defaults" ++ (64 ∷ rest)) == 8)
-sign_follows Runas rest = or_true (run_size rule.Word (codes "Defaults" ++ (62 ∷ rest)) == 8)
+scope_mark_follows_defaults : (k : Kind) (rest : List ℕ) → FollowsDefaults (mark_byte_of_scope_kind k ∷ rest)
+unfolding leading_run_size
+scope_mark_follows_defaults User rest = refl
+scope_mark_follows_defaults Cmnd rest = refl
+scope_mark_follows_defaults Host rest = disjunction_with_true_is_true (leading_run_size rule.Word (codes "Defaults" ++ (64 ∷ rest)) == 8)
+scope_mark_follows_defaults Runas rest = disjunction_with_true_is_true (leading_run_size rule.Word (codes "Defaults" ++ (62 ∷ rest)) == 8)
 
-word_found : (i first : Bool) (rest : List ℕ) → FollowsDefaults rest → found (forms (context.First mode.Parameters)) i first (codes "Defaults" ++ rest) ≡ (kind.Word, 8)
-unfolding include_at first_word_size
-word_found i first rest follows = ap (λ (t : Bool). by_test t) follows
+defaults_keyword_is_found_as_word : (i first : Bool) (rest : List ℕ) → FollowsDefaults rest → kind_and_size_of_token (token_forms_in_context (context.First mode.Parameters)) i first (codes "Defaults" ++ rest) ≡ (kind.Word, 8)
+unfolding hash_include_size_at leading_keyword_size
+defaults_keyword_is_found_as_word i first rest follows = ap (λ (t : Bool). by_test t) follows
   where
     by_test : Bool → TokenKind × ℕ
     by_test t =
-        if nat_lt 0 (if t then 8 else (if is_among at_includes (take (run_size rule.Word (codes "Defaults" ++ rest)) (codes "Defaults" ++ rest)) then run_size rule.Word (codes "Defaults" ++ rest) else 0))
-        then (kind.Word, if t then 8 else (if is_among at_includes (take (run_size rule.Word (codes "Defaults" ++ rest)) (codes "Defaults" ++ rest)) then run_size rule.Word (codes "Defaults" ++ rest) else 0))
-        else found parameter_forms i first (codes "Defaults" ++ rest)
+        if nat_lt 0 (if t then 8 else (if is_among at_include_words (take (leading_run_size rule.Word (codes "Defaults" ++ rest)) (codes "Defaults" ++ rest)) then leading_run_size rule.Word (codes "Defaults" ++ rest) else 0))
+        then (kind.Word, if t then 8 else (if is_among at_include_words (take (leading_run_size rule.Word (codes "Defaults" ++ rest)) (codes "Defaults" ++ rest)) then leading_run_size rule.Word (codes "Defaults" ++ rest) else 0))
+        else kind_and_size_of_token token_forms_of_parameters i first (codes "Defaults" ++ rest)
 
 -- The line is read as parameters.
-pub defaults_mode : (rest : List ℕ) → FollowsDefaults rest → line_mode (codes "Defaults" ++ rest) ≡ mode.Parameters
-unfolding line_mode run_size
-defaults_mode rest follows = rw follows refl
+pub mode_behind_defaults_keyword_is_parameters : (rest : List ℕ) → FollowsDefaults rest → line_mode (codes "Defaults" ++ rest) ≡ mode.Parameters
+unfolding line_mode leading_run_size
+mode_behind_defaults_keyword_is_parameters rest follows = rw follows refl
 
-word_cut_first : (next : Place) (rest : List ℕ) → FollowsDefaults rest → ((before : List LineUnit) → before ≡ [] → Stands next (passed before (codes "Defaults"))) → ((before : List LineUnit) → before ≡ [] → Stands next (onto (plain (codes "Defaults")) before))
-    → IsCutFrom (context.First mode.Parameters) Start next kind.Word (plain (codes "Defaults")) rest
-word_cut_first next rest follows leaves leaves_units =
-    let fits = bytes_fit is_word_byte (codes "Defaults") refl in
-    let there = plain_begins 68 (codes "efaults" ++ rest) (plain_by is_word_byte refl 68 refl) in
+first_defaults_keyword_is_cut : (next : TokenPlace) (rest : List ℕ) → FollowsDefaults rest → ((before : List LineUnit) → before ≡ [] → StandsAtPlace next (units_with_those_of_bytes before (codes "Defaults"))) → ((before : List LineUnit) → before ≡ [] → StandsAtPlace next (units_put_onto (units_of_plain_bytes (codes "Defaults")) before))
+    → IsTokenCutFromPlace (context.First mode.Parameters) Start next kind.Word (units_of_plain_bytes (codes "Defaults")) rest
+first_defaults_keyword_is_cut next rest follows leaves leaves_units =
+    let fits = bytes_passing_test_are_units_of_it is_word_byte (codes "Defaults") refl in
+    let there = plain_byte_begins_token 68 (codes "efaults" ++ rest) (plain_test_byte_is_plain is_word_byte refl 68 refl) in
     record {
-      found = λ i first possible. word_found i first rest follows;
+      found = λ i first possible. defaults_keyword_is_found_as_word i first rest follows;
       no_gap = there.no_gap;
       more = there.more;
       some = omega arith;
-      closed = run_closed is_word_byte refl (plain (codes "Defaults")) fits;
+      closed = text_of_units_is_closed is_word_byte refl (units_of_plain_bytes (codes "Defaults")) fits;
       clean = refl;
       leaves = leaves;
-      stand = λ before more stands. run_stands is_word_byte refl before (plain (codes "Defaults")) (rest ++ more) fits;
+      stand = λ before more stands. units_stand_in_text is_word_byte refl before (units_of_plain_bytes (codes "Defaults")) (rest ++ more) fits;
       leaves_units = leaves_units;
     }
 
-word_alone : (rest : List ℕ) → FollowsDefaults rest → IsCutFrom (context.First mode.Parameters) Start (At false) kind.Word (plain (codes "Defaults")) rest
-word_alone rest follows = word_cut_first (At false) rest follows (λ before is none. absurd (cc)) (λ before is none. absurd (cc))
+defaults_keyword_before_blank_is_cut : (rest : List ℕ) → FollowsDefaults rest → IsTokenCutFromPlace (context.First mode.Parameters) Start (At false) kind.Word (units_of_plain_bytes (codes "Defaults")) rest
+defaults_keyword_before_blank_is_cut rest follows = first_defaults_keyword_is_cut (At false) rest follows (λ before is none. absurd (cc)) (λ before is none. absurd (cc))
 
-word_before : (rest : List ℕ) → FollowsDefaults rest → IsCutFrom (context.First mode.Parameters) Start BehindDefaults kind.Word (plain (codes "Defaults")) rest
-word_before rest follows =
-    word_cut_first BehindDefaults rest follows (λ before is. ap (λ (us : List LineUnit). begun (passed us (codes "Defaults"))) is) (λ before is. ap (λ (us : List LineUnit). begun (onto (plain (codes "Defaults")) us)) is)
+defaults_keyword_before_scope_is_cut : (rest : List ℕ) → FollowsDefaults rest → IsTokenCutFromPlace (context.First mode.Parameters) Start BehindDefaults kind.Word (units_of_plain_bytes (codes "Defaults")) rest
+defaults_keyword_before_scope_is_cut rest follows =
+    first_defaults_keyword_is_cut BehindDefaults rest follows (λ before is. ap (λ (us : List LineUnit). bytes_after_leading_gap (units_with_those_of_bytes us (codes "Defaults"))) is) (λ before is. ap (λ (us : List LineUnit). bytes_after_leading_gap (units_put_onto (units_of_plain_bytes (codes "Defaults")) us)) is)
 
-word_behind : (k : Kind) (rest : List ℕ) → behind (context.First mode.Parameters) kind.Word (flat (plain (codes "Defaults"))) (sign_byte k ∷ rest) ≡ context.ScopeSign
-word_behind User rest = refl
-word_behind k rest = refl
+scope_mark_context_follows_defaults : (k : Kind) (rest : List ℕ) → context_after_token (context.First mode.Parameters) kind.Word (text_of_units (units_of_plain_bytes (codes "Defaults"))) (mark_byte_of_scope_kind k ∷ rest) ≡ context.ScopeSign
+scope_mark_context_follows_defaults User rest = refl
+scope_mark_context_follows_defaults k rest = refl
 
 -- ---- the line
 
-params_tail : (list : ScopeList) (ps : List Param) → AreSome IsWritableParam ps → ScopeTail list (all_params ps)
-params_tail list ps all =
-    let part = params_part ps all in
+parameters_are_cut_behind_scope_member : (list : ScopeMemberKind) (ps : List Param) → IsNonEmptyListOf IsWritableParam ps → IsCutBehindScopeMember list (tokens_of_parameters ps)
+parameters_are_cut_behind_scope_member list ps all =
+    let part = text_of_parameters_begins_with_blank ps all in
     record {
-      cut = params_cut (context.BehindMember list) (member_params list) false ps all;
+      cut = parameter_list_is_cut (context.BehindMember list) (context_behind_scope_member_takes_parameters list) false ps all;
       user = subst EndsUser (sym part.1) (record { word = refl; hash = refl; colon = refl; digit = refl });
       word = subst (EndsWord true) (sym part.1) (record { ends = refl; apart = λ h. (refl, refl) });
-      path = ap (size_by is_path_byte) part.1;
+      path = ap (size_of_matching_byte_or_pair is_path_byte) part.1;
     }
 
-defaults_follows : (scope : Option Scope) (ps : List Param) → AreSome IsWritableParam ps → FollowsDefaults (line_of (scope_tokens scope (all_params ps)))
-defaults_follows None ps all = let part = params_part ps all in subst FollowsDefaults (sym part.1) (blank_follows part.0)
-defaults_follows (Some s) ps all = sign_follows s.kind (line_of (scope_list s.kind s.members (all_params ps)))
+scope_and_parameters_follow_defaults : (scope : Option Scope) (ps : List Param) → IsNonEmptyListOf IsWritableParam ps → FollowsDefaults (line_of_written_tokens (tokens_of_scope scope (tokens_of_parameters ps)))
+scope_and_parameters_follow_defaults None ps all = let part = text_of_parameters_begins_with_blank ps all in subst FollowsDefaults (sym part.1) (blank_follows_defaults part.0)
+scope_and_parameters_follow_defaults (Some s) ps all = scope_mark_follows_defaults s.kind (line_of_written_tokens (tokens_of_scope_list s.kind s.members (tokens_of_parameters ps)))
 
 -- A Defaults line is cut into its tokens.
-pub defaults_cut : (scope : Option Scope) (ps : List Param) → IsWritableScope scope → AreSome IsWritableParam ps → AreCutFrom (context.First mode.Parameters) Start (defaults_tokens scope ps)
-defaults_cut None ps is all =
-    let part = params_part ps all in
-    let rest = line_of (all_params ps) in
-    let there : behind (context.First mode.Parameters) kind.Word (flat (plain (codes "Defaults"))) rest ≡ context.Parameter = ap (λ (t : List ℕ). behind (context.First mode.Parameters) kind.Word (codes "Defaults") t) part.1 in (
+pub defaults_line_is_cut : (scope : Option Scope) (ps : List Param) → IsWritableScope scope → IsNonEmptyListOf IsWritableParam ps → AreTokensCutFromPlace (context.First mode.Parameters) Start (tokens_of_defaults_line scope ps)
+defaults_line_is_cut None ps is all =
+    let part = text_of_parameters_begins_with_blank ps all in
+    let rest = line_of_written_tokens (tokens_of_parameters ps) in
+    let there : context_after_token (context.First mode.Parameters) kind.Word (text_of_units (units_of_plain_bytes (codes "Defaults"))) rest ≡ context.Parameter = ap (λ (t : List ℕ). context_after_token (context.First mode.Parameters) kind.Word (codes "Defaults") t) part.1 in (
       At false,
-      word_alone rest (defaults_follows None ps all),
-      subst (λ (c : Context). AreCutFrom c (At false) (all_params ps)) (sym there) (cut_from (all_params ps) context.Parameter false (params_cut context.Parameter own_params false ps all)),
+      defaults_keyword_before_blank_is_cut rest (scope_and_parameters_follow_defaults None ps all),
+      subst (λ (c : TokenContext). AreTokensCutFromPlace c (At false) (tokens_of_parameters ps)) (sym there) (cut_tokens_are_cut_from_place (tokens_of_parameters ps) context.Parameter false (parameter_list_is_cut context.Parameter parameter_context_is_one false ps all)),
       refl,
     )
-defaults_cut (Some s) ps is all =
-    let list = scope_list s.kind s.members (all_params ps) in
-    let signed = mark (sign_byte s.kind) false ∷ list in (
+defaults_line_is_cut (Some s) ps is all =
+    let list = tokens_of_scope_list s.kind s.members (tokens_of_parameters ps) in
+    let signed = token_of_mark (mark_byte_of_scope_kind s.kind) false ∷ list in (
       BehindDefaults,
-      word_before (line_of signed) (defaults_follows (Some s) ps all),
-      subst (λ (c : Context). AreCutFrom c BehindDefaults signed) (sym (word_behind s.kind (line_of list))) (
-        At (sign_item s.kind),
-        sign_there s.kind (line_of list),
-        subst (λ (c : Context). AreCutFrom c (At (sign_item s.kind)) list) (sym (sign_behind s.kind (line_of list)))
-            (cut_from list (context.Scope (list_kind s.kind)) (sign_item s.kind) (list_then s.kind s.members (all_params ps) is (params_tail (list_kind s.kind) ps all))),
+      defaults_keyword_before_scope_is_cut (line_of_written_tokens signed) (scope_and_parameters_follow_defaults (Some s) ps all),
+      subst (λ (c : TokenContext). AreTokensCutFromPlace c BehindDefaults signed) (sym (scope_mark_context_follows_defaults s.kind (line_of_written_tokens list))) (
+        At (is_id_allowed_behind_scope_mark s.kind),
+        scope_mark_of_kind_is_cut s.kind (line_of_written_tokens list),
+        subst (λ (c : TokenContext). AreTokensCutFromPlace c (At (is_id_allowed_behind_scope_mark s.kind)) list) (sym (scope_context_follows_scope_mark s.kind (line_of_written_tokens list)))
+            (cut_tokens_are_cut_from_place list (context.Scope (member_kind_of_scope_list s.kind)) (is_id_allowed_behind_scope_mark s.kind) (scope_list_before_tail_is_cut s.kind s.members (tokens_of_parameters ps) is (parameters_are_cut_behind_scope_member (member_kind_of_scope_list s.kind) ps all))),
         refl,
       ),
       refl,
     )
 
-pub defaults_line_mode : (scope : Option Scope) (ps : List Param) → AreSome IsWritableParam ps → line_mode (line_of (defaults_tokens scope ps)) ≡ mode.Parameters
-defaults_line_mode scope ps all = defaults_mode (line_of (scope_tokens scope (all_params ps))) (defaults_follows scope ps all)
+pub mode_of_defaults_tokens_is_parameters : (scope : Option Scope) (ps : List Param) → IsNonEmptyListOf IsWritableParam ps → line_mode (line_of_written_tokens (tokens_of_defaults_line scope ps)) ≡ mode.Parameters
+mode_of_defaults_tokens_is_parameters scope ps all = mode_behind_defaults_keyword_is_parameters (line_of_written_tokens (tokens_of_scope scope (tokens_of_parameters ps))) (scope_and_parameters_follow_defaults scope ps all)

@@ -1,135 +1,135 @@
 -- A user specification as it is written is cut into its tokens, and read as this specification.
 use Rattle.laws_print.proofs.Common.{◌≡◌, ℕ, Bool, true, false, List, [], ◌∷◌, refl, sym, subst, AllByRecursion, Mode, line_mode, HasTokens, User}
-use Rattle.laws_print.proofs.Common.{Member, CmdSpec, HostGroup, Piece, pieces, AreMembers, IsCmdSpec, IsHostGroup, Separated, Reads, printed_line}
-use Rattle.laws_print.proofs.Common.{IsUserMember, IsHostMember, AreSome, IsCmd, IsGroup, IsSameMember, IsSameCmd, AllSame, ReadsBack, Written, line_of}
-use Rattle.laws_print.proofs.Common.{placed, AreCut, Shows}
+use Rattle.laws_print.proofs.Common.{Member, CmdSpec, HostGroup, TokenWithBytes, tokens_with_bytes, AreMembers, IsCmdSpec, IsHostGroup, Separated, Reads, printed_line}
+use Rattle.laws_print.proofs.Common.{IsWritableUserMember, IsWritableHostMember, IsNonEmptyListOf, IsWritableCommand, IsWritableHostGroup, IsMemberSameButPlace, IsCommandSameButPlace, AreItemsPairwiseRelated, LineReadsBackAs, WrittenToken, line_of_written_tokens}
+use Rattle.laws_print.proofs.Common.{tokens_placed_from_offset, AreTokensCut, AreTokensShownBy}
 use Rattle.sudoers_text.specs.declared.token.Mode.TheVariants as mode
-use Rattle.sudoers_text.specs.declared.context.Context.TheVariants as context
-use Rattle.sudoers_line.specs.declared.node.Kind.TheVariants.{Host}
-use Rattle.sudoers_line.specs.Node as node
-use Rattle.laws_print.specs.Same.{IsSameGroup}
-use Rattle.laws_print.proofs.ListTokens.{mark, member_tokens, more_tokens, list_tokens}
-use Rattle.laws_print.proofs.Whole.{written_line, IsWhole}
-use Rattle.laws_print.proofs.Shown.{shows, mark_read}
-use Rattle.laws_print.proofs.UserCuts.{EndsUser, sign_cut, mark_cut}
-use Rattle.laws_print.proofs.ListCuts.{hosts_lists, list_cut}
-use Rattle.laws_print.proofs.ReadLists.{list_read}
-use Rattle.laws_print.proofs.CommandCuts.{TailCut, command_mark}
-use Rattle.laws_print.proofs.CommandLists.{comma_tail, end_cut}
-use Rattle.laws_print.proofs.CmdSpecs.{cmd_cut}
-use Rattle.laws_print.proofs.ReadCmdSpecs.{cmd_read}
-use Rattle.laws_print.proofs.AliasLines.{CutLaw, nothing_left}
-use Rattle.laws_print.proofs.FirstUsers.{users_cut, users_mode, users_begin}
-use Rattle.laws_print.proofs.SpecTokens.{one_cmd, more_cmds, all_cmds, group_tokens, more_groups, all_groups, spec_tokens, spec_text}
-use Rattle.laws_print.proofs.Many.{Read, many_read}
+use Rattle.sudoers_text.specs.declared.context.TokenContext.TheVariants as context
+use Rattle.sudoers_grammar.specs.declared.node.Kind.TheVariants.{Host}
+use Rattle.sudoers_grammar.specs.Node as node
+use Rattle.laws_print.specs.Same.{IsHostGroupSameButPlace}
+use Rattle.laws_print.proofs.ListTokens.{token_of_mark, tokens_of_list_member, tokens_of_further_members, tokens_of_member_list}
+use Rattle.laws_print.proofs.Whole.{cut_tokens_are_logical_line, IsLogicalLineWithoutNul}
+use Rattle.laws_print.proofs.Shown.{placed_tokens_of_line_show_written, punctuation_of_byte_is_its_mark}
+use Rattle.laws_print.proofs.UserCuts.{EndsUser, found_punctuation_is_cut, punctuation_in_word_list_is_cut}
+use Rattle.laws_print.proofs.ListCuts.{hosts_context_is_list_context, member_list_before_tail_is_cut}
+use Rattle.laws_print.proofs.ReadLists.{member_list_is_read_back}
+use Rattle.laws_print.proofs.CommandCuts.{IsCutBehindCommand, punctuation_is_cut_among_commands}
+use Rattle.laws_print.proofs.CommandLists.{comma_before_commands_is_cut_behind_command, no_tokens_are_cut_behind_command}
+use Rattle.laws_print.proofs.CmdSpecs.{command_spec_is_cut}
+use Rattle.laws_print.proofs.ReadCmdSpecs.{command_spec_is_read_back}
+use Rattle.laws_print.proofs.AliasLines.{CutTokensAreTokensOfLine, no_written_token_shows_line_end}
+use Rattle.laws_print.proofs.FirstUsers.{first_user_list_before_tail_is_cut, mode_of_user_list_line_is_commands, user_list_tokens_begin_spec}
+use Rattle.laws_print.proofs.SpecTokens.{tokens_of_one_command_spec, tokens_of_further_command_specs, tokens_of_command_spec_list, tokens_of_host_group, tokens_of_further_host_groups, tokens_of_host_group_list, tokens_of_spec_line, text_of_spec_tokens_is_printed_line}
+use Rattle.laws_print.proofs.Many.{ReadsAsSameThing, many_read}
 
 -- ---- the tokens
 
-more_cmds_tail : (cs : List CmdSpec) (tail : List Written) → AllByRecursion IsCmd cs → TailCut tail → TailCut (more_cmds cs tail)
-more_cmds_tail [] tail all cut = cut
-more_cmds_tail (c ∷ cs) tail all cut =
-    comma_tail (one_cmd true c (more_cmds cs tail)) (cmd_cut true c.runas c.options c.tags c.member (more_cmds cs tail) all.0.runas all.0.member (more_cmds_tail cs tail all.1 cut))
+further_command_specs_are_cut : (cs : List CmdSpec) (tail : List WrittenToken) → AllByRecursion IsWritableCommand cs → IsCutBehindCommand tail → IsCutBehindCommand (tokens_of_further_command_specs cs tail)
+further_command_specs_are_cut [] tail all cut = cut
+further_command_specs_are_cut (c ∷ cs) tail all cut =
+    comma_before_commands_is_cut_behind_command (tokens_of_one_command_spec true c (tokens_of_further_command_specs cs tail)) (command_spec_is_cut true c.runas c.options c.tags c.member (tokens_of_further_command_specs cs tail) all.0.runas all.0.member (further_command_specs_are_cut cs tail all.1 cut))
 
-cmds_cut : (cs : List CmdSpec) (tail : List Written) → AreSome IsCmd cs → TailCut tail → AreCut context.Commands true (all_cmds cs tail)
-cmds_cut [] tail all cut = absurd all
-cmds_cut (c ∷ cs) tail all cut = cmd_cut true c.runas c.options c.tags c.member (more_cmds cs tail) all.0.runas all.0.member (more_cmds_tail cs tail all.1 cut)
+command_spec_list_is_cut : (cs : List CmdSpec) (tail : List WrittenToken) → IsNonEmptyListOf IsWritableCommand cs → IsCutBehindCommand tail → AreTokensCut context.Commands true (tokens_of_command_spec_list cs tail)
+command_spec_list_is_cut [] tail all cut = absurd all
+command_spec_list_is_cut (c ∷ cs) tail all cut = command_spec_is_cut true c.runas c.options c.tags c.member (tokens_of_further_command_specs cs tail) all.0.runas all.0.member (further_command_specs_are_cut cs tail all.1 cut)
 
-equals_ends : (rest : List ℕ) → EndsUser (32 ∷ rest)
-equals_ends rest = record { word = refl; hash = refl; colon = refl; digit = refl }
+blank_ends_user : (rest : List ℕ) → EndsUser (32 ∷ rest)
+blank_ends_user rest = record { word = refl; hash = refl; colon = refl; digit = refl }
 
-group_cut : (item : Bool) (g : HostGroup) (tail : List Written) → IsGroup g → TailCut tail → AreCut context.Hosts item (group_tokens g tail)
-group_cut item g tail is cut =
-    let cmds = all_cmds g.commands tail in
-    list_cut Host context.Hosts context.Hosts hosts_lists item true false g.hosts (mark 61 true ∷ cmds) is.hosts tt (equals_ends _)
-    (true, mark_cut context.Hosts false true 61 (line_of cmds) refl refl (λ before begins is. refl), cmds_cut g.commands tail is.commands cut)
+host_group_before_tail_is_cut : (item : Bool) (g : HostGroup) (tail : List WrittenToken) → IsWritableHostGroup g → IsCutBehindCommand tail → AreTokensCut context.Hosts item (tokens_of_host_group g tail)
+host_group_before_tail_is_cut item g tail is cut =
+    let cmds = tokens_of_command_spec_list g.commands tail in
+    member_list_before_tail_is_cut Host context.Hosts context.Hosts hosts_context_is_list_context item true false g.hosts (token_of_mark 61 true ∷ cmds) is.hosts tt (blank_ends_user _)
+    (true, punctuation_in_word_list_is_cut context.Hosts false true 61 (line_of_written_tokens cmds) refl refl (λ before begins is. refl), command_spec_list_is_cut g.commands tail is.commands cut)
 
 -- Behind a colon stand hosts.
-colon_tail : (next : List Written) → AreCut context.Hosts true next → TailCut (mark 58 true ∷ next)
-colon_tail next more = record {
-  commands = (true, command_mark false true 58 (line_of next) refl refl (λ before begins is. refl), more);
-  arguments = (true, sign_cut context.Arguments false true 58 (line_of next) (λ i first. refl) refl (λ before begins is. refl), more);
+colon_before_hosts_is_cut_behind_command : (next : List WrittenToken) → AreTokensCut context.Hosts true next → IsCutBehindCommand (token_of_mark 58 true ∷ next)
+colon_before_hosts_is_cut_behind_command next more = record {
+  commands = (true, punctuation_is_cut_among_commands false true 58 (line_of_written_tokens next) refl refl (λ before begins is. refl), more);
+  arguments = (true, found_punctuation_is_cut context.Arguments false true 58 (line_of_written_tokens next) (λ i first. refl) refl (λ before begins is. refl), more);
   ends = record { argument = record { path = refl; quote = refl }; word = record { ends = refl; apart = λ h. (refl, refl) } };
 }
 
-more_groups_tail : (gs : List HostGroup) (tail : List Written) → AllByRecursion IsGroup gs → TailCut tail → TailCut (more_groups gs tail)
-more_groups_tail [] tail all cut = cut
-more_groups_tail (g ∷ gs) tail all cut = colon_tail (group_tokens g (more_groups gs tail)) (group_cut true g (more_groups gs tail) all.0 (more_groups_tail gs tail all.1 cut))
+further_host_groups_are_cut : (gs : List HostGroup) (tail : List WrittenToken) → AllByRecursion IsWritableHostGroup gs → IsCutBehindCommand tail → IsCutBehindCommand (tokens_of_further_host_groups gs tail)
+further_host_groups_are_cut [] tail all cut = cut
+further_host_groups_are_cut (g ∷ gs) tail all cut = colon_before_hosts_is_cut_behind_command (tokens_of_host_group g (tokens_of_further_host_groups gs tail)) (host_group_before_tail_is_cut true g (tokens_of_further_host_groups gs tail) all.0 (further_host_groups_are_cut gs tail all.1 cut))
 
-groups_cut : (gs : List HostGroup) → AreSome IsGroup gs → AreCut context.Hosts false (all_groups gs [])
-groups_cut [] all = absurd all
-groups_cut (g ∷ gs) all = group_cut false g (more_groups gs []) all.0 (more_groups_tail gs [] all.1 end_cut)
+host_group_list_is_cut : (gs : List HostGroup) → IsNonEmptyListOf IsWritableHostGroup gs → AreTokensCut context.Hosts false (tokens_of_host_group_list gs [])
+host_group_list_is_cut [] all = absurd all
+host_group_list_is_cut (g ∷ gs) all = host_group_before_tail_is_cut false g (tokens_of_further_host_groups gs []) all.0 (further_host_groups_are_cut gs [] all.1 no_tokens_are_cut_behind_command)
 
 -- a blank stands before the hosts
-hosts_part : (hosts : List Member) (tail : List Written) → AreSome IsHostMember hosts → (rest : List ℕ) × (line_of (list_tokens Host true false hosts tail) ≡ 32 ∷ rest)
-hosts_part [] tail all = absurd all
-hosts_part (m ∷ ms) tail all = by_sign m.negated
+text_of_host_list_begins_with_blank : (hosts : List Member) (tail : List WrittenToken) → IsNonEmptyListOf IsWritableHostMember hosts → (rest : List ℕ) × (line_of_written_tokens (tokens_of_member_list Host true false hosts tail) ≡ 32 ∷ rest)
+text_of_host_list_begins_with_blank [] tail all = absurd all
+text_of_host_list_begins_with_blank (m ∷ ms) tail all = by_sign m.negated
   where
-    by_sign : (negated : Bool) → (rest : List ℕ) × (line_of (member_tokens Host true false negated m.atom (more_tokens Host ms tail)) ≡ 32 ∷ rest)
+    by_sign : (negated : Bool) → (rest : List ℕ) × (line_of_written_tokens (tokens_of_list_member Host true false negated m.atom (tokens_of_further_members Host ms tail)) ≡ 32 ∷ rest)
     by_sign true = (_, refl)
     by_sign false = (_, refl)
 
-groups_part : (gs : List HostGroup) → AreSome IsGroup gs → (rest : List ℕ) × (line_of (all_groups gs []) ≡ 32 ∷ rest)
-groups_part [] all = absurd all
-groups_part (g ∷ gs) all = hosts_part g.hosts (mark 61 true ∷ all_cmds g.commands (more_groups gs [])) all.0.hosts
+text_of_host_groups_begins_with_blank : (gs : List HostGroup) → IsNonEmptyListOf IsWritableHostGroup gs → (rest : List ℕ) × (line_of_written_tokens (tokens_of_host_group_list gs []) ≡ 32 ∷ rest)
+text_of_host_groups_begins_with_blank [] all = absurd all
+text_of_host_groups_begins_with_blank (g ∷ gs) all = text_of_host_list_begins_with_blank g.hosts (token_of_mark 61 true ∷ tokens_of_command_spec_list g.commands (tokens_of_further_host_groups gs [])) all.0.hosts
 
-groups_end : (gs : List HostGroup) → AreSome IsGroup gs → EndsUser (line_of (all_groups gs []))
-groups_end gs all = let part = groups_part gs all in subst EndsUser (sym part.1) (equals_ends part.0)
+host_groups_end_user : (gs : List HostGroup) → IsNonEmptyListOf IsWritableHostGroup gs → EndsUser (line_of_written_tokens (tokens_of_host_group_list gs []))
+host_groups_end_user gs all = let part = text_of_host_groups_begins_with_blank gs all in subst EndsUser (sym part.1) (blank_ends_user part.0)
 
-spec_cut : (users : List Member) (groups : List HostGroup) → AreSome IsUserMember users → AreSome IsGroup groups → AreCut (context.First mode.Commands) true (spec_tokens users groups)
-spec_cut [] groups all some = absurd all
-spec_cut (m ∷ ms) groups all some = users_cut m ms (all_groups groups []) all (groups_end groups some) (groups_cut groups some)
+spec_line_is_cut : (users : List Member) (groups : List HostGroup) → IsNonEmptyListOf IsWritableUserMember users → IsNonEmptyListOf IsWritableHostGroup groups → AreTokensCut (context.First mode.Commands) true (tokens_of_spec_line users groups)
+spec_line_is_cut [] groups all some = absurd all
+spec_line_is_cut (m ∷ ms) groups all some = first_user_list_before_tail_is_cut m ms (tokens_of_host_group_list groups []) all (host_groups_end_user groups some) (host_group_list_is_cut groups some)
 
-spec_mode : (users : List Member) (groups : List HostGroup) → AreSome IsUserMember users → AreSome IsGroup groups → line_mode (line_of (spec_tokens users groups)) ≡ mode.Commands
-spec_mode [] groups all some = absurd all
-spec_mode (m ∷ ms) groups all some =
-    let part = groups_part groups some in
-    users_mode m ms (all_groups groups []) all (groups_end groups some) (record { byte = 32; rest = part.0; whole = part.1; is = refl })
+mode_of_spec_line_is_commands : (users : List Member) (groups : List HostGroup) → IsNonEmptyListOf IsWritableUserMember users → IsNonEmptyListOf IsWritableHostGroup groups → line_mode (line_of_written_tokens (tokens_of_spec_line users groups)) ≡ mode.Commands
+mode_of_spec_line_is_commands [] groups all some = absurd all
+mode_of_spec_line_is_commands (m ∷ ms) groups all some =
+    let part = text_of_host_groups_begins_with_blank groups some in
+    mode_of_user_list_line_is_commands m ms (tokens_of_host_group_list groups []) all (host_groups_end_user groups some) (record { byte = 32; rest = part.0; whole = part.1; is = refl })
 
 -- ---- what they say
 
-cmds_read : (cs : List CmdSpec) (tail : List Written) (ts : List Piece) → AreSome IsCmd cs → Shows (all_cmds cs tail) ts → Read (Separated 44 IsCmdSpec) (AllSame IsSameCmd) ts cs tail
-cmds_read = many_read 44 false IsCmdSpec IsSameCmd IsCmd (one_cmd true) (cmd_read true) (one_cmd true) (cmd_read true)
+command_spec_list_is_read_back : (cs : List CmdSpec) (tail : List WrittenToken) (ts : List TokenWithBytes) → IsNonEmptyListOf IsWritableCommand cs → AreTokensShownBy (tokens_of_command_spec_list cs tail) ts → ReadsAsSameThing (Separated 44 IsCmdSpec) (AreItemsPairwiseRelated IsCommandSameButPlace) ts cs tail
+command_spec_list_is_read_back = many_read 44 false IsCmdSpec IsCommandSameButPlace IsWritableCommand (tokens_of_one_command_spec true) (command_spec_is_read_back true) (tokens_of_one_command_spec true) (command_spec_is_read_back true)
 
-group_read : (g : HostGroup) (tail : List Written) (ts : List Piece) → IsGroup g → Shows (group_tokens g tail) ts → Read IsHostGroup IsSameGroup ts g tail
-group_read g tail ts is shown =
-    let hosts = list_read Host true false g.hosts (mark 61 true ∷ all_cmds g.commands tail) ts is.hosts shown in
+host_group_is_read_back : (g : HostGroup) (tail : List WrittenToken) (ts : List TokenWithBytes) → IsWritableHostGroup g → AreTokensShownBy (tokens_of_host_group g tail) ts → ReadsAsSameThing IsHostGroup IsHostGroupSameButPlace ts g tail
+host_group_is_read_back g tail ts is shown =
+    let hosts = member_list_is_read_back Host true false g.hosts (token_of_mark 61 true ∷ tokens_of_command_spec_list g.commands tail) ts is.hosts shown in
     by_rest hosts.thing hosts.rest hosts.is hosts.alike hosts.behind
   where
-    by_rest : (hosts : List Member) (rest : List Piece) → AreMembers Host ts hosts rest → AllSame IsSameMember g.hosts hosts → Shows (mark 61 true ∷ all_cmds g.commands tail) rest → Read IsHostGroup IsSameGroup ts g tail
+    by_rest : (hosts : List Member) (rest : List TokenWithBytes) → AreMembers Host ts hosts rest → AreItemsPairwiseRelated IsMemberSameButPlace g.hosts hosts → AreTokensShownBy (token_of_mark 61 true ∷ tokens_of_command_spec_list g.commands tail) rest → ReadsAsSameThing IsHostGroup IsHostGroupSameButPlace ts g tail
     by_rest hosts [] are same shown = absurd shown
     by_rest hosts (e ∷ rest) are same shown =
-        let cmds = cmds_read g.commands tail rest is.commands shown.2 in
+        let cmds = command_spec_list_is_read_back g.commands tail rest is.commands shown.2 in
         record {
           thing = record { hosts = hosts; commands = cmds.thing };
           rest = cmds.rest;
-          is = record { behind_hosts = e ∷ rest; equals = e; behind = rest; hosts = are; split = refl; is_equals = mark_read 61 e shown.0 shown.1; commands = cmds.is };
+          is = record { behind_hosts = e ∷ rest; equals = e; behind = rest; hosts = are; split = refl; is_equals = punctuation_of_byte_is_its_mark 61 e shown.0 shown.1; commands = cmds.is };
           alike = record { hosts = same; commands = cmds.alike };
           behind = cmds.behind;
         }
 
-groups_read : (gs : List HostGroup) (ts : List Piece) → AreSome IsGroup gs → Shows (all_groups gs []) ts → Read (Separated 58 IsHostGroup) (AllSame IsSameGroup) ts gs []
-groups_read gs ts = many_read 58 true IsHostGroup IsSameGroup IsGroup group_tokens group_read group_tokens group_read gs [] ts
+host_group_list_is_read_back : (gs : List HostGroup) (ts : List TokenWithBytes) → IsNonEmptyListOf IsWritableHostGroup gs → AreTokensShownBy (tokens_of_host_group_list gs []) ts → ReadsAsSameThing (Separated 58 IsHostGroup) (AreItemsPairwiseRelated IsHostGroupSameButPlace) ts gs []
+host_group_list_is_read_back gs ts = many_read 58 true IsHostGroup IsHostGroupSameButPlace IsWritableHostGroup tokens_of_host_group host_group_is_read_back tokens_of_host_group host_group_is_read_back gs [] ts
 
 -- what is said of some tokens
-pub record SaysSpec (ts : List Piece) (users : List Member) (groups : List HostGroup) : Type 0 where
+pub record ReadsAsSpecNode (ts : List TokenWithBytes) (users : List Member) (groups : List HostGroup) : Type 0 where
   pub others : List Member
   pub places : List HostGroup
   pub reads : Reads ts (node.Spec others places)
-  pub same_users : AllSame IsSameMember users others
-  pub same_groups : AllSame IsSameGroup groups places
+  pub same_users : AreItemsPairwiseRelated IsMemberSameButPlace users others
+  pub same_groups : AreItemsPairwiseRelated IsHostGroupSameButPlace groups places
 
-spec_says : (users : List Member) (groups : List HostGroup) (ts : List Piece) → AreSome IsUserMember users → AreSome IsGroup groups → Shows (spec_tokens users groups) ts → SaysSpec ts users groups
-spec_says [] groups ts all some shown = absurd all
-spec_says (m ∷ ms) groups ts all some shown =
-    let users = list_read User false true (m ∷ ms) (all_groups groups []) ts all shown in
-    let places = groups_read groups users.rest some users.behind in
+spec_tokens_read_as_node : (users : List Member) (groups : List HostGroup) (ts : List TokenWithBytes) → IsNonEmptyListOf IsWritableUserMember users → IsNonEmptyListOf IsWritableHostGroup groups → AreTokensShownBy (tokens_of_spec_line users groups) ts → ReadsAsSpecNode ts users groups
+spec_tokens_read_as_node [] groups ts all some shown = absurd all
+spec_tokens_read_as_node (m ∷ ms) groups ts all some shown =
+    let users = member_list_is_read_back User false true (m ∷ ms) (tokens_of_host_group_list groups []) ts all shown in
+    let places = host_group_list_is_read_back groups users.rest some users.behind in
     record {
       others = users.thing;
       places = places.thing;
       reads = (
         places.rest,
-        record { behind = users.rest; begins = users_begin m ms (all_groups groups []) ts all shown; users = users.is; groups = places.is },
-        nothing_left places.rest places.behind,
+        record { behind = users.rest; begins = user_list_tokens_begin_spec m ms (tokens_of_host_group_list groups []) ts all shown; users = users.is; groups = places.is },
+        no_written_token_shows_line_end places.rest places.behind,
       );
       same_users = users.alike;
       same_groups = places.alike;
@@ -138,20 +138,20 @@ spec_says (m ∷ ms) groups ts all some shown =
 -- ---- the line
 
 -- A user specification is read as it is printed, and its line is one logical line.
-pub spec_read : CutLaw → (users : List Member) (groups : List HostGroup) → AreSome IsUserMember users → AreSome IsGroup groups → ReadsBack (printed_line (node.Spec users groups)) (node.Spec users groups)
-spec_read law users groups all some =
-    let ps = spec_tokens users groups in
-    let says = spec_says users groups (pieces (line_of ps) (placed 0 ps)) all some (shows ps) in
-    subst (λ (bytes : List ℕ). ReadsBack bytes (node.Spec users groups)) (spec_text users groups all some) (record {
+pub printed_spec_line_reads_back : CutTokensAreTokensOfLine → (users : List Member) (groups : List HostGroup) → IsNonEmptyListOf IsWritableUserMember users → IsNonEmptyListOf IsWritableHostGroup groups → LineReadsBackAs (printed_line (node.Spec users groups)) (node.Spec users groups)
+printed_spec_line_reads_back law users groups all some =
+    let ps = tokens_of_spec_line users groups in
+    let says = spec_tokens_read_as_node users groups (tokens_with_bytes (line_of_written_tokens ps) (tokens_placed_from_offset 0 ps)) all some (placed_tokens_of_line_show_written ps) in
+    subst (λ (bytes : List ℕ). LineReadsBackAs bytes (node.Spec users groups)) (text_of_spec_tokens_is_printed_line users groups all some) (record {
       read = node.Spec says.others says.places;
       reads = record {
-        tokens = placed 0 ps;
-        has = subst (λ (m : Mode). HasTokens m (line_of ps) (placed 0 ps)) (sym (spec_mode users groups all some)) (law mode.Commands ps (spec_cut users groups all some));
+        tokens = tokens_placed_from_offset 0 ps;
+        has = subst (λ (m : Mode). HasTokens m (line_of_written_tokens ps) (tokens_placed_from_offset 0 ps)) (sym (mode_of_spec_line_is_commands users groups all some)) (law mode.Commands ps (spec_line_is_cut users groups all some));
         reads = says.reads;
       };
       same = (says.same_users, says.same_groups);
     })
 
-pub spec_line : (users : List Member) (groups : List HostGroup) → AreSome IsUserMember users → AreSome IsGroup groups → IsWhole (printed_line (node.Spec users groups))
-spec_line users groups all some =
-    subst IsWhole (spec_text users groups all some) (written_line (spec_tokens users groups) (context.First mode.Commands) (spec_cut users groups all some))
+pub printed_spec_line_is_logical_line : (users : List Member) (groups : List HostGroup) → IsNonEmptyListOf IsWritableUserMember users → IsNonEmptyListOf IsWritableHostGroup groups → IsLogicalLineWithoutNul (printed_line (node.Spec users groups))
+printed_spec_line_is_logical_line users groups all some =
+    subst IsLogicalLineWithoutNul (text_of_spec_tokens_is_printed_line users groups all some) (cut_tokens_are_logical_line (tokens_of_spec_line users groups) (context.First mode.Commands) (spec_line_is_cut users groups all some))

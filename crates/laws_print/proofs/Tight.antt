@@ -1,211 +1,211 @@
 -- Texts of bytes and pairs alone: what words and paths are made of.
 use Rattle.laws_print.proofs.Common.{◌≡◌, ◌≢◌, ℕ, zero, suc, ◌≤◌, Bool, true, false, ◌||◌, List, [], ◌∷◌, ◌++◌, length, refl, sym, ap, subst, ◌∙◌}
-use Rattle.laws_print.proofs.Common.{arith, ◌==◌, if◌then◌else◌, nat_lt, not-true, or_parts, and_parts, eqb-true, LineUnit, Pair, Byte, text_of}
-use Rattle.laws_print.proofs.Common.{begins_lf, run_size, is_some_run, or_else, by_backslash, pair_in, past_unit, reach, is_word_byte, is_path_byte}
-use Rattle.laws_print.proofs.Common.{Spelling, loses_backslash, pattern_from, pattern_of, ends_with, flat, is_run_unit, AllByRecursion}
-use Rattle.sudoers_text.specs.Unit.{escaped}
-use Rattle.sudoers_text.specs.declared.part.Rule.TheVariants as rule
-use Rattle.laws_print.proofs.Words.{size_by, pair_escaped}
-use Rattle.laws_print.proofs.Patterns.{IsBare, pair_from, plain_from, ends_past}
-use Rattle.laws_print.proofs.Tidy.{is_tidy_byte, Tidy, done, byte, tidy_by}
+use Rattle.laws_print.proofs.Common.{arith, ◌==◌, if◌then◌else◌, nat_lt, not-true, or_parts, and_parts, eqb-true, LineUnit, Pair, Byte, bytes_of_unit}
+use Rattle.laws_print.proofs.Common.{begins_lf, leading_run_size, is_nonempty_run, first_nonzero_number, backslash_unit_size_by, pair_size_of_unit, reach_past_first_byte, reach_of_units, is_word_byte, is_path_byte}
+use Rattle.laws_print.proofs.Common.{PatternSpelling, is_dropped_backslash_before, pattern_of_remaining_bytes, pattern_of_text, has_last_byte, text_of_units, is_run_unit, AllByRecursion}
+use Rattle.sudoers_text.specs.Unit.{unit_after_backslash}
+use Rattle.sudoers_text.specs.declared.part.ByteRunKind.TheVariants as rule
+use Rattle.laws_print.proofs.Words.{size_of_matching_byte_or_pair, pair_test_implies_no_line_end_byte}
+use Rattle.laws_print.proofs.Patterns.{KeepsBytesAndBackslashes, pattern_begins_with_pair_or_its_byte, pattern_begins_with_plain_byte, last_byte_of_joined_is_of_second}
+use Rattle.laws_print.proofs.Tidy.{is_tidy_byte, IsTidyText, done, byte, byte_passing_test_is_tidy}
 use Rattle.laws_print.proofs.Tidy.{pair as a_pair}
 
 -- units of a run that is read
-abbrev pub AreRunUnits : (ℕ → Bool) → List LineUnit → Type 0
-AreRunUnits test us = AllByRecursion (λ u. is_run_unit test u ≡ true) us
+abbrev pub AreUnitsOfRun : (ℕ → Bool) → List LineUnit → Type 0
+AreUnitsOfRun test us = AllByRecursion (λ u. is_run_unit test u ≡ true) us
 
 -- the units that a run is made of
-pub record RunUnits (test : ℕ → Bool) (text : List ℕ) : Type 0 where
+pub record IsMadeOfRunUnits (test : ℕ → Bool) (text : List ℕ) : Type 0 where
   pub units : List LineUnit
-  pub whole : text ≡ flat units
-  pub each : AreRunUnits test units
+  pub whole : text ≡ text_of_units units
+  pub each : AreUnitsOfRun test units
 
-one_more : (test : ℕ → Bool) (u : LineUnit) (text : List ℕ) → is_run_unit test u ≡ true → RunUnits test text → RunUnits test (text_of u ++ text)
-one_more test u text is run = record { units = u ∷ run.units; whole = ap (λ (t : List ℕ). text_of u ++ t) run.whole; each = (is, run.each) }
+unit_before_run_units_is_run_units : (test : ℕ → Bool) (u : LineUnit) (text : List ℕ) → is_run_unit test u ≡ true → IsMadeOfRunUnits test text → IsMadeOfRunUnits test (bytes_of_unit u ++ text)
+unit_before_run_units_is_run_units test u text is run = record { units = u ∷ run.units; whole = ap (λ (t : List ℕ). bytes_of_unit u ++ t) run.whole; each = (is, run.each) }
 
-no_unit : (n : ℕ) (go : ℕ → ℕ) (m : ℕ) → n ≡ 0 → past_unit n go ≡ suc m → ⊥
-no_unit zero go m e h = absurd (cc)
-no_unit (suc n) go m e h = absurd (omega arith)
+zero_first_size_reaches_nothing : (n : ℕ) (go : ℕ → ℕ) (m : ℕ) → n ≡ 0 → reach_past_first_byte n go ≡ suc m → ⊥
+zero_first_size_reaches_nothing zero go m e h = absurd (cc)
+zero_first_size_reaches_nothing (suc n) go m e h = absurd (omega arith)
 
 -- what a backslash begins before this byte
-lf_size : (c : ℕ) (more : List ℕ) → (c == 10) ≡ true → pair_in (escaped (c ∷ more)) ≡ 0
-lf_size c more e = rw e refl
+pair_size_before_lf_is_zero : (c : ℕ) (more : List ℕ) → (c == 10) ≡ true → pair_size_of_unit (unit_after_backslash (c ∷ more)) ≡ 0
+pair_size_before_lf_is_zero c more e = rw e refl
 
-cr_size : (c : ℕ) (more : List ℕ) → (c == 10) ≡ false → (c == 13) ≡ true → pair_in (escaped (c ∷ more)) ≡ 0
-cr_size c more e f = by_lf (begins_lf more) refl
+pair_size_before_cr_is_zero : (c : ℕ) (more : List ℕ) → (c == 10) ≡ false → (c == 13) ≡ true → pair_size_of_unit (unit_after_backslash (c ∷ more)) ≡ 0
+pair_size_before_cr_is_zero c more e f = by_lf (begins_lf more) refl
   where
-    by_lf : (t : Bool) → begins_lf more ≡ t → pair_in (escaped (c ∷ more)) ≡ 0
+    by_lf : (t : Bool) → begins_lf more ≡ t → pair_size_of_unit (unit_after_backslash (c ∷ more)) ≡ 0
     by_lf true g = rw (e, f, g) refl
     by_lf false g = rw (e, f, g) (rw f refl)
 
-other_size : (c : ℕ) (more : List ℕ) → (c == 10) ≡ false → (c == 13) ≡ false → pair_in (escaped (c ∷ more)) ≡ 2
-other_size c more e f = rw (e, f) (rw f refl)
+pair_size_before_other_byte_is_two : (c : ℕ) (more : List ℕ) → (c == 10) ≡ false → (c == 13) ≡ false → pair_size_of_unit (unit_after_backslash (c ∷ more)) ≡ 2
+pair_size_before_other_byte_is_two c more e f = rw (e, f) (rw f refl)
 
-pair_more : (test : ℕ → Bool) (c : ℕ) (more : List ℕ) → past_unit (or_else 0 (pair_in (escaped (c ∷ more)))) (λ k. reach (size_by test) k (c ∷ more)) ≡ suc (suc (length more)) → (reach (size_by test) 0 more ≡ length more → RunUnits test more) → RunUnits test (92 ∷ c ∷ more)
-pair_more test c more all later = by_lf (c == 10) refl
+reached_pair_and_rest_are_run_units : (test : ℕ → Bool) (c : ℕ) (more : List ℕ) → reach_past_first_byte (first_nonzero_number 0 (pair_size_of_unit (unit_after_backslash (c ∷ more)))) (λ k. reach_of_units (size_of_matching_byte_or_pair test) k (c ∷ more)) ≡ suc (suc (length more)) → (reach_of_units (size_of_matching_byte_or_pair test) 0 more ≡ length more → IsMadeOfRunUnits test more) → IsMadeOfRunUnits test (92 ∷ c ∷ more)
+reached_pair_and_rest_are_run_units test c more all later = by_lf (c == 10) refl
   where
     go : ℕ → ℕ
-    go k = reach (size_by test) k (c ∷ more)
+    go k = reach_of_units (size_of_matching_byte_or_pair test) k (c ∷ more)
 
-    by_cr : (t : Bool) → (c == 13) ≡ t → (c == 10) ≡ false → RunUnits test (92 ∷ c ∷ more)
-    by_cr true e f = absurd (no_unit (pair_in (escaped (c ∷ more))) (λ k. reach (size_by test) k (c ∷ more)) (suc (length more)) (cr_size c more f e) all)
+    by_cr : (t : Bool) → (c == 13) ≡ t → (c == 10) ≡ false → IsMadeOfRunUnits test (92 ∷ c ∷ more)
+    by_cr true e f = absurd (zero_first_size_reaches_nothing (pair_size_of_unit (unit_after_backslash (c ∷ more))) (λ k. reach_of_units (size_of_matching_byte_or_pair test) k (c ∷ more)) (suc (length more)) (pair_size_before_cr_is_zero c more f e) all)
     by_cr false e f =
-        let two : suc (suc (reach (size_by test) 0 more)) ≡ suc (suc (length more)) =
-        ap (λ (n : ℕ). past_unit n (λ k. reach (size_by test) k (c ∷ more))) (sym (other_size c more f e)) ∙ all in
-        one_more test (Pair c) more (rw (e, f) refl) (later (omega (arith, two)))
+        let two : suc (suc (reach_of_units (size_of_matching_byte_or_pair test) 0 more)) ≡ suc (suc (length more)) =
+        ap (λ (n : ℕ). reach_past_first_byte n (λ k. reach_of_units (size_of_matching_byte_or_pair test) k (c ∷ more))) (sym (pair_size_before_other_byte_is_two c more f e)) ∙ all in
+        unit_before_run_units_is_run_units test (Pair c) more (rw (e, f) refl) (later (omega (arith, two)))
 
-    by_lf : (t : Bool) → (c == 10) ≡ t → RunUnits test (92 ∷ c ∷ more)
-    by_lf true e = absurd (no_unit (pair_in (escaped (c ∷ more))) (λ k. reach (size_by test) k (c ∷ more)) (suc (length more)) (lf_size c more e) all)
+    by_lf : (t : Bool) → (c == 10) ≡ t → IsMadeOfRunUnits test (92 ∷ c ∷ more)
+    by_lf true e = absurd (zero_first_size_reaches_nothing (pair_size_of_unit (unit_after_backslash (c ∷ more))) (λ k. reach_of_units (size_of_matching_byte_or_pair test) k (c ∷ more)) (suc (length more)) (pair_size_before_lf_is_zero c more e) all)
     by_lf false e = by_cr (c == 13) refl e
 
 -- what is known of shorter texts
-abbrev pub Shorter : (ℕ → Bool) → ℕ → Type 0
-Shorter test n = (text : List ℕ) → length text ≤ n → reach (size_by test) 0 text ≡ length text → RunUnits test text
+abbrev pub ReachedShortTextsAreRunUnits : (ℕ → Bool) → ℕ → Type 0
+ReachedShortTextsAreRunUnits test n = (text : List ℕ) → length text ≤ n → reach_of_units (size_of_matching_byte_or_pair test) 0 text ≡ length text → IsMadeOfRunUnits test text
 
-backslash_units : (test : ℕ → Bool) (n : ℕ) → Shorter test n → (rest : List ℕ) → length (92 ∷ rest) ≤ suc n → past_unit (or_else 0 (pair_in (escaped rest))) (λ k. reach (size_by test) k rest) ≡ suc (length rest) → RunUnits test (92 ∷ rest)
-backslash_units test n shorter [] fits all = absurd (cc)
-backslash_units test n shorter (c ∷ more) fits all = pair_more test c more all (λ h. shorter more (omega arith) h)
+reached_backslash_text_is_run_units : (test : ℕ → Bool) (n : ℕ) → ReachedShortTextsAreRunUnits test n → (rest : List ℕ) → length (92 ∷ rest) ≤ suc n → reach_past_first_byte (first_nonzero_number 0 (pair_size_of_unit (unit_after_backslash rest))) (λ k. reach_of_units (size_of_matching_byte_or_pair test) k rest) ≡ suc (length rest) → IsMadeOfRunUnits test (92 ∷ rest)
+reached_backslash_text_is_run_units test n shorter [] fits all = absurd (cc)
+reached_backslash_text_is_run_units test n shorter (c ∷ more) fits all = reached_pair_and_rest_are_run_units test c more all (λ h. shorter more (omega arith) h)
 
-byte_units_more : (test : ℕ → Bool) (n b : ℕ) (rest : List ℕ) → Shorter test n → length (b ∷ rest) ≤ suc n → reach (size_by test) 0 (b ∷ rest) ≡ length (b ∷ rest) → (s t : Bool) → test b ≡ s → (b == 92) ≡ t → RunUnits test (b ∷ rest)
-byte_units_more test n b rest shorter fits all true t e f =
-    let one : suc (reach (size_by test) 0 rest) ≡ suc (length rest) =
-    sym (ap (λ (h : Bool). past_unit (or_else (if h then 1 else 0) (by_backslash pair_in (b ∷ rest))) (λ k. reach (size_by test) k rest)) e) ∙ all in
-    one_more test (Byte b) rest e (shorter rest (omega arith) (omega (arith, one)))
-byte_units_more test n b rest shorter fits all false true e f =
-    let pair : past_unit (or_else 0 (pair_in (escaped rest))) (λ k. reach (size_by test) k rest) ≡ suc (length rest) =
-    sym (ap (λ (h : Bool). past_unit (or_else (if h then 1 else 0) (by_backslash pair_in (b ∷ rest))) (λ k. reach (size_by test) k rest)) e
-    ∙ ap (λ (h : Bool). past_unit (or_else 0 (if h then pair_in (escaped rest) else 0)) (λ k. reach (size_by test) k rest)) f) ∙ all in
-    subst (λ (c : ℕ). RunUnits test (c ∷ rest)) (sym (eqb-true b 92 f)) (backslash_units test n shorter rest (omega arith) pair)
-byte_units_more test n b rest shorter fits all false false e f =
+reached_byte_and_rest_are_run_units : (test : ℕ → Bool) (n b : ℕ) (rest : List ℕ) → ReachedShortTextsAreRunUnits test n → length (b ∷ rest) ≤ suc n → reach_of_units (size_of_matching_byte_or_pair test) 0 (b ∷ rest) ≡ length (b ∷ rest) → (s t : Bool) → test b ≡ s → (b == 92) ≡ t → IsMadeOfRunUnits test (b ∷ rest)
+reached_byte_and_rest_are_run_units test n b rest shorter fits all true t e f =
+    let one : suc (reach_of_units (size_of_matching_byte_or_pair test) 0 rest) ≡ suc (length rest) =
+    sym (ap (λ (h : Bool). reach_past_first_byte (first_nonzero_number (if h then 1 else 0) (backslash_unit_size_by pair_size_of_unit (b ∷ rest))) (λ k. reach_of_units (size_of_matching_byte_or_pair test) k rest)) e) ∙ all in
+    unit_before_run_units_is_run_units test (Byte b) rest e (shorter rest (omega arith) (omega (arith, one)))
+reached_byte_and_rest_are_run_units test n b rest shorter fits all false true e f =
+    let pair : reach_past_first_byte (first_nonzero_number 0 (pair_size_of_unit (unit_after_backslash rest))) (λ k. reach_of_units (size_of_matching_byte_or_pair test) k rest) ≡ suc (length rest) =
+    sym (ap (λ (h : Bool). reach_past_first_byte (first_nonzero_number (if h then 1 else 0) (backslash_unit_size_by pair_size_of_unit (b ∷ rest))) (λ k. reach_of_units (size_of_matching_byte_or_pair test) k rest)) e
+    ∙ ap (λ (h : Bool). reach_past_first_byte (first_nonzero_number 0 (if h then pair_size_of_unit (unit_after_backslash rest) else 0)) (λ k. reach_of_units (size_of_matching_byte_or_pair test) k rest)) f) ∙ all in
+    subst (λ (c : ℕ). IsMadeOfRunUnits test (c ∷ rest)) (sym (eqb-true b 92 f)) (reached_backslash_text_is_run_units test n shorter rest (omega arith) pair)
+reached_byte_and_rest_are_run_units test n b rest shorter fits all false false e f =
     let none : 0 ≡ suc (length rest) =
-    sym (ap (λ (h : Bool). past_unit (or_else (if h then 1 else 0) (by_backslash pair_in (b ∷ rest))) (λ k. reach (size_by test) k rest)) e
-    ∙ ap (λ (h : Bool). past_unit (or_else 0 (if h then pair_in (escaped rest) else 0)) (λ k. reach (size_by test) k rest)) f) ∙ all in
+    sym (ap (λ (h : Bool). reach_past_first_byte (first_nonzero_number (if h then 1 else 0) (backslash_unit_size_by pair_size_of_unit (b ∷ rest))) (λ k. reach_of_units (size_of_matching_byte_or_pair test) k rest)) e
+    ∙ ap (λ (h : Bool). reach_past_first_byte (first_nonzero_number 0 (if h then pair_size_of_unit (unit_after_backslash rest) else 0)) (λ k. reach_of_units (size_of_matching_byte_or_pair test) k rest)) f) ∙ all in
     absurd (omega (arith, none))
 
 -- A run of bytes and pairs is units.
-pub run_units : (test : ℕ → Bool) (n : ℕ) → Shorter test n
-run_units test n [] fits all = record { units = []; whole = refl; each = tt }
-run_units test zero (b ∷ rest) fits all = absurd (omega arith)
-run_units test (suc n) (b ∷ rest) fits all = byte_units_more test n b rest (run_units test n) fits all (test b) (b == 92) refl refl
+pub reached_texts_are_run_units : (test : ℕ → Bool) (n : ℕ) → ReachedShortTextsAreRunUnits test n
+reached_texts_are_run_units test n [] fits all = record { units = []; whole = refl; each = tt }
+reached_texts_are_run_units test zero (b ∷ rest) fits all = absurd (omega arith)
+reached_texts_are_run_units test (suc n) (b ∷ rest) fits all = reached_byte_and_rest_are_run_units test n b rest (reached_texts_are_run_units test n) fits all (test b) (b == 92) refl refl
 
 -- ---- tight texts
 
 -- bytes and pairs, none of them in a line end
-abbrev pub Tight : List ℕ → Type 0
-Tight text = RunUnits is_tidy_byte text
+abbrev pub IsTightText : List ℕ → Type 0
+IsTightText text = IsMadeOfRunUnits is_tidy_byte text
 
-weaken : (test : ℕ → Bool) → ((b : ℕ) → test b ≡ true → is_tidy_byte b ≡ true) → (us : List LineUnit) → AreRunUnits test us → AreRunUnits is_tidy_byte us
-weaken test tidy [] all = tt
-weaken test tidy (Byte b ∷ us) all = (tidy b all.0, weaken test tidy us all.1)
-weaken test tidy (Pair c ∷ us) all = (all.0, weaken test tidy us all.1)
-weaken test tidy us all = absurd (let h = all.0 in cc)
+run_units_of_tidy_test_are_tidy : (test : ℕ → Bool) → ((b : ℕ) → test b ≡ true → is_tidy_byte b ≡ true) → (us : List LineUnit) → AreUnitsOfRun test us → AreUnitsOfRun is_tidy_byte us
+run_units_of_tidy_test_are_tidy test tidy [] all = tt
+run_units_of_tidy_test_are_tidy test tidy (Byte b ∷ us) all = (tidy b all.0, run_units_of_tidy_test_are_tidy test tidy us all.1)
+run_units_of_tidy_test_are_tidy test tidy (Pair c ∷ us) all = (all.0, run_units_of_tidy_test_are_tidy test tidy us all.1)
+run_units_of_tidy_test_are_tidy test tidy us all = absurd (let h = all.0 in cc)
 
-tight_by : (test : ℕ → Bool) → test 10 ≡ false → test 13 ≡ false → test 92 ≡ false → (text : List ℕ) → reach (size_by test) 0 text ≡ length text → Tight text
-tight_by test lf cr backslash text e =
-    let run = run_units test (length text) text (omega arith) e in
-    record { units = run.units; whole = run.whole; each = weaken test (tidy_by test lf cr backslash) run.units run.each }
+reached_text_of_test_is_tight : (test : ℕ → Bool) → test 10 ≡ false → test 13 ≡ false → test 92 ≡ false → (text : List ℕ) → reach_of_units (size_of_matching_byte_or_pair test) 0 text ≡ length text → IsTightText text
+reached_text_of_test_is_tight test lf cr backslash text e =
+    let run = reached_texts_are_run_units test (length text) text (omega arith) e in
+    record { units = run.units; whole = run.whole; each = run_units_of_tidy_test_are_tidy test (byte_passing_test_is_tidy test lf cr backslash) run.units run.each }
 
-pub word_tight : (text : List ℕ) → is_some_run rule.Word text ≡ true → Tight text
-unfolding run_size
-word_tight text h = tight_by is_word_byte refl refl refl text (eqb-true (reach (size_by is_word_byte) 0 text) (length text) (and_parts (nat_lt 0 (length text)) (reach (size_by is_word_byte) 0 text == length text) h).1)
+pub word_run_is_tight : (text : List ℕ) → is_nonempty_run rule.Word text ≡ true → IsTightText text
+unfolding leading_run_size
+word_run_is_tight text h = reached_text_of_test_is_tight is_word_byte refl refl refl text (eqb-true (reach_of_units (size_of_matching_byte_or_pair is_word_byte) 0 text) (length text) (and_parts (nat_lt 0 (length text)) (reach_of_units (size_of_matching_byte_or_pair is_word_byte) 0 text == length text) h).1)
 
-pub path_tight : (text : List ℕ) → is_some_run rule.Path text ≡ true → Tight text
-unfolding run_size
-path_tight text h = tight_by is_path_byte refl refl refl text (eqb-true (reach (size_by is_path_byte) 0 text) (length text) (and_parts (nat_lt 0 (length text)) (reach (size_by is_path_byte) 0 text == length text) h).1)
+pub path_run_is_tight : (text : List ℕ) → is_nonempty_run rule.Path text ≡ true → IsTightText text
+unfolding leading_run_size
+path_run_is_tight text h = reached_text_of_test_is_tight is_path_byte refl refl refl text (eqb-true (reach_of_units (size_of_matching_byte_or_pair is_path_byte) 0 text) (length text) (and_parts (nat_lt 0 (length text)) (reach_of_units (size_of_matching_byte_or_pair is_path_byte) 0 text == length text) h).1)
 
-pub tight_more : (b : ℕ) (text : List ℕ) → is_tidy_byte b ≡ true → Tight text → Tight (b ∷ text)
-tight_more b text h t = record { units = Byte b ∷ t.units; whole = ap (λ (x : List ℕ). b ∷ x) t.whole; each = (h, t.each) }
+pub tidy_byte_before_tight_text_is_tight : (b : ℕ) (text : List ℕ) → is_tidy_byte b ≡ true → IsTightText text → IsTightText (b ∷ text)
+tidy_byte_before_tight_text_is_tight b text h t = record { units = Byte b ∷ t.units; whole = ap (λ (x : List ℕ). b ∷ x) t.whole; each = (h, t.each) }
 
-units_tidy : (us : List LineUnit) → AreRunUnits is_tidy_byte us → Tidy (flat us)
-units_tidy [] all = done
-units_tidy (Byte b ∷ us) all = byte all.0 (units_tidy us all.1)
-units_tidy (Pair c ∷ us) all = a_pair (pair_escaped c all.0) (units_tidy us all.1)
-units_tidy us all = absurd (let h = all.0 in cc)
+text_of_tidy_run_units_is_tidy : (us : List LineUnit) → AreUnitsOfRun is_tidy_byte us → IsTidyText (text_of_units us)
+text_of_tidy_run_units_is_tidy [] all = done
+text_of_tidy_run_units_is_tidy (Byte b ∷ us) all = byte all.0 (text_of_tidy_run_units_is_tidy us all.1)
+text_of_tidy_run_units_is_tidy (Pair c ∷ us) all = a_pair (pair_test_implies_no_line_end_byte c all.0) (text_of_tidy_run_units_is_tidy us all.1)
+text_of_tidy_run_units_is_tidy us all = absurd (let h = all.0 in cc)
 
-pub tight_tidy : (text : List ℕ) → Tight text → Tidy text
-tight_tidy text t = subst Tidy (sym t.whole) (units_tidy t.units t.each)
+pub tight_text_is_tidy : (text : List ℕ) → IsTightText text → IsTidyText text
+tight_text_is_tidy text t = subst IsTidyText (sym t.whole) (text_of_tidy_run_units_is_tidy t.units t.each)
 
 -- ---- their patterns
 
 -- a unit as its pattern has it
-abbrev pub kept : Spelling → LineUnit → LineUnit
-kept s (Pair c) = if loses_backslash s c then Byte c else Pair c
-kept s u = u
+abbrev pub pattern_unit_of_text_unit : PatternSpelling → LineUnit → LineUnit
+pattern_unit_of_text_unit s (Pair c) = if is_dropped_backslash_before s c then Byte c else Pair c
+pattern_unit_of_text_unit s u = u
 
-abbrev pub kept_all : Spelling → List LineUnit → List LineUnit
-kept_all s [] = []
-kept_all s (u ∷ us) = kept s u ∷ kept_all s us
+abbrev pub pattern_units_of_text_units : PatternSpelling → List LineUnit → List LineUnit
+pattern_units_of_text_units s [] = []
+pattern_units_of_text_units s (u ∷ us) = pattern_unit_of_text_unit s u ∷ pattern_units_of_text_units s us
 
-tidy_apart : (b : ℕ) → is_tidy_byte b ≡ true → (b == 92) ≡ false
-tidy_apart b h = (or_parts (b == 10 || b == 13) (b == 92) (not-true _ h)).1
+tidy_byte_is_no_backslash : (b : ℕ) → is_tidy_byte b ≡ true → (b == 92) ≡ false
+tidy_byte_is_no_backslash b h = (or_parts (b == 10 || b == 13) (b == 92) (not-true _ h)).1
 
-kept_from : (s : Spelling) → IsBare s → (u : LineUnit) (more : List ℕ) → is_run_unit is_tidy_byte u ≡ true → pattern_from s 0 (text_of u ++ more) ≡ text_of (kept s u) ++ pattern_from s 0 more
-kept_from s bare (Byte b) more h = plain_from s bare b more (tidy_apart b h)
-kept_from s bare (Pair c) more h = by_kept (loses_backslash s c) refl
+pattern_of_text_begins_with_its_unit : (s : PatternSpelling) → KeepsBytesAndBackslashes s → (u : LineUnit) (more : List ℕ) → is_run_unit is_tidy_byte u ≡ true → pattern_of_remaining_bytes s 0 (bytes_of_unit u ++ more) ≡ bytes_of_unit (pattern_unit_of_text_unit s u) ++ pattern_of_remaining_bytes s 0 more
+pattern_of_text_begins_with_its_unit s bare (Byte b) more h = pattern_begins_with_plain_byte s bare b more (tidy_byte_is_no_backslash b h)
+pattern_of_text_begins_with_its_unit s bare (Pair c) more h = by_kept (is_dropped_backslash_before s c) refl
   where
-    by_kept : (t : Bool) → loses_backslash s c ≡ t → pattern_from s 0 (92 ∷ c ∷ more) ≡ text_of (if t then Byte c else Pair c) ++ pattern_from s 0 more
-    by_kept true e = pair_from s bare c more (pair_escaped c h) true e
-    by_kept false e = pair_from s bare c more (pair_escaped c h) false e
-kept_from s bare u more h = absurd (cc)
+    by_kept : (t : Bool) → is_dropped_backslash_before s c ≡ t → pattern_of_remaining_bytes s 0 (92 ∷ c ∷ more) ≡ bytes_of_unit (if t then Byte c else Pair c) ++ pattern_of_remaining_bytes s 0 more
+    by_kept true e = pattern_begins_with_pair_or_its_byte s bare c more (pair_test_implies_no_line_end_byte c h) true e
+    by_kept false e = pattern_begins_with_pair_or_its_byte s bare c more (pair_test_implies_no_line_end_byte c h) false e
+pattern_of_text_begins_with_its_unit s bare u more h = absurd (cc)
 
-kept_pattern : (s : Spelling) → IsBare s → (us : List LineUnit) → AreRunUnits is_tidy_byte us → pattern_from s 0 (flat us) ≡ flat (kept_all s us)
-kept_pattern s bare [] all = refl
-kept_pattern s bare (u ∷ us) all = kept_from s bare u (flat us) all.0 ∙ ap (λ (t : List ℕ). text_of (kept s u) ++ t) (kept_pattern s bare us all.1)
+run_units_have_their_pattern_units : (s : PatternSpelling) → KeepsBytesAndBackslashes s → (us : List LineUnit) → AreUnitsOfRun is_tidy_byte us → pattern_of_remaining_bytes s 0 (text_of_units us) ≡ text_of_units (pattern_units_of_text_units s us)
+run_units_have_their_pattern_units s bare [] all = refl
+run_units_have_their_pattern_units s bare (u ∷ us) all = pattern_of_text_begins_with_its_unit s bare u (text_of_units us) all.0 ∙ ap (λ (t : List ℕ). bytes_of_unit (pattern_unit_of_text_unit s u) ++ t) (run_units_have_their_pattern_units s bare us all.1)
 
-pub tight_pattern : (s : Spelling) → IsBare s → (text : List ℕ) (t : Tight text) → pattern_of s text ≡ flat (kept_all s t.units)
-unfolding pattern_of
-tight_pattern s bare text t = ap (pattern_from s 0) t.whole ∙ kept_pattern s bare t.units t.each
+pub tight_text_pattern_is_its_pattern_units : (s : PatternSpelling) → KeepsBytesAndBackslashes s → (text : List ℕ) (t : IsTightText text) → pattern_of_text s text ≡ text_of_units (pattern_units_of_text_units s t.units)
+unfolding pattern_of_text
+tight_text_pattern_is_its_pattern_units s bare text t = ap (pattern_of_remaining_bytes s 0) t.whole ∙ run_units_have_their_pattern_units s bare t.units t.each
 
-some_kept : (s : Spelling) (us : List LineUnit) → AreRunUnits is_tidy_byte us → flat us ≢ [] → flat (kept_all s us) ≢ []
-some_kept s [] all some = some
-some_kept s (Byte b ∷ us) all some = λ e. absurd (cc)
-some_kept s (Pair c ∷ us) all some = by_kept (loses_backslash s c)
+nonempty_text_has_nonempty_pattern_units : (s : PatternSpelling) (us : List LineUnit) → AreUnitsOfRun is_tidy_byte us → text_of_units us ≢ [] → text_of_units (pattern_units_of_text_units s us) ≢ []
+nonempty_text_has_nonempty_pattern_units s [] all some = some
+nonempty_text_has_nonempty_pattern_units s (Byte b ∷ us) all some = λ e. absurd (cc)
+nonempty_text_has_nonempty_pattern_units s (Pair c ∷ us) all some = by_kept (is_dropped_backslash_before s c)
   where
-    by_kept : (t : Bool) → flat ((if t then Byte c else Pair c) ∷ kept_all s us) ≢ []
+    by_kept : (t : Bool) → text_of_units ((if t then Byte c else Pair c) ∷ pattern_units_of_text_units s us) ≢ []
     by_kept true = λ e. absurd (cc)
     by_kept false = λ e. absurd (cc)
-some_kept s us all some = absurd (let h = all.0 in cc)
+nonempty_text_has_nonempty_pattern_units s us all some = absurd (let h = all.0 in cc)
 
 -- It is not empty where the text is not.
-pub tight_some : (s : Spelling) → IsBare s → (text : List ℕ) → Tight text → text ≢ [] → pattern_of s text ≢ []
-tight_some s bare text t some e =
-    some_kept s t.units t.each (λ h. some (t.whole ∙ h)) (sym (tight_pattern s bare text t) ∙ e)
+pub pattern_of_tight_text_is_not_empty : (s : PatternSpelling) → KeepsBytesAndBackslashes s → (text : List ℕ) → IsTightText text → text ≢ [] → pattern_of_text s text ≢ []
+pattern_of_tight_text_is_not_empty s bare text t some e =
+    nonempty_text_has_nonempty_pattern_units s t.units t.each (λ h. some (t.whole ∙ h)) (sym (tight_text_pattern_is_its_pattern_units s bare text t) ∙ e)
 
-kept_front : (s : Spelling) (us : List LineUnit) (b : ℕ) (rest : List ℕ) → AreRunUnits is_tidy_byte us → flat us ≡ b ∷ rest → (c : ℕ) × (more : List ℕ) × (flat (kept_all s us) ≡ c ∷ more)
-kept_front s us b rest all e = by_text (flat (kept_all s us)) refl
+pattern_units_have_some_first_byte : (s : PatternSpelling) (us : List LineUnit) (b : ℕ) (rest : List ℕ) → AreUnitsOfRun is_tidy_byte us → text_of_units us ≡ b ∷ rest → (c : ℕ) × (more : List ℕ) × (text_of_units (pattern_units_of_text_units s us) ≡ c ∷ more)
+pattern_units_have_some_first_byte s us b rest all e = by_text (text_of_units (pattern_units_of_text_units s us)) refl
   where
-    by_text : (x : List ℕ) → flat (kept_all s us) ≡ x → (c : ℕ) × (more : List ℕ) × (x ≡ c ∷ more)
-    by_text [] h = absurd (some_kept s us all (λ none. absurd (let both = sym none ∙ e in cc)) h)
+    by_text : (x : List ℕ) → text_of_units (pattern_units_of_text_units s us) ≡ x → (c : ℕ) × (more : List ℕ) × (x ≡ c ∷ more)
+    by_text [] h = absurd (nonempty_text_has_nonempty_pattern_units s us all (λ none. absurd (let both = sym none ∙ e in cc)) h)
     by_text (c ∷ more) h = (c, more, refl)
 
-ends_by : (a : ℕ) (x y : List ℕ) (b : ℕ) (front : List ℕ) → (c : ℕ) × (more : List ℕ) × (y ≡ c ∷ more) → ends_with a (x ++ y) ≡ ends_with a y
-ends_by a x y b front there = ap (λ (t : List ℕ). ends_with a (x ++ t)) there.2 ∙ ends_past a x there.0 there.1 ∙ ap (ends_with a) (sym there.2)
+last_byte_is_of_nonempty_second_text : (a : ℕ) (x y : List ℕ) (b : ℕ) (front : List ℕ) → (c : ℕ) × (more : List ℕ) × (y ≡ c ∷ more) → has_last_byte a (x ++ y) ≡ has_last_byte a y
+last_byte_is_of_nonempty_second_text a x y b front there = ap (λ (t : List ℕ). has_last_byte a (x ++ t)) there.2 ∙ last_byte_of_joined_is_of_second a x there.0 there.1 ∙ ap (has_last_byte a) (sym there.2)
 
-ends_kept : (s : Spelling) (a : ℕ) (us : List LineUnit) → AreRunUnits is_tidy_byte us → ends_with a (flat (kept_all s us)) ≡ ends_with a (flat us)
-ends_kept s a [] all = refl
-ends_kept s a (u ∷ us) all = by_rest (flat us) refl (ends_kept s a us all.1)
+last_byte_of_pattern_units_is_same : (s : PatternSpelling) (a : ℕ) (us : List LineUnit) → AreUnitsOfRun is_tidy_byte us → has_last_byte a (text_of_units (pattern_units_of_text_units s us)) ≡ has_last_byte a (text_of_units us)
+last_byte_of_pattern_units_is_same s a [] all = refl
+last_byte_of_pattern_units_is_same s a (u ∷ us) all = by_rest (text_of_units us) refl (last_byte_of_pattern_units_is_same s a us all.1)
   where
-    last_same : (u : LineUnit) → is_run_unit is_tidy_byte u ≡ true → ends_with a (text_of (kept s u) ++ []) ≡ ends_with a (text_of u ++ [])
+    last_same : (u : LineUnit) → is_run_unit is_tidy_byte u ≡ true → has_last_byte a (bytes_of_unit (pattern_unit_of_text_unit s u) ++ []) ≡ has_last_byte a (bytes_of_unit u ++ [])
     last_same (Byte b) h = refl
-    last_same (Pair c) h = by_kept (loses_backslash s c)
+    last_same (Pair c) h = by_kept (is_dropped_backslash_before s c)
       where
-        by_kept : (t : Bool) → ends_with a (text_of (if t then Byte c else Pair c) ++ []) ≡ (c == a)
+        by_kept : (t : Bool) → has_last_byte a (bytes_of_unit (if t then Byte c else Pair c) ++ []) ≡ (c == a)
         by_kept true = refl
         by_kept false = refl
     last_same u h = absurd (cc)
 
-    no_units : (vs : List LineUnit) → AreRunUnits is_tidy_byte vs → flat vs ≡ [] → flat (kept_all s vs) ≡ []
+    no_units : (vs : List LineUnit) → AreUnitsOfRun is_tidy_byte vs → text_of_units vs ≡ [] → text_of_units (pattern_units_of_text_units s vs) ≡ []
     no_units [] all e = refl
     no_units (Byte b ∷ vs) all e = absurd (cc)
     no_units (Pair c ∷ vs) all e = absurd (cc)
     no_units vs all e = absurd (let h = all.0 in cc)
 
-    by_rest : (x : List ℕ) → flat us ≡ x → ends_with a (flat (kept_all s us)) ≡ ends_with a (flat us) → ends_with a (text_of (kept s u) ++ flat (kept_all s us)) ≡ ends_with a (text_of u ++ flat us)
+    by_rest : (x : List ℕ) → text_of_units us ≡ x → has_last_byte a (text_of_units (pattern_units_of_text_units s us)) ≡ has_last_byte a (text_of_units us) → has_last_byte a (bytes_of_unit (pattern_unit_of_text_unit s u) ++ text_of_units (pattern_units_of_text_units s us)) ≡ has_last_byte a (bytes_of_unit u ++ text_of_units us)
     by_rest [] e later =
-        ap (λ (t : List ℕ). ends_with a (text_of (kept s u) ++ t)) (no_units us all.1 e) ∙ last_same u all.0 ∙ ap (λ (t : List ℕ). ends_with a (text_of u ++ t)) (sym e)
+        ap (λ (t : List ℕ). has_last_byte a (bytes_of_unit (pattern_unit_of_text_unit s u) ++ t)) (no_units us all.1 e) ∙ last_same u all.0 ∙ ap (λ (t : List ℕ). has_last_byte a (bytes_of_unit u ++ t)) (sym e)
     by_rest (b ∷ rest) e later =
-        ends_by a (text_of (kept s u)) (flat (kept_all s us)) b rest (kept_front s us b rest all.1 e) ∙ later ∙ sym (ends_by a (text_of u) (flat us) b rest (b, rest, e))
+        last_byte_is_of_nonempty_second_text a (bytes_of_unit (pattern_unit_of_text_unit s u)) (text_of_units (pattern_units_of_text_units s us)) b rest (pattern_units_have_some_first_byte s us b rest all.1 e) ∙ later ∙ sym (last_byte_is_of_nonempty_second_text a (bytes_of_unit u) (text_of_units us) b rest (b, rest, e))
 
 -- It ends as the text does.
-pub tight_ends : (s : Spelling) → IsBare s → (a : ℕ) (text : List ℕ) → Tight text → ends_with a (pattern_of s text) ≡ ends_with a text
-tight_ends s bare a text t = ap (ends_with a) (tight_pattern s bare text t) ∙ ends_kept s a t.units t.each ∙ ap (ends_with a) (sym t.whole)
+pub last_byte_of_tight_pattern_is_same : (s : PatternSpelling) → KeepsBytesAndBackslashes s → (a : ℕ) (text : List ℕ) → IsTightText text → has_last_byte a (pattern_of_text s text) ≡ has_last_byte a text
+last_byte_of_tight_pattern_is_same s bare a text t = ap (has_last_byte a) (tight_text_pattern_is_its_pattern_units s bare text t) ∙ last_byte_of_pattern_units_is_same s a t.units t.each ∙ ap (has_last_byte a) (sym t.whole)

@@ -1,66 +1,66 @@
 -- What says the same, places aside.
 use Rattle.std.specs.Prelude.{◌≡◌, ℕ, List, [], ◌∷◌, Option, Some, None, if◌then◌else◌}
-use Rattle.sudoers_line.specs.declared.node.Atom.{Atom}
-use Rattle.sudoers_line.specs.declared.node.Atom.TheVariants as atom
-use Rattle.sudoers_line.specs.Node.{Member, Def, RunasSpec, CmdSpec, HostGroup, Scope, Node}
-use Rattle.sudoers_line.specs.Node as node
-use Rattle.sudoers_line.specs.declared.pattern.Spelling.TheVariants.{Host as HostName}
-use Rattle.sudoers_line.specs.Line.{ReadsLine}
-use Rattle.sudoers_cvt_spell.specs.Spelling.{escaped}
-use Rattle.sudoers_cvt_spell.specs.Hosts.{reads_as_host}
+use Rattle.sudoers_grammar.specs.declared.node.Atom.{Atom}
+use Rattle.sudoers_grammar.specs.declared.node.Atom.TheVariants as atom
+use Rattle.sudoers_grammar.specs.Node.{Member, Def, RunasSpec, CmdSpec, HostGroup, Scope, Node}
+use Rattle.sudoers_grammar.specs.Node as node
+use Rattle.sudoers_grammar.specs.declared.pattern.PatternSpelling.TheVariants.{Host as HostName}
+use Rattle.sudoers_grammar.specs.Line.{LineReadsAsNode}
+use Rattle.sudoers_cvt_spell.specs.Spelling.{escaped_pattern}
+use Rattle.sudoers_cvt_spell.specs.Hosts.{is_read_as_host_name}
 
 -- As what a printed member is read: a host that would be read as something else has got a backslash before its first byte.
-abbrev pub read_back : Atom → Atom
-read_back (atom.Host pattern) = if reads_as_host (escaped HostName pattern) then atom.Host pattern else atom.Host (92 ∷ pattern)
-read_back a = a
+abbrev pub atom_read_back : Atom → Atom
+atom_read_back (atom.Host pattern) = if is_read_as_host_name (escaped_pattern HostName pattern) then atom.Host pattern else atom.Host (92 ∷ pattern)
+atom_read_back a = a
 
-pub record IsSameMember (m n : Member) : Type 0 where
+pub record IsMemberSameButPlace (m n : Member) : Type 0 where
   pub negated : m.negated ≡ n.negated
   pub digests : m.digests ≡ n.digests
-  pub atom : read_back m.atom ≡ n.atom
+  pub atom : atom_read_back m.atom ≡ n.atom
 
 -- each is related to the one at its place, and there are as many
-abbrev pub AllSame : {X : Type 0} → (X → X → Type 0) → List X → List X → Type 0
-AllSame R [] [] = Unit {0}
-AllSame R [] (y ∷ ys) = ⊥
-AllSame R (x ∷ xs) [] = ⊥
-AllSame R (x ∷ xs) (y ∷ ys) = R x y × AllSame R xs ys
+abbrev pub AreItemsPairwiseRelated : {X : Type 0} → (X → X → Type 0) → List X → List X → Type 0
+AreItemsPairwiseRelated R [] [] = Unit {0}
+AreItemsPairwiseRelated R [] (y ∷ ys) = ⊥
+AreItemsPairwiseRelated R (x ∷ xs) [] = ⊥
+AreItemsPairwiseRelated R (x ∷ xs) (y ∷ ys) = R x y × AreItemsPairwiseRelated R xs ys
 
-pub record IsSameDef (d e : Def) : Type 0 where
+pub record IsDefinitionSameButPlace (d e : Def) : Type 0 where
   pub name : d.name ≡ e.name
-  pub members : AllSame IsSameMember d.members e.members
+  pub members : AreItemsPairwiseRelated IsMemberSameButPlace d.members e.members
 
-abbrev pub IsSameRunas : Option RunasSpec → Option RunasSpec → Type 0
-IsSameRunas None None = Unit {0}
-IsSameRunas None (Some s) = ⊥
-IsSameRunas (Some r) None = ⊥
-IsSameRunas (Some r) (Some s) = AllSame IsSameMember r.users s.users × AllSame IsSameMember r.groups s.groups
+abbrev pub IsRunasSameButPlace : Option RunasSpec → Option RunasSpec → Type 0
+IsRunasSameButPlace None None = Unit {0}
+IsRunasSameButPlace None (Some s) = ⊥
+IsRunasSameButPlace (Some r) None = ⊥
+IsRunasSameButPlace (Some r) (Some s) = AreItemsPairwiseRelated IsMemberSameButPlace r.users s.users × AreItemsPairwiseRelated IsMemberSameButPlace r.groups s.groups
 
-pub record IsSameCmd (c d : CmdSpec) : Type 0 where
-  pub runas : IsSameRunas c.runas d.runas
+pub record IsCommandSameButPlace (c d : CmdSpec) : Type 0 where
+  pub runas : IsRunasSameButPlace c.runas d.runas
   pub options : c.options ≡ d.options
   pub tags : c.tags ≡ d.tags
-  pub member : IsSameMember c.member d.member
+  pub member : IsMemberSameButPlace c.member d.member
 
-pub record IsSameGroup (g h : HostGroup) : Type 0 where
-  pub hosts : AllSame IsSameMember g.hosts h.hosts
-  pub commands : AllSame IsSameCmd g.commands h.commands
+pub record IsHostGroupSameButPlace (g h : HostGroup) : Type 0 where
+  pub hosts : AreItemsPairwiseRelated IsMemberSameButPlace g.hosts h.hosts
+  pub commands : AreItemsPairwiseRelated IsCommandSameButPlace g.commands h.commands
 
-abbrev pub IsSameScope : Option Scope → Option Scope → Type 0
-IsSameScope None None = Unit {0}
-IsSameScope None (Some t) = ⊥
-IsSameScope (Some s) None = ⊥
-IsSameScope (Some s) (Some t) = (s.kind ≡ t.kind) × AllSame IsSameMember s.members t.members
+abbrev pub IsScopeSameButPlace : Option Scope → Option Scope → Type 0
+IsScopeSameButPlace None None = Unit {0}
+IsScopeSameButPlace None (Some t) = ⊥
+IsScopeSameButPlace (Some s) None = ⊥
+IsScopeSameButPlace (Some s) (Some t) = (s.kind ≡ t.kind) × AreItemsPairwiseRelated IsMemberSameButPlace s.members t.members
 
 -- The lines say the same, places aside, and the backslash before the first byte of a host.
-abbrev pub IsSame : Node → Node → Type 0
-IsSame (node.Defaults scope params) (node.Defaults other settings) = IsSameScope scope other × (params ≡ settings)
-IsSame (node.Alias k defs) (node.Alias j others) = (k ≡ j) × AllSame IsSameDef defs others
-IsSame (node.Spec users groups) (node.Spec others places) = AllSame IsSameMember users others × AllSame IsSameGroup groups places
-IsSame n m = ⊥
+abbrev pub IsNodeSameButPlace : Node → Node → Type 0
+IsNodeSameButPlace (node.Defaults scope params) (node.Defaults other settings) = IsScopeSameButPlace scope other × (params ≡ settings)
+IsNodeSameButPlace (node.Alias k defs) (node.Alias j others) = (k ≡ j) × AreItemsPairwiseRelated IsDefinitionSameButPlace defs others
+IsNodeSameButPlace (node.Spec users groups) (node.Spec others places) = AreItemsPairwiseRelated IsMemberSameButPlace users others × AreItemsPairwiseRelated IsHostGroupSameButPlace groups places
+IsNodeSameButPlace n m = ⊥
 
 -- The line is read as saying the same.
-pub record ReadsBack (line : List ℕ) (n : Node) : Type 0 where
+pub record LineReadsBackAs (line : List ℕ) (n : Node) : Type 0 where
   pub read : Node
-  pub reads : ReadsLine line read
-  pub same : IsSame n read
+  pub reads : LineReadsAsNode line read
+  pub same : IsNodeSameButPlace n read

@@ -1,39 +1,39 @@
 -- What holds of a command beside its member, where its alias became several commands.
 use Rattle.laws_program.proofs.Common.{◌≡◌, Bool, List, ◌++◌, Option, Some, None, refl, sym, ap, ◌∙◌, ◌==◌, option_or, OptionName, Tag, RunasSpec, CmdSpec}
-use Rattle.laws_program.proofs.Common.{Member, Line, AreRunasAlike, Head, no_head, inherit, last_said, option_place, option_of, tag_place, tag_of, with_member}
-use Rattle.laws_program.proofs.Twice.{last_append}
-use Rattle.sudoers_match_list.specs.Alike.{as_it_was}
+use Rattle.laws_program.proofs.Common.{Member, Line, AreRunasSpecsAlike, SettingsOfCommand, empty_command_settings, settings_after_command, last_value_named, ordinal_of_option, final_value_of_option, ordinal_of_tag, final_value_of_tag, command_with_member}
+use Rattle.laws_program.proofs.Twice.{last_value_of_appended_is_option_or}
+use Rattle.sudoers_match_list.specs.Alike.{unchanged_atom}
 
 -- Both say the same, the second in the other policy.
-pub record IsExpandedHead (lines others : List Line) (h g : Head) : Type 0 where
-  pub runas : AreRunasAlike as_it_was lines others h.runas g.runas
-  pub options : (name : OptionName) → option_of g.options name ≡ option_of h.options name
-  pub tags : (name : Tag) → tag_of g.tags name ≡ tag_of h.tags name
+pub record AreCommandSettingsExpandedAlike (lines others : List Line) (h g : SettingsOfCommand) : Type 0 where
+  pub runas : AreRunasSpecsAlike unchanged_atom lines others h.runas g.runas
+  pub options : (name : OptionName) → final_value_of_option g.options name ≡ final_value_of_option h.options name
+  pub tags : (name : Tag) → final_value_of_tag g.tags name ≡ final_value_of_tag h.tags name
 
-or_twice : {V : Type 0} (own before : Option V) → option_or own (option_or own before) ≡ option_or own before
-or_twice None before = refl
-or_twice (Some v) before = refl
+option_or_with_own_twice_is_once : {V : Type 0} (own before : Option V) → option_or own (option_or own before) ≡ option_or own before
+option_or_with_own_twice_is_once None before = refl
+option_or_with_own_twice_is_once (Some v) before = refl
 
 -- what is said once more
-said_more : {N V : Type 0} (is_it : N → Bool) (old new own : List (N × V)) → last_said is_it new ≡ last_said is_it old
-    → last_said is_it (new ++ own) ≡ last_said is_it (old ++ own)
-said_more is_it old new own same =
-    last_append is_it new own ∙ ap (λ o. option_or (last_said is_it own) o) same ∙ sym (last_append is_it old own)
+appended_values_keep_same_last_value : {N V : Type 0} (is_it : N → Bool) (old new own : List (N × V)) → last_value_named is_it new ≡ last_value_named is_it old
+    → last_value_named is_it (new ++ own) ≡ last_value_named is_it (old ++ own)
+appended_values_keep_same_last_value is_it old new own same =
+    last_value_of_appended_is_option_or is_it new own ∙ ap (λ o. option_or (last_value_named is_it own) o) same ∙ sym (last_value_of_appended_is_option_or is_it old own)
 
 -- What is said twice says the same as once.
-said_again : {N V : Type 0} (is_it : N → Bool) (old new own : List (N × V)) → last_said is_it new ≡ last_said is_it (old ++ own)
-    → last_said is_it (new ++ own) ≡ last_said is_it (old ++ own)
-said_again is_it old new own same =
-    last_append is_it new own
-    ∙ ap (λ o. option_or (last_said is_it own) o) (same ∙ last_append is_it old own)
-    ∙ or_twice (last_said is_it own) (last_said is_it old)
-    ∙ sym (last_append is_it old own)
+values_appended_twice_give_same_last : {N V : Type 0} (is_it : N → Bool) (old new own : List (N × V)) → last_value_named is_it new ≡ last_value_named is_it (old ++ own)
+    → last_value_named is_it (new ++ own) ≡ last_value_named is_it (old ++ own)
+values_appended_twice_give_same_last is_it old new own same =
+    last_value_of_appended_is_option_or is_it new own
+    ∙ ap (λ o. option_or (last_value_named is_it own) o) (same ∙ last_value_of_appended_is_option_or is_it old own)
+    ∙ option_or_with_own_twice_is_once (last_value_named is_it own) (last_value_named is_it old)
+    ∙ sym (last_value_of_appended_is_option_or is_it old own)
 
 module _ (lines others : List Line) where
   abbrev RunasAlike : Option RunasSpec → Option RunasSpec → Type 0
-  RunasAlike = AreRunasAlike as_it_was lines others
+  RunasAlike = AreRunasSpecsAlike unchanged_atom lines others
 
-  pub no_heads : IsExpandedHead lines others no_head no_head
+  pub no_heads : AreCommandSettingsExpandedAlike lines others empty_command_settings empty_command_settings
   no_heads = record { runas = tt; options = λ name. refl; tags = λ name. refl }
 
   runas_more : (own its before was : Option RunasSpec) → RunasAlike own its → RunasAlike before was → RunasAlike (option_or own before) (option_or its was)
@@ -46,19 +46,19 @@ module _ (lines others : List Line) where
   runas_again (Some r) (Some s) before was same old = same
   runas_again own its before was same old = absurd same
 
-  module _ (h : Head) (c : CmdSpec) (r : Option RunasSpec) (same : RunasAlike c.runas r) where
+  module _ (h : SettingsOfCommand) (c : CmdSpec) (r : Option RunasSpec) (same : RunasAlike c.runas r) where
     -- the first of the commands that stand for this one
-    pub first_head : (g : Head) (m : Member) → IsExpandedHead lines others h g → IsExpandedHead lines others (inherit h c) (inherit g (with_member r c m))
+    pub first_head : (g : SettingsOfCommand) (m : Member) → AreCommandSettingsExpandedAlike lines others h g → AreCommandSettingsExpandedAlike lines others (settings_after_command h c) (settings_after_command g (command_with_member r c m))
     first_head g m old = record {
       runas = runas_more c.runas r h.runas g.runas same old.runas;
-      options = λ name. said_more (λ other. option_place name == option_place other) h.options g.options c.options (old.options name);
-      tags = λ name. said_more (λ other. tag_place name == tag_place other) h.tags g.tags c.tags (old.tags name);
+      options = λ name. appended_values_keep_same_last_value (λ other. ordinal_of_option name == ordinal_of_option other) h.options g.options c.options (old.options name);
+      tags = λ name. appended_values_keep_same_last_value (λ other. ordinal_of_tag name == ordinal_of_tag other) h.tags g.tags c.tags (old.tags name);
     }
 
     -- one of those that follow
-    pub next_head : (g : Head) (m : Member) → IsExpandedHead lines others (inherit h c) g → IsExpandedHead lines others (inherit h c) (inherit g (with_member r c m))
+    pub next_head : (g : SettingsOfCommand) (m : Member) → AreCommandSettingsExpandedAlike lines others (settings_after_command h c) g → AreCommandSettingsExpandedAlike lines others (settings_after_command h c) (settings_after_command g (command_with_member r c m))
     next_head g m old = record {
       runas = runas_again c.runas r h.runas g.runas same old.runas;
-      options = λ name. said_again (λ other. option_place name == option_place other) h.options g.options c.options (old.options name);
-      tags = λ name. said_again (λ other. tag_place name == tag_place other) h.tags g.tags c.tags (old.tags name);
+      options = λ name. values_appended_twice_give_same_last (λ other. ordinal_of_option name == ordinal_of_option other) h.options g.options c.options (old.options name);
+      tags = λ name. values_appended_twice_give_same_last (λ other. ordinal_of_tag name == ordinal_of_tag other) h.tags g.tags c.tags (old.tags name);
     }

@@ -9,84 +9,84 @@ use Rattle.std.specs.List.{AllByRecursion, filter}
 use Rattle.std.specs.Ordering.{match_ordering, nat_cmp}
 use Rattle.std.specs.Str.{bytes_eq}
 use Rattle.std.proofs.lemmas.Slice.Eq.{bytes_eq-Decides}
-use Rattle.sudoers_line.specs.Piece.{has_byte}
+use Rattle.sudoers_grammar.specs.Piece.{has_byte}
 use Rattle.sudoers_tree.specs.Lead.{folder_of}
-use Rattle.sudoers_tree.specs.Targets.{base_of, ends_in_tilde, is_base, is_in_folder}
-use Rattle.sudoers_tree.specs.declared.load.NamedFile.{NamedFile}
-use Rattle.sudoers_files.specs.Folder.{in_order, name_in, named_in}
-use Rattle.sudoers_files.specs.Shelf.{names_in, wanted_in}
-use Rattle.laws_program.proofs.WalkSteps.{true_behind}
+use Rattle.sudoers_tree.specs.Targets.{base_name_of_file, ends_in_tilde, is_includable_base_name, is_includable_from_folder}
+use Rattle.sudoers_tree.specs.declared.named_files.NamedFile.{NamedFile}
+use Rattle.sudoers_files.specs.Folder.{names_sorted_and_unique, file_name_of_base_in_folder, sorted_file_names_in_folder}
+use Rattle.sudoers_files.specs.Shelf.{base_names_in_folder, included_base_names_in}
+use Rattle.laws_program.proofs.WalkSteps.{disjunction_with_true_second_is_true}
 
 -- ---- the name of a file in a folder
 
-slash_there : (dir base : List ℕ) → has_byte 47 (dir ++ 47 ∷ base) ≡ true
-slash_there [] base = refl
-slash_there (d ∷ dir) base = true_behind (d == 47) (has_byte 47 (dir ++ 47 ∷ base)) (slash_there dir base)
+name_in_folder_has_slash : (dir base : List ℕ) → has_byte 47 (dir ++ 47 ∷ base) ≡ true
+name_in_folder_has_slash [] base = refl
+name_in_folder_has_slash (d ∷ dir) base = disjunction_with_true_second_is_true (d == 47) (has_byte 47 (dir ++ 47 ∷ base)) (name_in_folder_has_slash dir base)
 
-no_folder : (base : List ℕ) → has_byte 47 base ≡ false → folder_of base ≡ []
-no_folder [] none = refl
-no_folder (b ∷ base) none = ap (λ t. if t then b ∷ folder_of base else []) none
+name_without_slash_has_empty_folder : (base : List ℕ) → has_byte 47 base ≡ false → folder_of base ≡ []
+name_without_slash_has_empty_folder [] none = refl
+name_without_slash_has_empty_folder (b ∷ base) none = ap (λ t. if t then b ∷ folder_of base else []) none
 
-folder_there : (dir base : List ℕ) → has_byte 47 base ≡ false → folder_of (name_in dir base) ≡ dir ++ 47 ∷ []
-folder_there [] base none = ap (λ t. if t then 47 ∷ folder_of base else []) (slash_there [] base) ∙ ap (λ f. 47 ∷ f) (no_folder base none)
-folder_there (d ∷ dir) base none =
-    ap (λ t. if t then d ∷ folder_of (dir ++ 47 ∷ base) else []) (slash_there (d ∷ dir) base) ∙ ap (λ f. d ∷ f) (folder_there dir base none)
+folder_of_name_in_folder_is_folder : (dir base : List ℕ) → has_byte 47 base ≡ false → folder_of (file_name_of_base_in_folder dir base) ≡ dir ++ 47 ∷ []
+folder_of_name_in_folder_is_folder [] base none = ap (λ t. if t then 47 ∷ folder_of base else []) (name_in_folder_has_slash [] base) ∙ ap (λ f. 47 ∷ f) (name_without_slash_has_empty_folder base none)
+folder_of_name_in_folder_is_folder (d ∷ dir) base none =
+    ap (λ t. if t then d ∷ folder_of (dir ++ 47 ∷ base) else []) (name_in_folder_has_slash (d ∷ dir) base) ∙ ap (λ f. d ∷ f) (folder_of_name_in_folder_is_folder dir base none)
 
-drop_front : (dir base : List ℕ) → drop (length (dir ++ 47 ∷ [])) (dir ++ 47 ∷ base) ≡ base
-drop_front [] base = refl
-drop_front (d ∷ dir) base = drop_front dir base
+folder_dropped_leaves_base_name : (dir base : List ℕ) → drop (length (dir ++ 47 ∷ [])) (dir ++ 47 ∷ base) ≡ base
+folder_dropped_leaves_base_name [] base = refl
+folder_dropped_leaves_base_name (d ∷ dir) base = folder_dropped_leaves_base_name dir base
 
-base_there : (dir base : List ℕ) → has_byte 47 base ≡ false → base_of (name_in dir base) ≡ base
-base_there dir base none = ap (λ f. drop (length f) (name_in dir base)) (folder_there dir base none) ∙ drop_front dir base
+base_of_name_in_folder_is_base : (dir base : List ℕ) → has_byte 47 base ≡ false → base_name_of_file (file_name_of_base_in_folder dir base) ≡ base
+base_of_name_in_folder_is_base dir base none = ap (λ f. drop (length f) (file_name_of_base_in_folder dir base)) (folder_of_name_in_folder_is_folder dir base none) ∙ folder_dropped_leaves_base_name dir base
 
-no_slash : (base : List ℕ) → is_base base ≡ true → has_byte 47 base ≡ false
-no_slash base is = by (has_byte 47 base) refl is
+includable_base_name_has_no_slash : (base : List ℕ) → is_includable_base_name base ≡ true → has_byte 47 base ≡ false
+includable_base_name_has_no_slash base is = by (has_byte 47 base) refl is
   where
     by : (t : Bool) → has_byte 47 base ≡ t → (not t && not (has_byte 46 base) && not (ends_in_tilde base)) ≡ true → has_byte 47 base ≡ false
     by true has e = absurd cc
     by false has e = has
 
-pub same_bytes : (name : List ℕ) → bytes_eq name name ≡ true
-same_bytes name = (bytes_eq-Decides name name).1 refl
+pub name_has_equal_bytes_to_itself : (name : List ℕ) → bytes_eq name name ≡ true
+name_has_equal_bytes_to_itself name = (bytes_eq-Decides name name).1 refl
 
 -- An include of the folder leads to it.
-pub is_led_in : (dir base : List ℕ) → is_base base ≡ true → is_in_folder (dir ++ 47 ∷ []) (name_in dir base) ≡ true
-is_led_in dir base is =
-    let none = no_slash base is in
-    ap₂ (λ f b. bytes_eq f (dir ++ 47 ∷ []) && is_base b) (folder_there dir base none) (base_there dir base none)
-    ∙ both_true (same_bytes (dir ++ 47 ∷ [])) is
+pub includable_name_in_folder_is_included : (dir base : List ℕ) → is_includable_base_name base ≡ true → is_includable_from_folder (dir ++ 47 ∷ []) (file_name_of_base_in_folder dir base) ≡ true
+includable_name_in_folder_is_included dir base is =
+    let none = includable_base_name_has_no_slash base is in
+    ap₂ (λ f b. bytes_eq f (dir ++ 47 ∷ []) && is_includable_base_name b) (folder_of_name_in_folder_is_folder dir base none) (base_of_name_in_folder_is_base dir base none)
+    ∙ both_true (name_has_equal_bytes_to_itself (dir ++ 47 ∷ [])) is
 
 -- ---- names in order
 
 -- the names `before`, which are in order, and this one among them if an include of the folder reads it
-abbrev pub with_base : List ℕ → List (List ℕ) → List (List ℕ)
-with_base base before = if is_base base then insert_key (slice_cmp nat_cmp) before base else before
+abbrev pub base_names_with_includable_added : List ℕ → List (List ℕ) → List (List ℕ)
+base_names_with_includable_added base before = if is_includable_base_name base then insert_key (slice_cmp nat_cmp) before base else before
 
 -- the names `before` and those of the others that an include of the folder reads, in order
-abbrev pub picked_in_order : List (List ℕ) → List (List ℕ) → List (List ℕ)
-picked_in_order before [] = before
-picked_in_order before (base ∷ bases) = picked_in_order (with_base base before) bases
+abbrev pub base_names_with_includables_added : List (List ℕ) → List (List ℕ) → List (List ℕ)
+base_names_with_includables_added before [] = before
+base_names_with_includables_added before (base ∷ bases) = base_names_with_includables_added (base_names_with_includable_added base before) bases
 
-picked : (before bases : List (List ℕ)) → in_order before (filter is_base bases) ≡ picked_in_order before bases
-picked before [] = refl
-picked before (base ∷ bases) = by (is_base base) (λ names. picked names bases)
+includable_base_names_are_sorted_and_unique : (before bases : List (List ℕ)) → names_sorted_and_unique before (filter is_includable_base_name bases) ≡ base_names_with_includables_added before bases
+includable_base_names_are_sorted_and_unique before [] = refl
+includable_base_names_are_sorted_and_unique before (base ∷ bases) = by (is_includable_base_name base) (λ names. includable_base_names_are_sorted_and_unique names bases)
   where
-    by : (t : Bool) → ((names : List (List ℕ)) → in_order names (filter is_base bases) ≡ picked_in_order names bases)
-        → in_order before (if t then base ∷ filter is_base bases else filter is_base bases)
-        ≡ picked_in_order (if t then insert_key (slice_cmp nat_cmp) before base else before) bases
+    by : (t : Bool) → ((names : List (List ℕ)) → names_sorted_and_unique names (filter is_includable_base_name bases) ≡ base_names_with_includables_added names bases)
+        → names_sorted_and_unique before (if t then base ∷ filter is_includable_base_name bases else filter is_includable_base_name bases)
+        ≡ base_names_with_includables_added (if t then insert_key (slice_cmp nat_cmp) before base else before) bases
     by true later = later (insert_key (slice_cmp nat_cmp) before base)
     by false later = later before
 
 -- the whole names of the files of a folder that an include of it reads
-abbrev pub led_in : List ℕ → List (List ℕ) → List (List ℕ)
-led_in dir bases = map (name_in dir) (picked_in_order [] bases)
+abbrev pub file_names_included_from_folder : List ℕ → List (List ℕ) → List (List ℕ)
+file_names_included_from_folder dir bases = map (file_name_of_base_in_folder dir) (base_names_with_includables_added [] bases)
 
-pub named_is : (known : List NamedFile) (dir : List ℕ) → named_in dir (wanted_in dir known) ≡ led_in dir (names_in dir known)
-named_is known dir = ap (map (name_in dir)) (picked [] (names_in dir known))
+pub sorted_folder_names_are_included_names : (known : List NamedFile) (dir : List ℕ) → sorted_file_names_in_folder dir (included_base_names_in dir known) ≡ file_names_included_from_folder dir (base_names_in_folder dir known)
+sorted_folder_names_are_included_names known dir = ap (map (file_name_of_base_in_folder dir)) (includable_base_names_are_sorted_and_unique [] (base_names_in_folder dir known))
 
-pub insert_all : (P : List ℕ → Type 0) (keys : List (List ℕ)) (key : List ℕ) → AllByRecursion P keys → P key → AllByRecursion P (insert_key (slice_cmp nat_cmp) keys key)
-insert_all P [] key all is = (is, tt)
-insert_all P (x ∷ keys) key all is = by (slice_cmp nat_cmp key x) (insert_all P keys key all.1 is)
+pub inserted_key_keeps_property_of_all : (P : List ℕ → Type 0) (keys : List (List ℕ)) (key : List ℕ) → AllByRecursion P keys → P key → AllByRecursion P (insert_key (slice_cmp nat_cmp) keys key)
+inserted_key_keeps_property_of_all P [] key all is = (is, tt)
+inserted_key_keeps_property_of_all P (x ∷ keys) key all is = by (slice_cmp nat_cmp key x) (inserted_key_keeps_property_of_all P keys key all.1 is)
   where
     by : (o : Ordering) → AllByRecursion P (insert_key (slice_cmp nat_cmp) keys key)
         → AllByRecursion P (match_ordering o (key ∷ x ∷ keys) (x ∷ keys) (x ∷ insert_key (slice_cmp nat_cmp) keys key))
@@ -94,16 +94,16 @@ insert_all P (x ∷ keys) key all is = by (slice_cmp nat_cmp key x) (insert_all 
     by Equal later = all
     by Greater later = (all.0, later)
 
-abbrev AreBases : List (List ℕ) → Type 0
-AreBases = AllByRecursion (λ base. is_base base ≡ true)
+abbrev AreIncludableBaseNames : List (List ℕ) → Type 0
+AreIncludableBaseNames = AllByRecursion (λ base. is_includable_base_name base ≡ true)
 
-with_base_all : (before : List (List ℕ)) (base : List ℕ) → AreBases before → AreBases (with_base base before)
-with_base_all before base all = by (is_base base) refl
+added_base_keeps_names_includable : (before : List (List ℕ)) (base : List ℕ) → AreIncludableBaseNames before → AreIncludableBaseNames (base_names_with_includable_added base before)
+added_base_keeps_names_includable before base all = by (is_includable_base_name base) refl
   where
-    by : (t : Bool) → is_base base ≡ t → AreBases (if t then insert_key (slice_cmp nat_cmp) before base else before)
-    by true is = insert_all (λ b. is_base b ≡ true) before base all is
+    by : (t : Bool) → is_includable_base_name base ≡ t → AreIncludableBaseNames (if t then insert_key (slice_cmp nat_cmp) before base else before)
+    by true is = inserted_key_keeps_property_of_all (λ b. is_includable_base_name b ≡ true) before base all is
     by false is = all
 
-pub order_all : (before bases : List (List ℕ)) → AreBases before → AreBases (picked_in_order before bases)
-order_all before [] all = all
-order_all before (base ∷ bases) all = order_all (with_base base before) bases (with_base_all before base all)
+pub added_bases_keep_names_includable : (before bases : List (List ℕ)) → AreIncludableBaseNames before → AreIncludableBaseNames (base_names_with_includables_added before bases)
+added_bases_keep_names_includable before [] all = all
+added_bases_keep_names_includable before (base ∷ bases) all = added_bases_keep_names_includable (base_names_with_includable_added base before) bases (added_base_keeps_names_includable before base all)

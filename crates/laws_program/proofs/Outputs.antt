@@ -6,17 +6,17 @@ use Rattle.sudoers_run.specs.declared.fault.LayerFault.{LayerFault}
 use Rattle.sudoers_run.specs.declared.fault.LayerFault.TheVariants as layer
 
 -- by whether the text is within the limits
-abbrev pub if_fits : Bool → List ℕ → Result (List ℕ) LayerFault
-if_fits b text = if b then Ok text else Err (layer.Convert TooLarge)
+abbrev pub text_or_too_large : Bool → List ℕ → Result (List ℕ) LayerFault
+text_or_too_large b text = if b then Ok text else Err (layer.Convert TooLarge)
 
-pub fitting : (b : Bool) (text out : List ℕ) → if_fits b text ≡ Ok out → (b ≡ true) × (out ≡ text)
-fitting true text out e = (refl, let two : Result.Ok text ≡ Result.Ok out = e in cc)
-fitting false text out e = absurd cc
+pub ok_text_is_within_limits : (b : Bool) (text out : List ℕ) → text_or_too_large b text ≡ Ok out → (b ≡ true) × (out ≡ text)
+ok_text_is_within_limits true text out e = (refl, let two : Result.Ok text ≡ Result.Ok out = e in cc)
+ok_text_is_within_limits false text out e = absurd cc
 
 -- by whether an alias is cyclic, and whether there are too many members, too
-abbrev pub if_straight : Bool → Bool → Bool → List ℕ → Result (List ℕ) LayerFault
-if_straight round many b text = if round then Err (layer.Convert Cycle) else if many then Err (layer.Convert TooLarge) else if_fits b text
+abbrev pub text_or_cycle_or_too_large : Bool → Bool → Bool → List ℕ → Result (List ℕ) LayerFault
+text_or_cycle_or_too_large round many b text = if round then Err (layer.Convert Cycle) else if many then Err (layer.Convert TooLarge) else text_or_too_large b text
 
-pub opened : (round many b : Bool) (text out : List ℕ) → if_straight round many b text ≡ Ok out → (round ≡ false) × (b ≡ true) × (out ≡ text)
-opened false false b text out e = let found = fitting b text out e in (refl, found.0, found.1)
-opened round many b text out e = absurd cc
+pub ok_text_has_no_cycle_and_fits : (round many b : Bool) (text out : List ℕ) → text_or_cycle_or_too_large round many b text ≡ Ok out → (round ≡ false) × (b ≡ true) × (out ≡ text)
+ok_text_has_no_cycle_and_fits false false b text out e = let found = ok_text_is_within_limits b text out e in (refl, found.0, found.1)
+ok_text_has_no_cycle_and_fits round many b text out e = absurd cc

@@ -1,117 +1,117 @@
 -- What is read of printed rules has user specifications that say the same, command by command.
 use Rattle.laws_program.proofs.Common.{◌≡◌, List, [], ◌∷◌, ◌++◌, Option, Some, None, map, refl, sym, ap, subst, ◌∙◌, flat_map, filter_map, cons_option, Kind}
-use Rattle.laws_program.proofs.Common.{User, Runas, Host, Cmnd, HostGroup, Member, RunasSpec, Node, Line, read_back, IsSameMember, AllSame, IsSameRunas}
-use Rattle.laws_program.proofs.Common.{IsSameGroup, IsSame, AllAlike, AreAlike, AreRunasListsAlike, AreRunasAlike, AreCommandsAlike, AreGroupsEqual}
-use Rattle.laws_program.proofs.Common.{AreSpecsAlike, AreSpecsEqual, Head, no_head, Spec, spec_of, spec_in, specs_of, all_to, effective_group, specs_in}
-use Rattle.laws_program.proofs.Common.{rules_of, lines_of, said_by}
-use Rattle.sudoers_line.specs.Node as node
-use Rattle.sudoers_match.specs.Heads.{filled}
-use Rattle.sudoers_match.proofs.SpecsEqual.{specs_users_hosts}
-use Rattle.laws_program.proofs.HeadsAlike.{IsSameCommand, commands_alike, values_alike, tags_alike}
-use Rattle.laws_program.proofs.Parts.{no_defaults, no_defs, made_of_specs, made_alike, as_alike, of_others}
+use Rattle.laws_program.proofs.Common.{User, Runas, Host, Cmnd, HostGroup, Member, RunasSpec, Node, Line, atom_read_back, IsMemberSameButPlace, AreItemsPairwiseRelated, IsRunasSameButPlace}
+use Rattle.laws_program.proofs.Common.{IsHostGroupSameButPlace, IsNodeSameButPlace, IsPointwiseRelated, HaveSameFlatListAfterRewrite, AreRunasMemberListsAlike, AreRunasSpecsAlike, AreCommandsWithSettingsAlike, AreHostGroupsAlike}
+use Rattle.laws_program.proofs.Common.{AreSpecUsersAndHostsAlike, AreUserSpecsAlike, SettingsOfCommand, empty_command_settings, UserSpec, user_spec_of, user_spec_in_node, user_specs_of_lines, pointwise_relation_is_weakened, effective_host_group, effective_spec_nodes_in}
+use Rattle.laws_program.proofs.Common.{rules_of_policy_lines, rule_nodes_in_print_order, nodes_of_lines}
+use Rattle.sudoers_grammar.specs.Node as node
+use Rattle.sudoers_match.specs.Heads.{commands_with_settings}
+use Rattle.sudoers_match.proofs.SpecsEqual.{alike_specs_have_alike_users_and_hosts}
+use Rattle.laws_program.proofs.HeadsAlike.{IsCommandReadBackSame, effective_commands_read_back_are_same, equal_final_options_give_equal_lists, equal_final_tags_give_equal_lists}
+use Rattle.laws_program.proofs.Parts.{no_defaults, no_defs, made_of_specs, same_nodes_make_related_items, pairwise_related_items_are_pointwise_related, pointwise_relation_of_mapped_is_of_sources}
 
 -- ---- the user specifications
 
 -- the user specification that a line is, as a list
-abbrev pub spec_list : Node → List Spec
-spec_list (node.Spec users groups) = spec_of users groups ∷ []
-spec_list n = []
+abbrev pub user_spec_list_of_node : Node → List UserSpec
+user_spec_list_of_node (node.Spec users groups) = user_spec_of users groups ∷ []
+user_spec_list_of_node n = []
 
-abbrev effective_spec : Spec → Spec
-effective_spec s = spec_of s.users (map effective_group s.groups)
+abbrev user_spec_with_effective_commands : UserSpec → UserSpec
+user_spec_with_effective_commands s = user_spec_of s.users (map effective_host_group s.groups)
 
-abbrev effective_list : Node → List Spec
-effective_list n = map effective_spec (spec_list n)
+abbrev effective_user_spec_list_of_node : Node → List UserSpec
+effective_user_spec_list_of_node n = map user_spec_with_effective_commands (user_spec_list_of_node n)
 
-listed_first : (n : Node) (rest : List Spec) → cons_option (spec_in n) rest ≡ spec_list n ++ rest
-listed_first (node.Spec users groups) rest = refl
-listed_first n rest = refl
+user_spec_of_node_leads_list : (n : Node) (rest : List UserSpec) → cons_option (user_spec_in_node n) rest ≡ user_spec_list_of_node n ++ rest
+user_spec_of_node_leads_list (node.Spec users groups) rest = refl
+user_spec_of_node_leads_list n rest = refl
 
-pub specs_are : (lines : List Line) → specs_of lines ≡ flat_map spec_list (said_by lines)
-specs_are lines = by lines
+pub user_specs_of_lines_are_of_nodes : (lines : List Line) → user_specs_of_lines lines ≡ flat_map user_spec_list_of_node (nodes_of_lines lines)
+user_specs_of_lines_are_of_nodes lines = by lines
   where
-    by : (ls : List Line) → filter_map (λ (line : Line). spec_in line.node) ls ≡ flat_map spec_list (said_by ls)
+    by : (ls : List Line) → filter_map (λ (line : Line). user_spec_in_node line.node) ls ≡ flat_map user_spec_list_of_node (nodes_of_lines ls)
     by [] = refl
-    by (line ∷ ls) = ap (cons_option (spec_in line.node)) (by ls) ∙ listed_first line.node (flat_map spec_list (said_by ls))
+    by (line ∷ ls) = ap (cons_option (user_spec_in_node line.node)) (by ls) ∙ user_spec_of_node_leads_list line.node (flat_map user_spec_list_of_node (nodes_of_lines ls))
 
-effective_append : (n : Node) (rest : List Spec) → effective_list n ++ map effective_spec rest ≡ map effective_spec (spec_list n ++ rest)
-effective_append (node.Spec users groups) rest = refl
-effective_append n rest = refl
+effective_specs_append_over_node : (n : Node) (rest : List UserSpec) → effective_user_spec_list_of_node n ++ map user_spec_with_effective_commands rest ≡ map user_spec_with_effective_commands (user_spec_list_of_node n ++ rest)
+effective_specs_append_over_node (node.Spec users groups) rest = refl
+effective_specs_append_over_node n rest = refl
 
-effective_lists : (ns : List Node) → flat_map effective_list ns ≡ map effective_spec (flat_map spec_list ns)
-effective_lists [] = refl
-effective_lists (n ∷ ns) = ap (λ (t : List Spec). effective_list n ++ t) (effective_lists ns) ∙ effective_append n (flat_map spec_list ns)
+effective_spec_lists_are_mapped_specs : (ns : List Node) → flat_map effective_user_spec_list_of_node ns ≡ map user_spec_with_effective_commands (flat_map user_spec_list_of_node ns)
+effective_spec_lists_are_mapped_specs [] = refl
+effective_spec_lists_are_mapped_specs (n ∷ ns) = ap (λ (t : List UserSpec). effective_user_spec_list_of_node n ++ t) (effective_spec_lists_are_mapped_specs ns) ∙ effective_specs_append_over_node n (flat_map user_spec_list_of_node ns)
 
-in_specs : (n : Node) → flat_map spec_list (specs_in n) ≡ effective_list n
-in_specs (node.Spec users groups) = refl
-in_specs n = refl
+effective_nodes_have_effective_specs : (n : Node) → flat_map user_spec_list_of_node (effective_spec_nodes_in n) ≡ effective_user_spec_list_of_node n
+effective_nodes_have_effective_specs (node.Spec users groups) = refl
+effective_nodes_have_effective_specs n = refl
 
-record IsSameSpec (s t : Spec) : Type 0 where
-  users : AllSame IsSameMember s.users t.users
-  groups : AllSame IsSameGroup s.groups t.groups
+record IsUserSpecSameButPlace (s t : UserSpec) : Type 0 where
+  users : AreItemsPairwiseRelated IsMemberSameButPlace s.users t.users
+  groups : AreItemsPairwiseRelated IsHostGroupSameButPlace s.groups t.groups
 
-node_alike : (n m : Node) → IsSame n m → AllAlike IsSameSpec (spec_list n) (spec_list m)
-node_alike (node.Spec users groups) (node.Spec others places) same = (record { users = same.0; groups = same.1 }, tt)
-node_alike (node.Defaults scope params) (node.Defaults other settings) same = tt
-node_alike (node.Alias k ds) (node.Alias j es) same = tt
-node_alike n m same = absurd same
+same_nodes_have_same_user_specs : (n m : Node) → IsNodeSameButPlace n m → IsPointwiseRelated IsUserSpecSameButPlace (user_spec_list_of_node n) (user_spec_list_of_node m)
+same_nodes_have_same_user_specs (node.Spec users groups) (node.Spec others places) same = (record { users = same.0; groups = same.1 }, tt)
+same_nodes_have_same_user_specs (node.Defaults scope params) (node.Defaults other settings) same = tt
+same_nodes_have_same_user_specs (node.Alias k ds) (node.Alias j es) same = tt
+same_nodes_have_same_user_specs n m same = absurd same
 
-specs_alike : (lines read : List Line) → AllSame IsSame (lines_of (rules_of lines)) (said_by read)
-    → AllAlike (λ (s t : Spec). IsSameSpec (effective_spec s) t) (specs_of lines) (specs_of read)
-specs_alike lines read same =
-    let made : flat_map spec_list (lines_of (rules_of lines)) ≡ map effective_spec (specs_of lines) =
-    made_of_specs spec_list effective_list (no_defaults spec_list (λ scope params. refl)) (no_defs spec_list (λ k d. refl)) in_specs lines ∙ effective_lists (said_by lines) ∙ sym (ap (map effective_spec) (specs_are lines)) in
-    of_others effective_spec IsSameSpec (specs_of lines) (specs_of read)
-    (subst (λ xs. AllAlike IsSameSpec xs (specs_of read)) made
-    (subst (λ ys. AllAlike IsSameSpec (flat_map spec_list (lines_of (rules_of lines))) ys) (sym (specs_are read))
-    (made_alike IsSameSpec spec_list node_alike (lines_of (rules_of lines)) (said_by read) same)))
+printed_rules_keep_effective_user_specs : (lines read : List Line) → AreItemsPairwiseRelated IsNodeSameButPlace (rule_nodes_in_print_order (rules_of_policy_lines lines)) (nodes_of_lines read)
+    → IsPointwiseRelated (λ (s t : UserSpec). IsUserSpecSameButPlace (user_spec_with_effective_commands s) t) (user_specs_of_lines lines) (user_specs_of_lines read)
+printed_rules_keep_effective_user_specs lines read same =
+    let made : flat_map user_spec_list_of_node (rule_nodes_in_print_order (rules_of_policy_lines lines)) ≡ map user_spec_with_effective_commands (user_specs_of_lines lines) =
+    made_of_specs user_spec_list_of_node effective_user_spec_list_of_node (no_defaults user_spec_list_of_node (λ scope params. refl)) (no_defs user_spec_list_of_node (λ k d. refl)) effective_nodes_have_effective_specs lines ∙ effective_spec_lists_are_mapped_specs (nodes_of_lines lines) ∙ sym (ap (map user_spec_with_effective_commands) (user_specs_of_lines_are_of_nodes lines)) in
+    pointwise_relation_of_mapped_is_of_sources user_spec_with_effective_commands IsUserSpecSameButPlace (user_specs_of_lines lines) (user_specs_of_lines read)
+    (subst (λ xs. IsPointwiseRelated IsUserSpecSameButPlace xs (user_specs_of_lines read)) made
+    (subst (λ ys. IsPointwiseRelated IsUserSpecSameButPlace (flat_map user_spec_list_of_node (rule_nodes_in_print_order (rules_of_policy_lines lines))) ys) (sym (user_specs_of_lines_are_of_nodes read))
+    (same_nodes_make_related_items IsUserSpecSameButPlace user_spec_list_of_node same_nodes_have_same_user_specs (rule_nodes_in_print_order (rules_of_policy_lines lines)) (nodes_of_lines read) same)))
 
 -- ---- what they say
 
-module _ (lines read : List Line) (lists : (k : Kind) (ms ns : List Member) → AllSame IsSameMember ms ns → AreAlike read_back k lines read ms ns) where
-  runas_lists : (ms ns : List Member) → AllSame IsSameMember ms ns → AreRunasListsAlike read_back lines read ms ns
+module _ (lines read : List Line) (lists : (k : Kind) (ms ns : List Member) → AreItemsPairwiseRelated IsMemberSameButPlace ms ns → HaveSameFlatListAfterRewrite atom_read_back k lines read ms ns) where
+  runas_lists : (ms ns : List Member) → AreItemsPairwiseRelated IsMemberSameButPlace ms ns → AreRunasMemberListsAlike atom_read_back lines read ms ns
   runas_lists [] [] same = tt
   runas_lists (m ∷ ms) (n ∷ ns) same = lists Runas (m ∷ ms) (n ∷ ns) same
   runas_lists ms ns same = absurd same
 
-  runas_alike : (r s : Option RunasSpec) → IsSameRunas r s → AreRunasAlike read_back lines read r s
+  runas_alike : (r s : Option RunasSpec) → IsRunasSameButPlace r s → AreRunasSpecsAlike atom_read_back lines read r s
   runas_alike None None same = tt
   runas_alike (Some r) (Some s) same = (runas_lists r.users s.users same.0, runas_lists r.groups s.groups same.1)
   runas_alike r s same = absurd same
 
-  command_alike : (c d : Head × Member) → IsSameCommand c d → AreCommandsAlike read_back lines read c d
+  command_alike : (c d : SettingsOfCommand × Member) → IsCommandReadBackSame c d → AreCommandsWithSettingsAlike atom_read_back lines read c d
   command_alike c d same = record {
     head =
         record {
           runas = runas_alike c.0.runas d.0.runas same.head.runas;
-          options = values_alike c.0.options d.0.options same.head.options;
-          tags = tags_alike c.0.tags d.0.tags same.head.tags;
+          options = equal_final_options_give_equal_lists c.0.options d.0.options same.head.options;
+          tags = equal_final_tags_give_equal_lists c.0.tags d.0.tags same.head.tags;
         };
     member = lists Cmnd (c.1 ∷ []) (d.1 ∷ []) (same.member, tt);
   }
 
-  group_alike : (g h : HostGroup) → IsSameGroup (effective_group g) h → AreGroupsEqual read_back lines read g h
+  group_alike : (g h : HostGroup) → IsHostGroupSameButPlace (effective_host_group g) h → AreHostGroupsAlike atom_read_back lines read g h
   group_alike g h same = record {
     hosts = lists Host g.hosts h.hosts same.hosts;
-    commands = all_to IsSameCommand (AreCommandsAlike read_back lines read) command_alike (filled no_head g.commands) (filled no_head h.commands)
-        (commands_alike g.commands h.commands same.commands);
+    commands = pointwise_relation_is_weakened IsCommandReadBackSame (AreCommandsWithSettingsAlike atom_read_back lines read) command_alike (commands_with_settings empty_command_settings g.commands) (commands_with_settings empty_command_settings h.commands)
+        (effective_commands_read_back_are_same g.commands h.commands same.commands);
   }
 
-  spec_alike : (s t : Spec) → IsSameSpec (effective_spec s) t → AreSpecsEqual read_back lines read s t
+  spec_alike : (s t : UserSpec) → IsUserSpecSameButPlace (user_spec_with_effective_commands s) t → AreUserSpecsAlike atom_read_back lines read s t
   spec_alike s t same = record {
     users = lists User s.users t.users same.users;
-    groups = all_to (λ g h. IsSameGroup (effective_group g) h) (AreGroupsEqual read_back lines read) group_alike s.groups t.groups
-        (of_others effective_group IsSameGroup s.groups t.groups
-        (as_alike IsSameGroup IsSameGroup (λ g h is. is) (map effective_group s.groups) t.groups same.groups));
+    groups = pointwise_relation_is_weakened (λ g h. IsHostGroupSameButPlace (effective_host_group g) h) (AreHostGroupsAlike atom_read_back lines read) group_alike s.groups t.groups
+        (pointwise_relation_of_mapped_is_of_sources effective_host_group IsHostGroupSameButPlace s.groups t.groups
+        (pairwise_related_items_are_pointwise_related IsHostGroupSameButPlace IsHostGroupSameButPlace (λ g h is. is) (map effective_host_group s.groups) t.groups same.groups));
   }
 
-  pub specs_equal : AllSame IsSame (lines_of (rules_of lines)) (said_by read) → AllAlike (AreSpecsEqual read_back lines read) (specs_of lines) (specs_of read)
+  pub specs_equal : AreItemsPairwiseRelated IsNodeSameButPlace (rule_nodes_in_print_order (rules_of_policy_lines lines)) (nodes_of_lines read) → IsPointwiseRelated (AreUserSpecsAlike atom_read_back lines read) (user_specs_of_lines lines) (user_specs_of_lines read)
   specs_equal same =
-      all_to (λ (s t : Spec). IsSameSpec (effective_spec s) t) (AreSpecsEqual read_back lines read) spec_alike (specs_of lines) (specs_of read)
-      (specs_alike lines read same)
+      pointwise_relation_is_weakened (λ (s t : UserSpec). IsUserSpecSameButPlace (user_spec_with_effective_commands s) t) (AreUserSpecsAlike atom_read_back lines read) spec_alike (user_specs_of_lines lines) (user_specs_of_lines read)
+      (printed_rules_keep_effective_user_specs lines read same)
 
   -- They are for the same users and hosts.
-  pub specs_for_same : AllSame IsSame (lines_of (rules_of lines)) (said_by read) → AllAlike (AreSpecsAlike read_back lines read) (specs_of lines) (specs_of read)
+  pub specs_for_same : AreItemsPairwiseRelated IsNodeSameButPlace (rule_nodes_in_print_order (rules_of_policy_lines lines)) (nodes_of_lines read) → IsPointwiseRelated (AreSpecUsersAndHostsAlike atom_read_back lines read) (user_specs_of_lines lines) (user_specs_of_lines read)
   specs_for_same same =
-      all_to (AreSpecsEqual read_back lines read) (AreSpecsAlike read_back lines read) (specs_users_hosts read_back lines read) (specs_of lines) (specs_of read)
+      pointwise_relation_is_weakened (AreUserSpecsAlike atom_read_back lines read) (AreSpecUsersAndHostsAlike atom_read_back lines read) (alike_specs_have_alike_users_and_hosts atom_read_back lines read) (user_specs_of_lines lines) (user_specs_of_lines read)
       (specs_equal same)

@@ -1,265 +1,265 @@
 -- Printed rules mention the aliases that the policy mentions.
 use Rattle.laws_program.proofs.Common.{◌≡◌, ◌⊎◌, inl, inr, ◌↔◌, ℕ, Bool, true, false, List, [], ◌∷◌, ◌++◌, Option, Some, None, map, refl, sym, ap, ap₂, subst}
 use Rattle.laws_program.proofs.Common.{◌∙◌, if◌then◌else◌, flat_map, option_or, flat_map-append, Kind, User, Runas, Host, Cmnd, CmdSpec, HostGroup, Member}
-use Rattle.laws_program.proofs.Common.{RunasSpec, Scope, Node, Line, is_kind, of_runas, in_group, in_scope, Has, name_in, names_in, roots_in, roots}
-use Rattle.laws_program.proofs.Common.{IsSameMember, AllSame, IsSameRunas, IsSameCmd, IsSameGroup, IsSameScope, IsSame, Head, no_head, inherit}
-use Rattle.laws_program.proofs.Common.{effective_command, effective_group, specs_in, defs_in, rules_of, lines_of, said_by}
-use Rattle.sudoers_line.specs.Node as node
-use Rattle.sudoers_tree.specs.Mention.{in_spec}
-use Rattle.sudoers_match.specs.Heads.{filled}
-use Rattle.sudoers_cvt_rules.specs.Rules.{defaults_in}
+use Rattle.laws_program.proofs.Common.{RunasSpec, Scope, Node, Line, is_equal_kind, members_of_runas, members_in_host_group, members_in_scope, ListHasElement, alias_names_of_atom, alias_names_among_members, root_names_in_node, root_alias_names}
+use Rattle.laws_program.proofs.Common.{IsMemberSameButPlace, AreItemsPairwiseRelated, IsRunasSameButPlace, IsCommandSameButPlace, IsHostGroupSameButPlace, IsScopeSameButPlace, IsNodeSameButPlace, SettingsOfCommand, empty_command_settings, settings_after_command}
+use Rattle.laws_program.proofs.Common.{effective_command, effective_host_group, effective_spec_nodes_in, one_definition_nodes_in, rules_of_policy_lines, rule_nodes_in_print_order, nodes_of_lines}
+use Rattle.sudoers_grammar.specs.Node as node
+use Rattle.sudoers_tree.specs.Mention.{members_in_user_spec}
+use Rattle.sudoers_match.specs.Heads.{commands_with_settings}
+use Rattle.sudoers_cvt_rules.specs.Rules.{defaults_line_nodes_in}
 use Rattle.laws_program.proofs.Parts.{made_each, no_defs, nothing, three}
-use Rattle.laws_program.proofs.ReadBack.{same_of_hosts}
+use Rattle.laws_program.proofs.ReadBack.{property_alike_for_hosts_survives_read_back}
 
-abbrev pub Name : Type 0
-Name = List ℕ
+abbrev pub AliasName : Type 0
+AliasName = List ℕ
 
 -- ---- one of two lists
 
-has_left : (xs ys : List Name) (x : Name) → Has xs x → Has (xs ++ ys) x
-has_left [] ys x h = absurd h
-has_left (y ∷ xs) ys x (inl e) = inl e
-has_left (y ∷ xs) ys x (inr h) = inr (has_left xs ys x h)
+left_list_element_is_in_appended : (xs ys : List AliasName) (x : AliasName) → ListHasElement xs x → ListHasElement (xs ++ ys) x
+left_list_element_is_in_appended [] ys x h = absurd h
+left_list_element_is_in_appended (y ∷ xs) ys x (inl e) = inl e
+left_list_element_is_in_appended (y ∷ xs) ys x (inr h) = inr (left_list_element_is_in_appended xs ys x h)
 
-has_right : (xs ys : List Name) (x : Name) → Has ys x → Has (xs ++ ys) x
-has_right [] ys x h = h
-has_right (y ∷ xs) ys x h = inr (has_right xs ys x h)
+right_list_element_is_in_appended : (xs ys : List AliasName) (x : AliasName) → ListHasElement ys x → ListHasElement (xs ++ ys) x
+right_list_element_is_in_appended [] ys x h = h
+right_list_element_is_in_appended (y ∷ xs) ys x h = inr (right_list_element_is_in_appended xs ys x h)
 
-has_either : (xs ys : List Name) (x : Name) → Has (xs ++ ys) x → Has xs x ⊎ Has ys x
-has_either [] ys x h = inr h
-has_either (y ∷ xs) ys x (inl e) = inl (inl e)
-has_either (y ∷ xs) ys x (inr h) = elim (has_either xs ys x h) [ inl l ↦ inl (inr l) | inr r ↦ inr r ]
+appended_element_is_in_either_list : (xs ys : List AliasName) (x : AliasName) → ListHasElement (xs ++ ys) x → ListHasElement xs x ⊎ ListHasElement ys x
+appended_element_is_in_either_list [] ys x h = inr h
+appended_element_is_in_either_list (y ∷ xs) ys x (inl e) = inl (inl e)
+appended_element_is_in_either_list (y ∷ xs) ys x (inr h) = elim (appended_element_is_in_either_list xs ys x h) [ inl l ↦ inl (inr l) | inr r ↦ inr r ]
 
-names_append : (ms ns : List Member) → names_in (ms ++ ns) ≡ names_in ms ++ names_in ns
-names_append ms ns = flat_map-append (λ (m : Member). name_in m.atom) ms ns
+alias_names_of_appended_members_are_appended : (ms ns : List Member) → alias_names_among_members (ms ++ ns) ≡ alias_names_among_members ms ++ alias_names_among_members ns
+alias_names_of_appended_members_are_appended ms ns = flat_map-append (λ (m : Member). alias_names_of_atom m.atom) ms ns
 
-names_either : (ms ns : List Member) (x : Name) → Has (names_in (ms ++ ns)) x → Has (names_in ms) x ⊎ Has (names_in ns) x
-names_either ms ns x h = has_either (names_in ms) (names_in ns) x (subst (λ xs. Has xs x) (names_append ms ns) h)
+name_among_appended_members_is_in_either : (ms ns : List Member) (x : AliasName) → ListHasElement (alias_names_among_members (ms ++ ns)) x → ListHasElement (alias_names_among_members ms) x ⊎ ListHasElement (alias_names_among_members ns) x
+name_among_appended_members_is_in_either ms ns x h = appended_element_is_in_either_list (alias_names_among_members ms) (alias_names_among_members ns) x (subst (λ xs. ListHasElement xs x) (alias_names_of_appended_members_are_appended ms ns) h)
 
-names_left : (ms ns : List Member) (x : Name) → Has (names_in ms) x → Has (names_in (ms ++ ns)) x
-names_left ms ns x h = subst (λ xs. Has xs x) (sym (names_append ms ns)) (has_left (names_in ms) (names_in ns) x h)
+name_among_left_members_is_in_appended : (ms ns : List Member) (x : AliasName) → ListHasElement (alias_names_among_members ms) x → ListHasElement (alias_names_among_members (ms ++ ns)) x
+name_among_left_members_is_in_appended ms ns x h = subst (λ xs. ListHasElement xs x) (sym (alias_names_of_appended_members_are_appended ms ns)) (left_list_element_is_in_appended (alias_names_among_members ms) (alias_names_among_members ns) x h)
 
-names_right : (ms ns : List Member) (x : Name) → Has (names_in ns) x → Has (names_in (ms ++ ns)) x
-names_right ms ns x h = subst (λ xs. Has xs x) (sym (names_append ms ns)) (has_right (names_in ms) (names_in ns) x h)
+name_among_right_members_is_in_appended : (ms ns : List Member) (x : AliasName) → ListHasElement (alias_names_among_members ns) x → ListHasElement (alias_names_among_members (ms ++ ns)) x
+name_among_right_members_is_in_appended ms ns x h = subst (λ xs. ListHasElement xs x) (sym (alias_names_of_appended_members_are_appended ms ns)) (right_list_element_is_in_appended (alias_names_among_members ms) (alias_names_among_members ns) x h)
 
 -- ---- lists that are read as the same
 
-pub names_same : (ms ns : List Member) → AllSame IsSameMember ms ns → names_in ns ≡ names_in ms
-names_same [] [] same = refl
-names_same (m ∷ ms) (n ∷ ns) same =
-    ap₂ (λ (x y : List Name). x ++ y) (sym (ap name_in same.0.atom) ∙ same_of_hosts name_in (λ p q. refl) m.atom) (names_same ms ns same.1)
-names_same ms ns same = absurd same
+pub same_members_have_same_alias_names : (ms ns : List Member) → AreItemsPairwiseRelated IsMemberSameButPlace ms ns → alias_names_among_members ns ≡ alias_names_among_members ms
+same_members_have_same_alias_names [] [] same = refl
+same_members_have_same_alias_names (m ∷ ms) (n ∷ ns) same =
+    ap₂ (λ (x y : List AliasName). x ++ y) (sym (ap alias_names_of_atom same.0.atom) ∙ property_alike_for_hosts_survives_read_back alias_names_of_atom (λ p q. refl) m.atom) (same_members_have_same_alias_names ms ns same.1)
+same_members_have_same_alias_names ms ns same = absurd same
 
-same_append : (ms ns : List Member) (more rest : List Member) → AllSame IsSameMember ms ns → AllSame IsSameMember more rest → AllSame IsSameMember (ms ++ more) (ns ++ rest)
-same_append [] [] more rest same also = also
-same_append (m ∷ ms) (n ∷ ns) more rest same also = (same.0, same_append ms ns more rest same.1 also)
-same_append ms ns more rest same also = absurd same
+same_members_appended_are_same : (ms ns : List Member) (more rest : List Member) → AreItemsPairwiseRelated IsMemberSameButPlace ms ns → AreItemsPairwiseRelated IsMemberSameButPlace more rest → AreItemsPairwiseRelated IsMemberSameButPlace (ms ++ more) (ns ++ rest)
+same_members_appended_are_same [] [] more rest same also = also
+same_members_appended_are_same (m ∷ ms) (n ∷ ns) more rest same also = (same.0, same_members_appended_are_same ms ns more rest same.1 also)
+same_members_appended_are_same ms ns more rest same also = absurd same
 
-same_runas : (r s : Option RunasSpec) → IsSameRunas r s → AllSame IsSameMember (of_runas r) (of_runas s)
-same_runas None None same = tt
-same_runas (Some r) (Some s) same = same_append r.users s.users r.groups s.groups same.0 same.1
-same_runas r s same = absurd same
+same_runas_specs_have_same_members : (r s : Option RunasSpec) → IsRunasSameButPlace r s → AreItemsPairwiseRelated IsMemberSameButPlace (members_of_runas r) (members_of_runas s)
+same_runas_specs_have_same_members None None same = tt
+same_runas_specs_have_same_members (Some r) (Some s) same = same_members_appended_are_same r.users s.users r.groups s.groups same.0 same.1
+same_runas_specs_have_same_members r s same = absurd same
 
-same_commands : (k : Kind) (g h : HostGroup) → AllSame IsSameMember g.hosts h.hosts → (cs ds : List CmdSpec) → AllSame IsSameCmd cs ds
-    → AllSame IsSameMember (in_group k (record { hosts = g.hosts; commands = cs })) (in_group k (record { hosts = h.hosts; commands = ds }))
-same_commands User g h hosts cs ds same = tt
-same_commands Host g h hosts cs ds same = hosts
-same_commands Runas g h hosts [] [] same = tt
-same_commands Runas g h hosts (c ∷ cs) (d ∷ ds) same =
-    same_append (of_runas c.runas) (of_runas d.runas) (in_group Runas (record { hosts = g.hosts; commands = cs })) (in_group Runas (record { hosts = h.hosts; commands = ds }))
-    (same_runas c.runas d.runas same.0.runas) (same_commands Runas g h hosts cs ds same.1)
-same_commands Cmnd g h hosts [] [] same = tt
-same_commands Cmnd g h hosts (c ∷ cs) (d ∷ ds) same = (same.0.member, same_commands Cmnd g h hosts cs ds same.1)
-same_commands k g h hosts cs ds same = absurd same
+same_commands_give_group_same_members : (k : Kind) (g h : HostGroup) → AreItemsPairwiseRelated IsMemberSameButPlace g.hosts h.hosts → (cs ds : List CmdSpec) → AreItemsPairwiseRelated IsCommandSameButPlace cs ds
+    → AreItemsPairwiseRelated IsMemberSameButPlace (members_in_host_group k (record { hosts = g.hosts; commands = cs })) (members_in_host_group k (record { hosts = h.hosts; commands = ds }))
+same_commands_give_group_same_members User g h hosts cs ds same = tt
+same_commands_give_group_same_members Host g h hosts cs ds same = hosts
+same_commands_give_group_same_members Runas g h hosts [] [] same = tt
+same_commands_give_group_same_members Runas g h hosts (c ∷ cs) (d ∷ ds) same =
+    same_members_appended_are_same (members_of_runas c.runas) (members_of_runas d.runas) (members_in_host_group Runas (record { hosts = g.hosts; commands = cs })) (members_in_host_group Runas (record { hosts = h.hosts; commands = ds }))
+    (same_runas_specs_have_same_members c.runas d.runas same.0.runas) (same_commands_give_group_same_members Runas g h hosts cs ds same.1)
+same_commands_give_group_same_members Cmnd g h hosts [] [] same = tt
+same_commands_give_group_same_members Cmnd g h hosts (c ∷ cs) (d ∷ ds) same = (same.0.member, same_commands_give_group_same_members Cmnd g h hosts cs ds same.1)
+same_commands_give_group_same_members k g h hosts cs ds same = absurd same
 
-same_groups : (k : Kind) (gs hs : List HostGroup) → AllSame IsSameGroup gs hs → AllSame IsSameMember (flat_map (in_group k) gs) (flat_map (in_group k) hs)
-same_groups k [] [] same = tt
-same_groups k (g ∷ gs) (h ∷ hs) same =
-    same_append (in_group k g) (in_group k h) (flat_map (in_group k) gs) (flat_map (in_group k) hs)
-    (same_commands k g h same.0.hosts g.commands h.commands same.0.commands) (same_groups k gs hs same.1)
-same_groups k gs hs same = absurd same
+same_host_groups_have_same_members : (k : Kind) (gs hs : List HostGroup) → AreItemsPairwiseRelated IsHostGroupSameButPlace gs hs → AreItemsPairwiseRelated IsMemberSameButPlace (flat_map (members_in_host_group k) gs) (flat_map (members_in_host_group k) hs)
+same_host_groups_have_same_members k [] [] same = tt
+same_host_groups_have_same_members k (g ∷ gs) (h ∷ hs) same =
+    same_members_appended_are_same (members_in_host_group k g) (members_in_host_group k h) (flat_map (members_in_host_group k) gs) (flat_map (members_in_host_group k) hs)
+    (same_commands_give_group_same_members k g h same.0.hosts g.commands h.commands same.0.commands) (same_host_groups_have_same_members k gs hs same.1)
+same_host_groups_have_same_members k gs hs same = absurd same
 
-same_spec : (k : Kind) (users others : List Member) (gs hs : List HostGroup) → AllSame IsSameMember users others → AllSame IsSameGroup gs hs
-    → AllSame IsSameMember (in_spec k users gs) (in_spec k others hs)
-same_spec User users others gs hs us same = us
-same_spec Runas users others gs hs us same = same_groups Runas gs hs same
-same_spec Host users others gs hs us same = same_groups Host gs hs same
-same_spec Cmnd users others gs hs us same = same_groups Cmnd gs hs same
+same_user_specs_have_same_members : (k : Kind) (users others : List Member) (gs hs : List HostGroup) → AreItemsPairwiseRelated IsMemberSameButPlace users others → AreItemsPairwiseRelated IsHostGroupSameButPlace gs hs
+    → AreItemsPairwiseRelated IsMemberSameButPlace (members_in_user_spec k users gs) (members_in_user_spec k others hs)
+same_user_specs_have_same_members User users others gs hs us same = us
+same_user_specs_have_same_members Runas users others gs hs us same = same_host_groups_have_same_members Runas gs hs same
+same_user_specs_have_same_members Host users others gs hs us same = same_host_groups_have_same_members Host gs hs same
+same_user_specs_have_same_members Cmnd users others gs hs us same = same_host_groups_have_same_members Cmnd gs hs same
 
-scope_names : (k : Kind) (s t : Option Scope) → IsSameScope s t → names_in (in_scope k t) ≡ names_in (in_scope k s)
-scope_names k None None same = refl
-scope_names k (Some s) (Some t) same =
-    ap (λ (j : Kind). names_in (if is_kind k j then t.members else [])) (sym same.0) ∙ by (is_kind k s.kind)
+same_scopes_have_same_alias_names : (k : Kind) (s t : Option Scope) → IsScopeSameButPlace s t → alias_names_among_members (members_in_scope k t) ≡ alias_names_among_members (members_in_scope k s)
+same_scopes_have_same_alias_names k None None same = refl
+same_scopes_have_same_alias_names k (Some s) (Some t) same =
+    ap (λ (j : Kind). alias_names_among_members (if is_equal_kind k j then t.members else [])) (sym same.0) ∙ by (is_equal_kind k s.kind)
   where
-    by : (b : Bool) → names_in (if b then t.members else []) ≡ names_in (if b then s.members else [])
-    by true = names_same s.members t.members same.1
+    by : (b : Bool) → alias_names_among_members (if b then t.members else []) ≡ alias_names_among_members (if b then s.members else [])
+    by true = same_members_have_same_alias_names s.members t.members same.1
     by false = refl
-scope_names k s t same = absurd same
+same_scopes_have_same_alias_names k s t same = absurd same
 
-node_names : (k : Kind) (n m : Node) → IsSame n m → roots_in k m ≡ roots_in k n
-node_names k (node.Defaults s params) (node.Defaults t others) same = scope_names k s t same.0
-node_names k (node.Alias j ds) (node.Alias i es) same = refl
-node_names k (node.Spec users groups) (node.Spec others places) same =
-    names_same (in_spec k users groups) (in_spec k others places) (same_spec k users others groups places same.0 same.1)
-node_names k n m same = absurd same
+same_nodes_have_same_root_names : (k : Kind) (n m : Node) → IsNodeSameButPlace n m → root_names_in_node k m ≡ root_names_in_node k n
+same_nodes_have_same_root_names k (node.Defaults s params) (node.Defaults t others) same = same_scopes_have_same_alias_names k s t same.0
+same_nodes_have_same_root_names k (node.Alias j ds) (node.Alias i es) same = refl
+same_nodes_have_same_root_names k (node.Spec users groups) (node.Spec others places) same =
+    same_members_have_same_alias_names (members_in_user_spec k users groups) (members_in_user_spec k others places) (same_user_specs_have_same_members k users others groups places same.0 same.1)
+same_nodes_have_same_root_names k n m same = absurd same
 
-flat_names : (k : Kind) (ns ms : List Node) → AllSame IsSame ns ms → flat_map (roots_in k) ms ≡ flat_map (roots_in k) ns
-flat_names k [] [] same = refl
-flat_names k (n ∷ ns) (m ∷ ms) same = ap₂ (λ (x y : List Name). x ++ y) (node_names k n m same.0) (flat_names k ns ms same.1)
-flat_names k ns ms same = absurd same
+same_node_lists_have_same_root_names : (k : Kind) (ns ms : List Node) → AreItemsPairwiseRelated IsNodeSameButPlace ns ms → flat_map (root_names_in_node k) ms ≡ flat_map (root_names_in_node k) ns
+same_node_lists_have_same_root_names k [] [] same = refl
+same_node_lists_have_same_root_names k (n ∷ ns) (m ∷ ms) same = ap₂ (λ (x y : List AliasName). x ++ y) (same_nodes_have_same_root_names k n m same.0) (same_node_lists_have_same_root_names k ns ms same.1)
+same_node_lists_have_same_root_names k ns ms same = absurd same
 
 -- ---- commands that say all that holds of them
 
-inherited : (own before : Option RunasSpec) (x : Name) → Has (names_in (of_runas own)) x → Has (names_in (of_runas (option_or own before))) x
-inherited None before x h = absurd h
-inherited (Some r) before x h = h
+own_runas_names_are_in_inherited_runas : (own before : Option RunasSpec) (x : AliasName) → ListHasElement (alias_names_among_members (members_of_runas own)) x → ListHasElement (alias_names_among_members (members_of_runas (option_or own before))) x
+own_runas_names_are_in_inherited_runas None before x h = absurd h
+own_runas_names_are_in_inherited_runas (Some r) before x h = h
 
-own_or_before : (own before : Option RunasSpec) (x : Name) → Has (names_in (of_runas (option_or own before))) x
-    → Has (names_in (of_runas before)) x ⊎ Has (names_in (of_runas own)) x
-own_or_before None before x h = inl h
-own_or_before (Some r) before x h = inr h
+inherited_runas_names_are_own_or_before : (own before : Option RunasSpec) (x : AliasName) → ListHasElement (alias_names_among_members (members_of_runas (option_or own before))) x
+    → ListHasElement (alias_names_among_members (members_of_runas before)) x ⊎ ListHasElement (alias_names_among_members (members_of_runas own)) x
+inherited_runas_names_are_own_or_before None before x h = inl h
+inherited_runas_names_are_own_or_before (Some r) before x h = inr h
 
-abbrev pub all_runas : List CmdSpec → List Member
-all_runas cs = flat_map (λ (c : CmdSpec). of_runas c.runas) cs
+abbrev pub runas_members_of_commands : List CmdSpec → List Member
+runas_members_of_commands cs = flat_map (λ (c : CmdSpec). members_of_runas c.runas) cs
 
-commands_there : (h : Head) (cs : List CmdSpec) (x : Name) → Has (names_in (all_runas cs)) x → Has (names_in (all_runas (map effective_command (filled h cs)))) x
-commands_there h [] x has = absurd has
-commands_there h (c ∷ cs) x has = elim (names_either (of_runas c.runas) (all_runas cs) x has) [
-  | inl first ↦ names_left (of_runas (option_or c.runas h.runas)) (all_runas (map effective_command (filled (inherit h c) cs))) x (inherited c.runas h.runas x first)
-  | inr rest ↦ names_right (of_runas (option_or c.runas h.runas)) (all_runas (map effective_command (filled (inherit h c) cs))) x (commands_there (inherit h c) cs x rest)
+runas_names_stay_in_effective_commands : (h : SettingsOfCommand) (cs : List CmdSpec) (x : AliasName) → ListHasElement (alias_names_among_members (runas_members_of_commands cs)) x → ListHasElement (alias_names_among_members (runas_members_of_commands (map effective_command (commands_with_settings h cs)))) x
+runas_names_stay_in_effective_commands h [] x has = absurd has
+runas_names_stay_in_effective_commands h (c ∷ cs) x has = elim (name_among_appended_members_is_in_either (members_of_runas c.runas) (runas_members_of_commands cs) x has) [
+  | inl first ↦ name_among_left_members_is_in_appended (members_of_runas (option_or c.runas h.runas)) (runas_members_of_commands (map effective_command (commands_with_settings (settings_after_command h c) cs))) x (own_runas_names_are_in_inherited_runas c.runas h.runas x first)
+  | inr rest ↦ name_among_right_members_is_in_appended (members_of_runas (option_or c.runas h.runas)) (runas_members_of_commands (map effective_command (commands_with_settings (settings_after_command h c) cs))) x (runas_names_stay_in_effective_commands (settings_after_command h c) cs x rest)
 ]
 
-commands_back : (h : Head) (cs : List CmdSpec) (x : Name) → Has (names_in (all_runas (map effective_command (filled h cs)))) x
-    → Has (names_in (of_runas h.runas)) x ⊎ Has (names_in (all_runas cs)) x
-commands_back h [] x has = absurd has
-commands_back h (c ∷ cs) x has = elim (names_either (of_runas (option_or c.runas h.runas)) (all_runas (map effective_command (filled (inherit h c) cs))) x has) [
-  | inl first ↦ first_of (own_or_before c.runas h.runas x first)
-  | inr rest ↦ elim (commands_back (inherit h c) cs x rest) [
-    | inl before ↦ first_of (own_or_before c.runas h.runas x before)
-    | inr later ↦ inr (names_right (of_runas c.runas) (all_runas cs) x later)
+effective_runas_names_are_inherited_or_own : (h : SettingsOfCommand) (cs : List CmdSpec) (x : AliasName) → ListHasElement (alias_names_among_members (runas_members_of_commands (map effective_command (commands_with_settings h cs)))) x
+    → ListHasElement (alias_names_among_members (members_of_runas h.runas)) x ⊎ ListHasElement (alias_names_among_members (runas_members_of_commands cs)) x
+effective_runas_names_are_inherited_or_own h [] x has = absurd has
+effective_runas_names_are_inherited_or_own h (c ∷ cs) x has = elim (name_among_appended_members_is_in_either (members_of_runas (option_or c.runas h.runas)) (runas_members_of_commands (map effective_command (commands_with_settings (settings_after_command h c) cs))) x has) [
+  | inl first ↦ first_of (inherited_runas_names_are_own_or_before c.runas h.runas x first)
+  | inr rest ↦ elim (effective_runas_names_are_inherited_or_own (settings_after_command h c) cs x rest) [
+    | inl before ↦ first_of (inherited_runas_names_are_own_or_before c.runas h.runas x before)
+    | inr later ↦ inr (name_among_right_members_is_in_appended (members_of_runas c.runas) (runas_members_of_commands cs) x later)
   ]
 ]
   where
-    first_of : Has (names_in (of_runas h.runas)) x ⊎ Has (names_in (of_runas c.runas)) x → Has (names_in (of_runas h.runas)) x ⊎ Has (names_in (all_runas (c ∷ cs))) x
+    first_of : ListHasElement (alias_names_among_members (members_of_runas h.runas)) x ⊎ ListHasElement (alias_names_among_members (members_of_runas c.runas)) x → ListHasElement (alias_names_among_members (members_of_runas h.runas)) x ⊎ ListHasElement (alias_names_among_members (runas_members_of_commands (c ∷ cs))) x
     first_of (inl before) = inl before
-    first_of (inr own) = inr (names_left (of_runas c.runas) (all_runas cs) x own)
+    first_of (inr own) = inr (name_among_left_members_is_in_appended (members_of_runas c.runas) (runas_members_of_commands cs) x own)
 
-members_stay : (h : Head) (cs : List CmdSpec) → map (λ (c : CmdSpec). c.member) (map effective_command (filled h cs)) ≡ map (λ (c : CmdSpec). c.member) cs
-members_stay h [] = refl
-members_stay h (c ∷ cs) = ap (λ ms. c.member ∷ ms) (members_stay (inherit h c) cs)
+effective_commands_keep_members : (h : SettingsOfCommand) (cs : List CmdSpec) → map (λ (c : CmdSpec). c.member) (map effective_command (commands_with_settings h cs)) ≡ map (λ (c : CmdSpec). c.member) cs
+effective_commands_keep_members h [] = refl
+effective_commands_keep_members h (c ∷ cs) = ap (λ ms. c.member ∷ ms) (effective_commands_keep_members (settings_after_command h c) cs)
 
-group_there : (k : Kind) (g : HostGroup) (x : Name) → Has (names_in (in_group k g)) x → Has (names_in (in_group k (effective_group g))) x
-group_there User g x h = h
-group_there Host g x h = h
-group_there Runas g x h = commands_there no_head g.commands x h
-group_there Cmnd g x h = subst (λ ms. Has (names_in ms) x) (sym (members_stay no_head g.commands)) h
+effective_group_keeps_alias_names : (k : Kind) (g : HostGroup) (x : AliasName) → ListHasElement (alias_names_among_members (members_in_host_group k g)) x → ListHasElement (alias_names_among_members (members_in_host_group k (effective_host_group g))) x
+effective_group_keeps_alias_names User g x h = h
+effective_group_keeps_alias_names Host g x h = h
+effective_group_keeps_alias_names Runas g x h = runas_names_stay_in_effective_commands empty_command_settings g.commands x h
+effective_group_keeps_alias_names Cmnd g x h = subst (λ ms. ListHasElement (alias_names_among_members ms) x) (sym (effective_commands_keep_members empty_command_settings g.commands)) h
 
-group_back : (k : Kind) (g : HostGroup) (x : Name) → Has (names_in (in_group k (effective_group g))) x → Has (names_in (in_group k g)) x
-group_back User g x h = h
-group_back Host g x h = h
-group_back Runas g x h = elim (commands_back no_head g.commands x h) [ inl none ↦ absurd none | inr is ↦ is ]
-group_back Cmnd g x h = subst (λ ms. Has (names_in ms) x) (members_stay no_head g.commands) h
+effective_group_names_are_of_group : (k : Kind) (g : HostGroup) (x : AliasName) → ListHasElement (alias_names_among_members (members_in_host_group k (effective_host_group g))) x → ListHasElement (alias_names_among_members (members_in_host_group k g)) x
+effective_group_names_are_of_group User g x h = h
+effective_group_names_are_of_group Host g x h = h
+effective_group_names_are_of_group Runas g x h = elim (effective_runas_names_are_inherited_or_own empty_command_settings g.commands x h) [ inl none ↦ absurd none | inr is ↦ is ]
+effective_group_names_are_of_group Cmnd g x h = subst (λ ms. ListHasElement (alias_names_among_members ms) x) (effective_commands_keep_members empty_command_settings g.commands) h
 
-groups_there : (k : Kind) (gs : List HostGroup) (x : Name) → Has (names_in (flat_map (in_group k) gs)) x → Has (names_in (flat_map (in_group k) (map effective_group gs))) x
-groups_there k [] x h = h
-groups_there k (g ∷ gs) x h = elim (names_either (in_group k g) (flat_map (in_group k) gs) x h) [
-  | inl first ↦ names_left (in_group k (effective_group g)) (flat_map (in_group k) (map effective_group gs)) x (group_there k g x first)
-  | inr rest ↦ names_right (in_group k (effective_group g)) (flat_map (in_group k) (map effective_group gs)) x (groups_there k gs x rest)
+effective_groups_keep_alias_names : (k : Kind) (gs : List HostGroup) (x : AliasName) → ListHasElement (alias_names_among_members (flat_map (members_in_host_group k) gs)) x → ListHasElement (alias_names_among_members (flat_map (members_in_host_group k) (map effective_host_group gs))) x
+effective_groups_keep_alias_names k [] x h = h
+effective_groups_keep_alias_names k (g ∷ gs) x h = elim (name_among_appended_members_is_in_either (members_in_host_group k g) (flat_map (members_in_host_group k) gs) x h) [
+  | inl first ↦ name_among_left_members_is_in_appended (members_in_host_group k (effective_host_group g)) (flat_map (members_in_host_group k) (map effective_host_group gs)) x (effective_group_keeps_alias_names k g x first)
+  | inr rest ↦ name_among_right_members_is_in_appended (members_in_host_group k (effective_host_group g)) (flat_map (members_in_host_group k) (map effective_host_group gs)) x (effective_groups_keep_alias_names k gs x rest)
 ]
 
-groups_back : (k : Kind) (gs : List HostGroup) (x : Name) → Has (names_in (flat_map (in_group k) (map effective_group gs))) x → Has (names_in (flat_map (in_group k) gs)) x
-groups_back k [] x h = h
-groups_back k (g ∷ gs) x h = elim (names_either (in_group k (effective_group g)) (flat_map (in_group k) (map effective_group gs)) x h) [
-  | inl first ↦ names_left (in_group k g) (flat_map (in_group k) gs) x (group_back k g x first)
-  | inr rest ↦ names_right (in_group k g) (flat_map (in_group k) gs) x (groups_back k gs x rest)
+effective_groups_names_are_of_groups : (k : Kind) (gs : List HostGroup) (x : AliasName) → ListHasElement (alias_names_among_members (flat_map (members_in_host_group k) (map effective_host_group gs))) x → ListHasElement (alias_names_among_members (flat_map (members_in_host_group k) gs)) x
+effective_groups_names_are_of_groups k [] x h = h
+effective_groups_names_are_of_groups k (g ∷ gs) x h = elim (name_among_appended_members_is_in_either (members_in_host_group k (effective_host_group g)) (flat_map (members_in_host_group k) (map effective_host_group gs)) x h) [
+  | inl first ↦ name_among_left_members_is_in_appended (members_in_host_group k g) (flat_map (members_in_host_group k) gs) x (effective_group_names_are_of_group k g x first)
+  | inr rest ↦ name_among_right_members_is_in_appended (members_in_host_group k g) (flat_map (members_in_host_group k) gs) x (effective_groups_names_are_of_groups k gs x rest)
 ]
 
-spec_both : (k : Kind) (users : List Member) (gs : List HostGroup) (x : Name) → Has (roots_in k (node.Spec users gs)) x ↔ Has (roots_in k (node.Spec users (map effective_group gs))) x
-spec_both User users gs x = (λ h. h, λ h. h)
-spec_both Runas users gs x = (groups_there Runas gs x, groups_back Runas gs x)
-spec_both Host users gs x = (groups_there Host gs x, groups_back Host gs x)
-spec_both Cmnd users gs x = (groups_there Cmnd gs x, groups_back Cmnd gs x)
+effective_spec_has_same_root_names : (k : Kind) (users : List Member) (gs : List HostGroup) (x : AliasName) → ListHasElement (root_names_in_node k (node.Spec users gs)) x ↔ ListHasElement (root_names_in_node k (node.Spec users (map effective_host_group gs))) x
+effective_spec_has_same_root_names User users gs x = (λ h. h, λ h. h)
+effective_spec_has_same_root_names Runas users gs x = (effective_groups_keep_alias_names Runas gs x, effective_groups_names_are_of_groups Runas gs x)
+effective_spec_has_same_root_names Host users gs x = (effective_groups_keep_alias_names Host gs x, effective_groups_names_are_of_groups Host gs x)
+effective_spec_has_same_root_names Cmnd users gs x = (effective_groups_keep_alias_names Cmnd gs x, effective_groups_names_are_of_groups Cmnd gs x)
 
 -- ---- all lines
 
-abbrev of_defaults : Kind → Node → List Name
-of_defaults k n = flat_map (roots_in k) (defaults_in n)
+abbrev root_names_of_defaults_in_node : Kind → Node → List AliasName
+root_names_of_defaults_in_node k n = flat_map (root_names_in_node k) (defaults_line_nodes_in n)
 
-abbrev of_specs : Kind → Node → List Name
-of_specs k n = flat_map (roots_in k) (specs_in n)
+abbrev root_names_of_specs_in_node : Kind → Node → List AliasName
+root_names_of_specs_in_node k n = flat_map (root_names_in_node k) (effective_spec_nodes_in n)
 
-node_there : (k : Kind) (n : Node) (x : Name) → Has (roots_in k n) x → Has (of_defaults k n) x ⊎ Has (of_specs k n) x
-node_there k (node.Defaults scope params) x h = inl (has_left (roots_in k (node.Defaults scope params)) [] x h)
-node_there k (node.Spec users groups) x h = inr (has_left (roots_in k (node.Spec users (map effective_group groups))) [] x ((spec_both k users groups x).0 h))
-node_there k n x h = absurd h
+root_name_in_node_is_in_part : (k : Kind) (n : Node) (x : AliasName) → ListHasElement (root_names_in_node k n) x → ListHasElement (root_names_of_defaults_in_node k n) x ⊎ ListHasElement (root_names_of_specs_in_node k n) x
+root_name_in_node_is_in_part k (node.Defaults scope params) x h = inl (left_list_element_is_in_appended (root_names_in_node k (node.Defaults scope params)) [] x h)
+root_name_in_node_is_in_part k (node.Spec users groups) x h = inr (left_list_element_is_in_appended (root_names_in_node k (node.Spec users (map effective_host_group groups))) [] x ((effective_spec_has_same_root_names k users groups x).0 h))
+root_name_in_node_is_in_part k n x h = absurd h
 
-only : (xs : List Name) (x : Name) → Has (xs ++ []) x → Has xs x
-only xs x h = elim (has_either xs [] x h) [ inl is ↦ is | inr none ↦ absurd none ]
+appended_empty_list_adds_no_element : (xs : List AliasName) (x : AliasName) → ListHasElement (xs ++ []) x → ListHasElement xs x
+appended_empty_list_adds_no_element xs x h = elim (appended_element_is_in_either_list xs [] x h) [ inl is ↦ is | inr none ↦ absurd none ]
 
-node_back : (k : Kind) (n : Node) (x : Name) → Has (of_defaults k n) x ⊎ Has (of_specs k n) x → Has (roots_in k n) x
-node_back k (node.Defaults scope params) x (inl h) = only (roots_in k (node.Defaults scope params)) x h
-node_back k (node.Spec users groups) x (inr h) = (spec_both k users groups x).1 (only (roots_in k (node.Spec users (map effective_group groups))) x h)
-node_back k n x (inl h) = absurd h
-node_back k n x (inr h) = absurd h
+root_name_in_part_is_in_node : (k : Kind) (n : Node) (x : AliasName) → ListHasElement (root_names_of_defaults_in_node k n) x ⊎ ListHasElement (root_names_of_specs_in_node k n) x → ListHasElement (root_names_in_node k n) x
+root_name_in_part_is_in_node k (node.Defaults scope params) x (inl h) = appended_empty_list_adds_no_element (root_names_in_node k (node.Defaults scope params)) x h
+root_name_in_part_is_in_node k (node.Spec users groups) x (inr h) = (effective_spec_has_same_root_names k users groups x).1 (appended_empty_list_adds_no_element (root_names_in_node k (node.Spec users (map effective_host_group groups))) x h)
+root_name_in_part_is_in_node k n x (inl h) = absurd h
+root_name_in_part_is_in_node k n x (inr h) = absurd h
 
-lines_there : (k : Kind) (ns : List Node) (x : Name) → Has (flat_map (roots_in k) ns) x → Has (flat_map (of_defaults k) ns) x ⊎ Has (flat_map (of_specs k) ns) x
-lines_there k [] x h = absurd h
-lines_there k (n ∷ ns) x h = elim (has_either (roots_in k n) (flat_map (roots_in k) ns) x h) [
-  | inl first ↦ elim (node_there k n x first) [
-    | inl d ↦ inl (has_left (of_defaults k n) (flat_map (of_defaults k) ns) x d)
-    | inr s ↦ inr (has_left (of_specs k n) (flat_map (of_specs k) ns) x s)
+root_name_of_nodes_is_in_part : (k : Kind) (ns : List Node) (x : AliasName) → ListHasElement (flat_map (root_names_in_node k) ns) x → ListHasElement (flat_map (root_names_of_defaults_in_node k) ns) x ⊎ ListHasElement (flat_map (root_names_of_specs_in_node k) ns) x
+root_name_of_nodes_is_in_part k [] x h = absurd h
+root_name_of_nodes_is_in_part k (n ∷ ns) x h = elim (appended_element_is_in_either_list (root_names_in_node k n) (flat_map (root_names_in_node k) ns) x h) [
+  | inl first ↦ elim (root_name_in_node_is_in_part k n x first) [
+    | inl d ↦ inl (left_list_element_is_in_appended (root_names_of_defaults_in_node k n) (flat_map (root_names_of_defaults_in_node k) ns) x d)
+    | inr s ↦ inr (left_list_element_is_in_appended (root_names_of_specs_in_node k n) (flat_map (root_names_of_specs_in_node k) ns) x s)
   ]
-  | inr rest ↦ elim (lines_there k ns x rest) [
-    | inl d ↦ inl (has_right (of_defaults k n) (flat_map (of_defaults k) ns) x d)
-    | inr s ↦ inr (has_right (of_specs k n) (flat_map (of_specs k) ns) x s)
+  | inr rest ↦ elim (root_name_of_nodes_is_in_part k ns x rest) [
+    | inl d ↦ inl (right_list_element_is_in_appended (root_names_of_defaults_in_node k n) (flat_map (root_names_of_defaults_in_node k) ns) x d)
+    | inr s ↦ inr (right_list_element_is_in_appended (root_names_of_specs_in_node k n) (flat_map (root_names_of_specs_in_node k) ns) x s)
   ]
 ]
 
-each_back : (k : Kind) (made : Node → List Name) (x : Name) → ((n : Node) → Has (made n) x → Has (roots_in k n) x) → (ns : List Node) → Has (flat_map made ns) x → Has (flat_map (roots_in k) ns) x
-each_back k made x each [] h = absurd h
-each_back k made x each (n ∷ ns) h = elim (has_either (made n) (flat_map made ns) x h) [
-  | inl first ↦ has_left (roots_in k n) (flat_map (roots_in k) ns) x (each n first)
-  | inr rest ↦ has_right (roots_in k n) (flat_map (roots_in k) ns) x (each_back k made x each ns rest)
+root_names_of_made_nodes_are_roots : (k : Kind) (made : Node → List AliasName) (x : AliasName) → ((n : Node) → ListHasElement (made n) x → ListHasElement (root_names_in_node k n) x) → (ns : List Node) → ListHasElement (flat_map made ns) x → ListHasElement (flat_map (root_names_in_node k) ns) x
+root_names_of_made_nodes_are_roots k made x each [] h = absurd h
+root_names_of_made_nodes_are_roots k made x each (n ∷ ns) h = elim (appended_element_is_in_either_list (made n) (flat_map made ns) x h) [
+  | inl first ↦ left_list_element_is_in_appended (root_names_in_node k n) (flat_map (root_names_in_node k) ns) x (each n first)
+  | inr rest ↦ right_list_element_is_in_appended (root_names_in_node k n) (flat_map (root_names_in_node k) ns) x (root_names_of_made_nodes_are_roots k made x each ns rest)
 ]
 
-rules_are : (k : Kind) (lines : List Line) → flat_map (roots_in k) (lines_of (rules_of lines))
-    ≡ (flat_map (of_defaults k) (said_by lines) ++ []) ++ flat_map (of_specs k) (said_by lines)
-rules_are k lines =
-    three (roots_in k) lines
-    ∙ ap₂ (λ (x y : List Name). (x ++ y) ++ flat_map (roots_in k) (rules_of lines).specs) (made_each (roots_in k) defaults_in (of_defaults k) (λ n. refl) lines) (nothing (roots_in k) defs_in (no_defs (roots_in k) (λ j d. refl)) lines)
-    ∙ ap (λ (y : List Name). (flat_map (of_defaults k) (said_by lines) ++ []) ++ y) (made_each (roots_in k) specs_in (of_specs k) (λ n. refl) lines)
+root_names_of_rules_are_in_parts : (k : Kind) (lines : List Line) → flat_map (root_names_in_node k) (rule_nodes_in_print_order (rules_of_policy_lines lines))
+    ≡ (flat_map (root_names_of_defaults_in_node k) (nodes_of_lines lines) ++ []) ++ flat_map (root_names_of_specs_in_node k) (nodes_of_lines lines)
+root_names_of_rules_are_in_parts k lines =
+    three (root_names_in_node k) lines
+    ∙ ap₂ (λ (x y : List AliasName). (x ++ y) ++ flat_map (root_names_in_node k) (rules_of_policy_lines lines).specs) (made_each (root_names_in_node k) defaults_line_nodes_in (root_names_of_defaults_in_node k) (λ n. refl) lines) (nothing (root_names_in_node k) one_definition_nodes_in (no_defs (root_names_in_node k) (λ j d. refl)) lines)
+    ∙ ap (λ (y : List AliasName). (flat_map (root_names_of_defaults_in_node k) (nodes_of_lines lines) ++ []) ++ y) (made_each (root_names_in_node k) effective_spec_nodes_in (root_names_of_specs_in_node k) (λ n. refl) lines)
 
-rules_both : (k : Kind) (lines : List Line) (x : Name) → Has (flat_map (roots_in k) (said_by lines)) x ↔ Has (flat_map (roots_in k) (lines_of (rules_of lines))) x
-rules_both k lines x = (there, back)
+rules_have_same_root_names_as_lines : (k : Kind) (lines : List Line) (x : AliasName) → ListHasElement (flat_map (root_names_in_node k) (nodes_of_lines lines)) x ↔ ListHasElement (flat_map (root_names_in_node k) (rule_nodes_in_print_order (rules_of_policy_lines lines))) x
+rules_have_same_root_names_as_lines k lines x = (there, back)
   where
-    there : Has (flat_map (roots_in k) (said_by lines)) x → Has (flat_map (roots_in k) (lines_of (rules_of lines))) x
-    there h = subst (λ xs. Has xs x) (sym (rules_are k lines)) (elim (lines_there k (said_by lines) x h) [
-      | inl is ↦ has_left (flat_map (of_defaults k) (said_by lines) ++ []) (flat_map (of_specs k) (said_by lines)) x (has_left (flat_map (of_defaults k) (said_by lines)) [] x is)
-      | inr is ↦ has_right (flat_map (of_defaults k) (said_by lines) ++ []) (flat_map (of_specs k) (said_by lines)) x is
+    there : ListHasElement (flat_map (root_names_in_node k) (nodes_of_lines lines)) x → ListHasElement (flat_map (root_names_in_node k) (rule_nodes_in_print_order (rules_of_policy_lines lines))) x
+    there h = subst (λ xs. ListHasElement xs x) (sym (root_names_of_rules_are_in_parts k lines)) (elim (root_name_of_nodes_is_in_part k (nodes_of_lines lines) x h) [
+      | inl is ↦ left_list_element_is_in_appended (flat_map (root_names_of_defaults_in_node k) (nodes_of_lines lines) ++ []) (flat_map (root_names_of_specs_in_node k) (nodes_of_lines lines)) x (left_list_element_is_in_appended (flat_map (root_names_of_defaults_in_node k) (nodes_of_lines lines)) [] x is)
+      | inr is ↦ right_list_element_is_in_appended (flat_map (root_names_of_defaults_in_node k) (nodes_of_lines lines) ++ []) (flat_map (root_names_of_specs_in_node k) (nodes_of_lines lines)) x is
     ])
 
-    back : Has (flat_map (roots_in k) (lines_of (rules_of lines))) x → Has (flat_map (roots_in k) (said_by lines)) x
-    back h = elim (has_either (flat_map (of_defaults k) (said_by lines) ++ []) (flat_map (of_specs k) (said_by lines)) x (subst (λ xs. Has xs x) (rules_are k lines) h)) [
-      | inl is ↦ each_back k (of_defaults k) x (λ n has. node_back k n x (inl has)) (said_by lines) (only (flat_map (of_defaults k) (said_by lines)) x is)
-      | inr is ↦ each_back k (of_specs k) x (λ n has. node_back k n x (inr has)) (said_by lines) is
+    back : ListHasElement (flat_map (root_names_in_node k) (rule_nodes_in_print_order (rules_of_policy_lines lines))) x → ListHasElement (flat_map (root_names_in_node k) (nodes_of_lines lines)) x
+    back h = elim (appended_element_is_in_either_list (flat_map (root_names_of_defaults_in_node k) (nodes_of_lines lines) ++ []) (flat_map (root_names_of_specs_in_node k) (nodes_of_lines lines)) x (subst (λ xs. ListHasElement xs x) (root_names_of_rules_are_in_parts k lines) h)) [
+      | inl is ↦ root_names_of_made_nodes_are_roots k (root_names_of_defaults_in_node k) x (λ n has. root_name_in_part_is_in_node k n x (inl has)) (nodes_of_lines lines) (appended_empty_list_adds_no_element (flat_map (root_names_of_defaults_in_node k) (nodes_of_lines lines)) x is)
+      | inr is ↦ root_names_of_made_nodes_are_roots k (root_names_of_specs_in_node k) x (λ n has. root_name_in_part_is_in_node k n x (inr has)) (nodes_of_lines lines) is
     ]
 
-roots_are : (k : Kind) (lines : List Line) → roots k lines ≡ flat_map (roots_in k) (said_by lines)
-roots_are k lines = by lines
+root_alias_names_are_those_of_nodes : (k : Kind) (lines : List Line) → root_alias_names k lines ≡ flat_map (root_names_in_node k) (nodes_of_lines lines)
+root_alias_names_are_those_of_nodes k lines = by lines
   where
-    by : (ls : List Line) → flat_map (λ (line : Line). roots_in k line.node) ls ≡ flat_map (roots_in k) (said_by ls)
+    by : (ls : List Line) → flat_map (λ (line : Line). root_names_in_node k line.node) ls ≡ flat_map (root_names_in_node k) (nodes_of_lines ls)
     by [] = refl
-    by (line ∷ ls) = ap (λ rest. roots_in k line.node ++ rest) (by ls)
+    by (line ∷ ls) = ap (λ rest. root_names_in_node k line.node ++ rest) (by ls)
 
 -- What is read mentions the names that the policy mentions.
-pub roots_both : (lines read : List Line) → AllSame IsSame (lines_of (rules_of lines)) (said_by read) → (k : Kind) (x : Name) → Has (roots k lines) x ↔ Has (roots k read) x
-roots_both lines read same k x = (there, back)
+pub printed_rules_keep_root_alias_names : (lines read : List Line) → AreItemsPairwiseRelated IsNodeSameButPlace (rule_nodes_in_print_order (rules_of_policy_lines lines)) (nodes_of_lines read) → (k : Kind) (x : AliasName) → ListHasElement (root_alias_names k lines) x ↔ ListHasElement (root_alias_names k read) x
+printed_rules_keep_root_alias_names lines read same k x = (there, back)
   where
-    names : flat_map (roots_in k) (said_by read) ≡ flat_map (roots_in k) (lines_of (rules_of lines))
-    names = flat_names k (lines_of (rules_of lines)) (said_by read) same
+    names : flat_map (root_names_in_node k) (nodes_of_lines read) ≡ flat_map (root_names_in_node k) (rule_nodes_in_print_order (rules_of_policy_lines lines))
+    names = same_node_lists_have_same_root_names k (rule_nodes_in_print_order (rules_of_policy_lines lines)) (nodes_of_lines read) same
 
-    there : Has (roots k lines) x → Has (roots k read) x
-    there h = subst (λ xs. Has xs x) (sym names ∙ sym (roots_are k read)) ((rules_both k lines x).0 (subst (λ xs. Has xs x) (roots_are k lines) h))
+    there : ListHasElement (root_alias_names k lines) x → ListHasElement (root_alias_names k read) x
+    there h = subst (λ xs. ListHasElement xs x) (sym names ∙ sym (root_alias_names_are_those_of_nodes k read)) ((rules_have_same_root_names_as_lines k lines x).0 (subst (λ xs. ListHasElement xs x) (root_alias_names_are_those_of_nodes k lines) h))
 
-    back : Has (roots k read) x → Has (roots k lines) x
-    back h = subst (λ xs. Has xs x) (sym (roots_are k lines)) ((rules_both k lines x).1 (subst (λ xs. Has xs x) (roots_are k read ∙ names) h))
+    back : ListHasElement (root_alias_names k read) x → ListHasElement (root_alias_names k lines) x
+    back h = subst (λ xs. ListHasElement xs x) (sym (root_alias_names_are_those_of_nodes k lines)) ((rules_have_same_root_names_as_lines k lines x).1 (subst (λ xs. ListHasElement xs x) (root_alias_names_are_those_of_nodes k read ∙ names) h))

@@ -1,93 +1,93 @@
 -- The rules of what is read of printed rules are printed as these.
 use Rattle.laws_program.proofs.Common.{◌≡◌, ℕ, ◌&&◌, nat_le, true, List, [], ◌∷◌, ◌++◌, length, map, Ok, refl, sym, ap, ap₂, subst, ◌∙◌}
-use Rattle.laws_program.proofs.Common.{flat_map, list_all, map-append, text_limit, line_limit, join, Kind, Def, Node, Line, IsSound, read_of}
-use Rattle.laws_program.proofs.Common.{printed_line, AllSame, IsSame, specs_in, one_def, defs_in, rules_of, lines_of, printed, fits, said_by, IsRead}
-use Rattle.sudoers_line.specs.Node as node
-use Rattle.sudoers_cvt_rules.specs.Rules.{defaults_in}
-use Rattle.laws_program.proofs.Prints.{same_defaults_in, same_defs_in, same_specs_in, lines_are, same_rules}
+use Rattle.laws_program.proofs.Common.{flat_map, list_all, map-append, text_limit, line_limit, join, Kind, Def, Node, Line, AreWalkLinesWithoutNul, policy_lines_of_text}
+use Rattle.laws_program.proofs.Common.{printed_line, AreItemsPairwiseRelated, IsNodeSameButPlace, effective_spec_nodes_in, alias_node_of_one_definition, one_definition_nodes_in, rules_of_policy_lines, rule_nodes_in_print_order, printed_rules, is_printed_within_limits, nodes_of_lines, IsTextReadAsSameNodes}
+use Rattle.sudoers_grammar.specs.Node as node
+use Rattle.sudoers_cvt_rules.specs.Rules.{defaults_line_nodes_in}
+use Rattle.laws_program.proofs.Prints.{same_nodes_print_defaults_alike, same_nodes_print_definitions_alike, same_nodes_print_user_specs_alike, printed_lines_are_join_of_each, nodes_of_same_nodes_are_printed_alike}
 use Rattle.laws_program.proofs.Parts.{no_defaults, no_defs, no_specs, made_of_defaults, made_of_defs, made_of_specs}
-use Rattle.laws_program.proofs.Twice.{groups_twice}
+use Rattle.laws_program.proofs.Twice.{effective_host_groups_are_stable}
 
-of_lines : (f : Node → List Node) (lines : List Line) → flat_map (λ (line : Line). f line.node) lines ≡ flat_map f (said_by lines)
-of_lines f [] = refl
-of_lines f (line ∷ lines) = ap (λ (t : List Node). f line.node ++ t) (of_lines f lines)
+nodes_made_of_lines_are_of_nodes : (f : Node → List Node) (lines : List Line) → flat_map (λ (line : Line). f line.node) lines ≡ flat_map f (nodes_of_lines lines)
+nodes_made_of_lines_are_of_nodes f [] = refl
+nodes_made_of_lines_are_of_nodes f (line ∷ lines) = ap (λ (t : List Node). f line.node ++ t) (nodes_made_of_lines_are_of_nodes f lines)
 
 -- ---- what some rules give again
 
-pub defaults_of_defaults : (n : Node) → flat_map defaults_in (defaults_in n) ≡ defaults_in n
-defaults_of_defaults (node.Defaults scope params) = refl
-defaults_of_defaults n = refl
+pub defaults_nodes_of_defaults_are_same : (n : Node) → flat_map defaults_line_nodes_in (defaults_line_nodes_in n) ≡ defaults_line_nodes_in n
+defaults_nodes_of_defaults_are_same (node.Defaults scope params) = refl
+defaults_nodes_of_defaults_are_same n = refl
 
-defs_defs : (k : Kind) (ds : List Def) → flat_map defs_in (map (one_def k) ds) ≡ map (one_def k) ds
-defs_defs k [] = refl
-defs_defs k (d ∷ ds) = ap (λ (t : List Node). one_def k d ∷ t) (defs_defs k ds)
+definition_nodes_split_again_are_same : (k : Kind) (ds : List Def) → flat_map one_definition_nodes_in (map (alias_node_of_one_definition k) ds) ≡ map (alias_node_of_one_definition k) ds
+definition_nodes_split_again_are_same k [] = refl
+definition_nodes_split_again_are_same k (d ∷ ds) = ap (λ (t : List Node). alias_node_of_one_definition k d ∷ t) (definition_nodes_split_again_are_same k ds)
 
-defs_of_defs : (n : Node) → flat_map defs_in (defs_in n) ≡ defs_in n
-defs_of_defs (node.Alias k ds) = defs_defs k ds
-defs_of_defs n = refl
+one_definition_nodes_split_again_are_same : (n : Node) → flat_map one_definition_nodes_in (one_definition_nodes_in n) ≡ one_definition_nodes_in n
+one_definition_nodes_split_again_are_same (node.Alias k ds) = definition_nodes_split_again_are_same k ds
+one_definition_nodes_split_again_are_same n = refl
 
-specs_of_specs : (n : Node) → flat_map specs_in (specs_in n) ≡ specs_in n
-specs_of_specs (node.Spec users groups) = ap (λ gs. node.Spec users gs ∷ []) (groups_twice groups)
-specs_of_specs n = refl
+effective_spec_nodes_again_are_same : (n : Node) → flat_map effective_spec_nodes_in (effective_spec_nodes_in n) ≡ effective_spec_nodes_in n
+effective_spec_nodes_again_are_same (node.Spec users groups) = ap (λ gs. node.Spec users gs ∷ []) (effective_host_groups_are_stable groups)
+effective_spec_nodes_again_are_same n = refl
 
 -- the lines that are printed of rules of a sort, where these give themselves
-once : (f : Node → List Node) → ((n m : Node) → IsSame n m → map printed_line (f n) ≡ map printed_line (f m)) → (lines read : List Line) → AllSame IsSame (lines_of (rules_of lines)) (said_by read)
-    → flat_map f (lines_of (rules_of lines)) ≡ flat_map f (said_by lines)
+rules_of_sort_are_printed_same_again : (f : Node → List Node) → ((n m : Node) → IsNodeSameButPlace n m → map printed_line (f n) ≡ map printed_line (f m)) → (lines read : List Line) → AreItemsPairwiseRelated IsNodeSameButPlace (rule_nodes_in_print_order (rules_of_policy_lines lines)) (nodes_of_lines read)
+    → flat_map f (rule_nodes_in_print_order (rules_of_policy_lines lines)) ≡ flat_map f (nodes_of_lines lines)
     → map printed_line (flat_map (λ (line : Line). f line.node) read) ≡ map printed_line (flat_map (λ (line : Line). f line.node) lines)
-once f each lines read same made =
-    ap (map printed_line) (of_lines f read) ∙ sym (same_rules f each (lines_of (rules_of lines)) (said_by read) same)
-    ∙ ap (map printed_line) (made ∙ sym (of_lines f lines))
+rules_of_sort_are_printed_same_again f each lines read same made =
+    ap (map printed_line) (nodes_made_of_lines_are_of_nodes f read) ∙ sym (nodes_of_same_nodes_are_printed_alike f each (rule_nodes_in_print_order (rules_of_policy_lines lines)) (nodes_of_lines read) same)
+    ∙ ap (map printed_line) (made ∙ sym (nodes_made_of_lines_are_of_nodes f lines))
 
 -- the lines that are printed of rules, one by one
-texts_again : (lines read : List Line) → AllSame IsSame (lines_of (rules_of lines)) (said_by read)
-    → map printed_line (lines_of (rules_of read)) ≡ map printed_line (lines_of (rules_of lines))
-texts_again lines read same =
-    let r = rules_of lines in
-    let o = rules_of read in
-    let d = once defaults_in same_defaults_in lines read same
-    (made_of_defaults defaults_in defaults_in defaults_of_defaults (no_defs defaults_in (λ k d. refl)) (no_specs defaults_in (λ users groups. refl)) lines) in
-    let a = once defs_in same_defs_in lines read same
-    (made_of_defs defs_in defs_in (no_defaults defs_in (λ scope params. refl)) defs_of_defs (no_specs defs_in (λ users groups. refl)) lines) in
-    let s = once specs_in same_specs_in lines read same
-    (made_of_specs specs_in specs_in (no_defaults specs_in (λ scope params. refl)) (no_defs specs_in (λ k d. refl)) specs_of_specs lines) in
+rule_lines_are_printed_same_again : (lines read : List Line) → AreItemsPairwiseRelated IsNodeSameButPlace (rule_nodes_in_print_order (rules_of_policy_lines lines)) (nodes_of_lines read)
+    → map printed_line (rule_nodes_in_print_order (rules_of_policy_lines read)) ≡ map printed_line (rule_nodes_in_print_order (rules_of_policy_lines lines))
+rule_lines_are_printed_same_again lines read same =
+    let r = rules_of_policy_lines lines in
+    let o = rules_of_policy_lines read in
+    let d = rules_of_sort_are_printed_same_again defaults_line_nodes_in same_nodes_print_defaults_alike lines read same
+    (made_of_defaults defaults_line_nodes_in defaults_line_nodes_in defaults_nodes_of_defaults_are_same (no_defs defaults_line_nodes_in (λ k d. refl)) (no_specs defaults_line_nodes_in (λ users groups. refl)) lines) in
+    let a = rules_of_sort_are_printed_same_again one_definition_nodes_in same_nodes_print_definitions_alike lines read same
+    (made_of_defs one_definition_nodes_in one_definition_nodes_in (no_defaults one_definition_nodes_in (λ scope params. refl)) one_definition_nodes_split_again_are_same (no_specs one_definition_nodes_in (λ users groups. refl)) lines) in
+    let s = rules_of_sort_are_printed_same_again effective_spec_nodes_in same_nodes_print_user_specs_alike lines read same
+    (made_of_specs effective_spec_nodes_in effective_spec_nodes_in (no_defaults effective_spec_nodes_in (λ scope params. refl)) (no_defs effective_spec_nodes_in (λ k d. refl)) effective_spec_nodes_again_are_same lines) in
     map-append printed_line (o.defaults ++ o.defs) o.specs
     ∙ ap₂ (λ (x y : List (List ℕ)). x ++ y)
     (map-append printed_line o.defaults o.defs ∙ ap₂ (λ (x y : List (List ℕ)). x ++ y) d a ∙ sym (map-append printed_line r.defaults r.defs)) s
     ∙ sym (map-append printed_line (r.defaults ++ r.defs) r.specs)
 
 -- Rules that were printed are printed so again.
-pub again : (lines read : List Line) → AllSame IsSame (lines_of (rules_of lines)) (said_by read) → printed (rules_of read) ≡ printed (rules_of lines)
-again lines read same = lines_are (lines_of (rules_of read)) ∙ ap join (texts_again lines read same) ∙ sym (lines_are (lines_of (rules_of lines)))
+pub rules_read_of_print_are_printed_same : (lines read : List Line) → AreItemsPairwiseRelated IsNodeSameButPlace (rule_nodes_in_print_order (rules_of_policy_lines lines)) (nodes_of_lines read) → printed_rules (rules_of_policy_lines read) ≡ printed_rules (rules_of_policy_lines lines)
+rules_read_of_print_are_printed_same lines read same = printed_lines_are_join_of_each (rule_nodes_in_print_order (rules_of_policy_lines read)) ∙ ap join (rule_lines_are_printed_same_again lines read same) ∙ sym (printed_lines_are_join_of_each (rule_nodes_in_print_order (rules_of_policy_lines lines)))
 
 -- whether each line is within the limit
-each_within : (ns : List Node) → list_all (λ n. nat_le (length (printed_line n)) line_limit) ns ≡ list_all (λ text. nat_le (length text) line_limit) (map printed_line ns)
-each_within [] = refl
-each_within (n ∷ ns) = ap (λ t. nat_le (length (printed_line n)) line_limit && t) (each_within ns)
+line_limit_test_is_over_printed_texts : (ns : List Node) → list_all (λ n. nat_le (length (printed_line n)) line_limit) ns ≡ list_all (λ text. nat_le (length text) line_limit) (map printed_line ns)
+line_limit_test_is_over_printed_texts [] = refl
+line_limit_test_is_over_printed_texts (n ∷ ns) = ap (λ t. nat_le (length (printed_line n)) line_limit && t) (line_limit_test_is_over_printed_texts ns)
 
-pub fits_again : (lines read : List Line) → AllSame IsSame (lines_of (rules_of lines)) (said_by read) → fits (rules_of read) ≡ fits (rules_of lines)
-fits_again lines read same =
-    ap₂ (λ text t. nat_le (length text) text_limit && t) (again lines read same)
-    (each_within (lines_of (rules_of read)) ∙ ap (list_all (λ text. nat_le (length text) line_limit)) (texts_again lines read same)
-    ∙ sym (each_within (lines_of (rules_of lines))))
+pub second_print_fits_if_first_does : (lines read : List Line) → AreItemsPairwiseRelated IsNodeSameButPlace (rule_nodes_in_print_order (rules_of_policy_lines lines)) (nodes_of_lines read) → is_printed_within_limits (rules_of_policy_lines read) ≡ is_printed_within_limits (rules_of_policy_lines lines)
+second_print_fits_if_first_does lines read same =
+    ap₂ (λ text t. nat_le (length text) text_limit && t) (rules_read_of_print_are_printed_same lines read same)
+    (line_limit_test_is_over_printed_texts (rule_nodes_in_print_order (rules_of_policy_lines read)) ∙ ap (list_all (λ text. nat_le (length text) line_limit)) (rule_lines_are_printed_same_again lines read same)
+    ∙ sym (line_limit_test_is_over_printed_texts (rule_nodes_in_print_order (rules_of_policy_lines lines))))
 
 -- what the law of printed rules says
-abbrev pub ReadLaw : Type 0
-ReadLaw = (lines : List Line) → IsSound lines → fits (rules_of lines) ≡ true → IsRead (printed (rules_of lines)) (lines_of (rules_of lines))
+abbrev pub PrintedRulesAreRead : Type 0
+PrintedRulesAreRead = (lines : List Line) → AreWalkLinesWithoutNul lines → is_printed_within_limits (rules_of_policy_lines lines) ≡ true → IsTextReadAsSameNodes (printed_rules (rules_of_policy_lines lines)) (rule_nodes_in_print_order (rules_of_policy_lines lines))
 
 -- what is read is what was printed
-pub same_read : ReadLaw → (lines read : List Line) → IsSound lines → fits (rules_of lines) ≡ true → read_of (printed (rules_of lines)) ≡ Ok read
-    → AllSame IsSame (lines_of (rules_of lines)) (said_by read)
-same_read law lines read is size e =
+pub lines_read_of_print_are_rules : PrintedRulesAreRead → (lines read : List Line) → AreWalkLinesWithoutNul lines → is_printed_within_limits (rules_of_policy_lines lines) ≡ true → policy_lines_of_text (printed_rules (rules_of_policy_lines lines)) ≡ Ok read
+    → AreItemsPairwiseRelated IsNodeSameButPlace (rule_nodes_in_print_order (rules_of_policy_lines lines)) (nodes_of_lines read)
+lines_read_of_print_are_rules law lines read is size e =
     let there = law lines is size in
     let one : there.read ≡ read = let both = sym there.is ∙ e in cc in
-    subst (λ (ls : List Line). AllSame IsSame (lines_of (rules_of lines)) (said_by ls)) one there.same
+    subst (λ (ls : List Line). AreItemsPairwiseRelated IsNodeSameButPlace (rule_nodes_in_print_order (rules_of_policy_lines lines)) (nodes_of_lines ls)) one there.same
 
 -- A second printing gives the same text.
-pub second : ReadLaw → (lines read : List Line) → IsSound lines → fits (rules_of lines) ≡ true → read_of (printed (rules_of lines)) ≡ Ok read
-    → printed (rules_of read) ≡ printed (rules_of lines)
-second law lines read is size e = again lines read (same_read law lines read is size e)
+pub second_printing_of_rules_is_same : PrintedRulesAreRead → (lines read : List Line) → AreWalkLinesWithoutNul lines → is_printed_within_limits (rules_of_policy_lines lines) ≡ true → policy_lines_of_text (printed_rules (rules_of_policy_lines lines)) ≡ Ok read
+    → printed_rules (rules_of_policy_lines read) ≡ printed_rules (rules_of_policy_lines lines)
+second_printing_of_rules_is_same law lines read is size e = rules_read_of_print_are_printed_same lines read (lines_read_of_print_are_rules law lines read is size e)
 
 -- It is within the limits.
-pub second_fits : ReadLaw → (lines read : List Line) → IsSound lines → fits (rules_of lines) ≡ true → read_of (printed (rules_of lines)) ≡ Ok read
-    → fits (rules_of read) ≡ true
-second_fits law lines read is size e = fits_again lines read (same_read law lines read is size e) ∙ size
+pub second_printing_of_rules_fits : PrintedRulesAreRead → (lines read : List Line) → AreWalkLinesWithoutNul lines → is_printed_within_limits (rules_of_policy_lines lines) ≡ true → policy_lines_of_text (printed_rules (rules_of_policy_lines lines)) ≡ Ok read
+    → is_printed_within_limits (rules_of_policy_lines read) ≡ true
+second_printing_of_rules_fits law lines read is size e = second_print_fits_if_first_does lines read (lines_read_of_print_are_rules law lines read is size e) ∙ size

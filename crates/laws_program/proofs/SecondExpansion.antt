@@ -1,27 +1,27 @@
 -- The rules of what is read of printed expanded rules are printed as these.
-use Rattle.laws_program.proofs.Common.{◌≡◌, true, List, Ok, sym, ap, subst, ◌∙◌, Line, IsSound, read_of, AllSame, IsSame, Rules, rules_of, lines_of, printed}
-use Rattle.laws_program.proofs.Common.{fits, said_by, used_rules, expanded}
-use Rattle.laws_program.proofs.Printed.{ReadLaw}
-use Rattle.laws_program.proofs.Second.{again, fits_again}
-use Rattle.laws_program.proofs.Kept.{kept, kept_rules}
+use Rattle.laws_program.proofs.Common.{◌≡◌, true, List, Ok, sym, ap, subst, ◌∙◌, Line, AreWalkLinesWithoutNul, policy_lines_of_text, AreItemsPairwiseRelated, IsNodeSameButPlace, Rules, rules_of_policy_lines, rule_nodes_in_print_order, printed_rules}
+use Rattle.laws_program.proofs.Common.{is_printed_within_limits, nodes_of_lines, rules_with_used_definitions, lines_with_aliases_replaced}
+use Rattle.laws_program.proofs.Printed.{PrintedExpandedRulesAreRead}
+use Rattle.laws_program.proofs.Second.{rules_read_of_print_are_printed_same, second_print_fits_if_first_does}
+use Rattle.laws_program.proofs.Kept.{lines_of_used_rules, rules_of_used_lines_are_used_rules}
 
 -- what is read says what the kept lines say
-same_read : ReadLaw → (lines read : List Line) → IsSound lines → fits (used_rules (expanded lines)) ≡ true
-    → read_of (printed (used_rules (expanded lines))) ≡ Ok read → AllSame IsSame (lines_of (rules_of (kept (expanded lines)))) (said_by read)
-same_read law lines read is size e =
+lines_read_of_expansion_are_used_rules : PrintedExpandedRulesAreRead → (lines read : List Line) → AreWalkLinesWithoutNul lines → is_printed_within_limits (rules_with_used_definitions (lines_with_aliases_replaced lines)) ≡ true
+    → policy_lines_of_text (printed_rules (rules_with_used_definitions (lines_with_aliases_replaced lines))) ≡ Ok read → AreItemsPairwiseRelated IsNodeSameButPlace (rule_nodes_in_print_order (rules_of_policy_lines (lines_of_used_rules (lines_with_aliases_replaced lines)))) (nodes_of_lines read)
+lines_read_of_expansion_are_used_rules law lines read is size e =
     let there = law lines is size in
     let one : there.read ≡ read = let both = sym there.is ∙ e in cc in
-    subst (λ (r : Rules). AllSame IsSame (lines_of r) (said_by read)) (sym (kept_rules (expanded lines)))
-    (subst (λ (ls : List Line). AllSame IsSame (lines_of (used_rules (expanded lines))) (said_by ls)) one there.same)
+    subst (λ (r : Rules). AreItemsPairwiseRelated IsNodeSameButPlace (rule_nodes_in_print_order r) (nodes_of_lines read)) (sym (rules_of_used_lines_are_used_rules (lines_with_aliases_replaced lines)))
+    (subst (λ (ls : List Line). AreItemsPairwiseRelated IsNodeSameButPlace (rule_nodes_in_print_order (rules_with_used_definitions (lines_with_aliases_replaced lines))) (nodes_of_lines ls)) one there.same)
 
 -- A second printing gives the same text.
-pub second : ReadLaw → (lines read : List Line) → IsSound lines → fits (used_rules (expanded lines)) ≡ true
-    → read_of (printed (used_rules (expanded lines))) ≡ Ok read → printed (rules_of read) ≡ printed (used_rules (expanded lines))
-second law lines read is size e =
-    again (kept (expanded lines)) read (same_read law lines read is size e) ∙ ap printed (kept_rules (expanded lines))
+pub second_printing_of_expansion_is_first : PrintedExpandedRulesAreRead → (lines read : List Line) → AreWalkLinesWithoutNul lines → is_printed_within_limits (rules_with_used_definitions (lines_with_aliases_replaced lines)) ≡ true
+    → policy_lines_of_text (printed_rules (rules_with_used_definitions (lines_with_aliases_replaced lines))) ≡ Ok read → printed_rules (rules_of_policy_lines read) ≡ printed_rules (rules_with_used_definitions (lines_with_aliases_replaced lines))
+second_printing_of_expansion_is_first law lines read is size e =
+    rules_read_of_print_are_printed_same (lines_of_used_rules (lines_with_aliases_replaced lines)) read (lines_read_of_expansion_are_used_rules law lines read is size e) ∙ ap printed_rules (rules_of_used_lines_are_used_rules (lines_with_aliases_replaced lines))
 
 -- It is within the limits.
-pub second_fits : ReadLaw → (lines read : List Line) → IsSound lines → fits (used_rules (expanded lines)) ≡ true
-    → read_of (printed (used_rules (expanded lines))) ≡ Ok read → fits (rules_of read) ≡ true
-second_fits law lines read is size e =
-    fits_again (kept (expanded lines)) read (same_read law lines read is size e) ∙ ap fits (kept_rules (expanded lines)) ∙ size
+pub second_printing_of_expansion_fits : PrintedExpandedRulesAreRead → (lines read : List Line) → AreWalkLinesWithoutNul lines → is_printed_within_limits (rules_with_used_definitions (lines_with_aliases_replaced lines)) ≡ true
+    → policy_lines_of_text (printed_rules (rules_with_used_definitions (lines_with_aliases_replaced lines))) ≡ Ok read → is_printed_within_limits (rules_of_policy_lines read) ≡ true
+second_printing_of_expansion_fits law lines read is size e =
+    second_print_fits_if_first_does (lines_of_used_rules (lines_with_aliases_replaced lines)) read (lines_read_of_expansion_are_used_rules law lines read is size e) ∙ ap is_printed_within_limits (rules_of_used_lines_are_used_rules (lines_with_aliases_replaced lines)) ∙ size

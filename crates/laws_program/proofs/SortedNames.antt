@@ -11,208 +11,208 @@ use Rattle.std.proofs.lemmas.Cmp.{nat_cmp_total, nat_list_cmp_total}
 use Rattle.std.proofs.lemmas.Map.Text.{is_eq-slice_cmp}
 use Rattle.std.proofs.lemmas.Slice.Eq.{bytes_eq-Decides}
 use Rattle.sudoers_text.specs.Fault.{text_limit}
-use Rattle.sudoers_line.specs.Piece.{has_byte}
-use Rattle.sudoers_tree.specs.declared.load.NamedFile.{NamedFile}
+use Rattle.sudoers_grammar.specs.Piece.{has_byte}
+use Rattle.sudoers_tree.specs.declared.named_files.NamedFile.{NamedFile}
 use Rattle.sudoers_tree.specs.Lead.{folder_of}
-use Rattle.sudoers_tree.specs.Load.{is_among}
-use Rattle.sudoers_tree.specs.Targets.{base_of, is_base}
-use Rattle.sudoers_files.specs.Folder.{name_in}
-use Rattle.sudoers_files.specs.Shelf.{front_of, names_in}
-use Rattle.laws_program.proofs.WalkSteps.{or_true, true_before, true_behind}
-use Rattle.laws_program.proofs.FolderNames.{insert_all, picked_in_order, same_bytes, with_base}
+use Rattle.sudoers_tree.specs.Load.{is_name_among}
+use Rattle.sudoers_tree.specs.Targets.{base_name_of_file, is_includable_base_name}
+use Rattle.sudoers_files.specs.Folder.{file_name_of_base_in_folder}
+use Rattle.sudoers_files.specs.Shelf.{limited_bytes_of_named_file, base_names_in_folder}
+use Rattle.laws_program.proofs.WalkSteps.{true_disjunction_has_true_part, disjunction_with_true_first_is_true, disjunction_with_true_second_is_true}
+use Rattle.laws_program.proofs.FolderNames.{inserted_key_keeps_property_of_all, base_names_with_includables_added, name_has_equal_bytes_to_itself, base_names_with_includable_added}
 
-abbrev pub order : List ℕ → List ℕ → Ordering
-order = slice_cmp nat_cmp
+abbrev pub byte_order_of_names : List ℕ → List ℕ → Ordering
+byte_order_of_names = slice_cmp nat_cmp
 
-abbrev pub Above : List ℕ → List (List ℕ) → Type 0
-Above x = AllByRecursion (λ y. order x y ≡ Less)
+abbrev pub IsNameBelowAll : List ℕ → List (List ℕ) → Type 0
+IsNameBelowAll x = AllByRecursion (λ y. byte_order_of_names x y ≡ Less)
 
 -- Each name stands before those behind it in the order of their bytes.
-abbrev pub Rises : List (List ℕ) → Type 0
-Rises [] = Unit {0}
-Rises (x ∷ xs) = Above x xs × Rises xs
+abbrev pub AreNamesAscending : List (List ℕ) → Type 0
+AreNamesAscending [] = Unit {0}
+AreNamesAscending (x ∷ xs) = IsNameBelowAll x xs × AreNamesAscending xs
 
-abbrev pub Has : List ℕ → List (List ℕ) → Type 0
-Has q names = is_among q names ≡ true
+abbrev pub IsNameInList : List ℕ → List (List ℕ) → Type 0
+IsNameInList q names = is_name_among q names ≡ true
 
-never_less : (o : Ordering) → o ≡ ordering_reverse o → o ≡ Less → ⊥
-never_less Less same less = absurd cc
-never_less Equal same less = absurd cc
-never_less Greater same less = absurd cc
+ordering_equal_to_reverse_is_not_less : (o : Ordering) → o ≡ ordering_reverse o → o ≡ Less → ⊥
+ordering_equal_to_reverse_is_not_less Less same less = absurd cc
+ordering_equal_to_reverse_is_not_less Equal same less = absurd cc
+ordering_equal_to_reverse_is_not_less Greater same less = absurd cc
 
-irreflexive : (x : List ℕ) → order x x ≡ Less → ⊥
-irreflexive x less = never_less (order x x) (nat_list_cmp_total.antisymm x x) less
+name_is_not_below_itself : (x : List ℕ) → byte_order_of_names x x ≡ Less → ⊥
+name_is_not_below_itself x less = ordering_equal_to_reverse_is_not_less (byte_order_of_names x x) (nat_list_cmp_total.antisymm x x) less
 
-above_has : (x q : List ℕ) (xs : List (List ℕ)) → Above x xs → Has q xs → order x q ≡ Less
-above_has x q [] above has = absurd cc
-above_has x q (y ∷ xs) above has =
-    or_true (bytes_eq q y) (is_among q xs) (order x q ≡ Less) has (λ same. ap (order x) ((bytes_eq-Decides q y).0 same) ∙ above.0) (λ later. above_has x q xs above.1 later)
+name_below_all_is_below_each : (x q : List ℕ) (xs : List (List ℕ)) → IsNameBelowAll x xs → IsNameInList q xs → byte_order_of_names x q ≡ Less
+name_below_all_is_below_each x q [] above has = absurd cc
+name_below_all_is_below_each x q (y ∷ xs) above has =
+    true_disjunction_has_true_part (bytes_eq q y) (is_name_among q xs) (byte_order_of_names x q ≡ Less) has (λ same. ap (byte_order_of_names x) ((bytes_eq-Decides q y).0 same) ∙ above.0) (λ later. name_below_all_is_below_each x q xs above.1 later)
 
-pub above_trans : (k x : List ℕ) (ys : List (List ℕ)) → order k x ≡ Less → Above x ys → Above k ys
-above_trans k x [] less above = tt
-above_trans k x (y ∷ ys) less above = (nat_list_cmp_total.trans k x y less above.0, above_trans k x ys less above.1)
+pub smaller_name_is_below_all_too : (k x : List ℕ) (ys : List (List ℕ)) → byte_order_of_names k x ≡ Less → IsNameBelowAll x ys → IsNameBelowAll k ys
+smaller_name_is_below_all_too k x [] less above = tt
+smaller_name_is_below_all_too k x (y ∷ ys) less above = (nat_list_cmp_total.trans k x y less above.0, smaller_name_is_below_all_too k x ys less above.1)
 
-has_first : (x : List ℕ) (xs : List (List ℕ)) → Has x (x ∷ xs)
-has_first x xs = true_before (bytes_eq x x) (is_among x xs) (same_bytes x)
+first_name_is_in_list : (x : List ℕ) (xs : List (List ℕ)) → IsNameInList x (x ∷ xs)
+first_name_is_in_list x xs = disjunction_with_true_first_is_true (bytes_eq x x) (is_name_among x xs) (name_has_equal_bytes_to_itself x)
 
-pub rises_same : (xs ys : List (List ℕ)) → Rises xs → Rises ys → ((q : List ℕ) → Has q xs → Has q ys) → ((q : List ℕ) → Has q ys → Has q xs) → xs ≡ ys
-rises_same [] [] up down there back = refl
-rises_same [] (y ∷ ys) up down there back = let none : Has y [] = back y (has_first y ys) in absurd cc
-rises_same (x ∷ xs) [] up down there back = let none : Has x [] = there x (has_first x xs) in absurd cc
-rises_same (x ∷ xs) (y ∷ ys) up down there back =
+pub ascending_lists_of_same_names_are_equal : (xs ys : List (List ℕ)) → AreNamesAscending xs → AreNamesAscending ys → ((q : List ℕ) → IsNameInList q xs → IsNameInList q ys) → ((q : List ℕ) → IsNameInList q ys → IsNameInList q xs) → xs ≡ ys
+ascending_lists_of_same_names_are_equal [] [] up down there back = refl
+ascending_lists_of_same_names_are_equal [] (y ∷ ys) up down there back = let none : IsNameInList y [] = back y (first_name_is_in_list y ys) in absurd cc
+ascending_lists_of_same_names_are_equal (x ∷ xs) [] up down there back = let none : IsNameInList x [] = there x (first_name_is_in_list x xs) in absurd cc
+ascending_lists_of_same_names_are_equal (x ∷ xs) (y ∷ ys) up down there back =
     ap₂ (λ z zs. z ∷ zs) first
-    (rises_same xs ys up.1 down.1
+    (ascending_lists_of_same_names_are_equal xs ys up.1 down.1
     (λ q has.
-    or_true (bytes_eq q y) (is_among q ys) (Has q ys) (there q (true_behind (bytes_eq q x) (is_among q xs) has))
-    (λ same. absurd (irreflexive x (ap (order x) (first ∙ sym ((bytes_eq-Decides q y).0 same)) ∙ above_has x q xs up.0 has)))
+    true_disjunction_has_true_part (bytes_eq q y) (is_name_among q ys) (IsNameInList q ys) (there q (disjunction_with_true_second_is_true (bytes_eq q x) (is_name_among q xs) has))
+    (λ same. absurd (name_is_not_below_itself x (ap (byte_order_of_names x) (first ∙ sym ((bytes_eq-Decides q y).0 same)) ∙ name_below_all_is_below_each x q xs up.0 has)))
     (λ later. later))
     (λ q has.
-    or_true (bytes_eq q x) (is_among q xs) (Has q xs) (back q (true_behind (bytes_eq q y) (is_among q ys) has))
-    (λ same. absurd (irreflexive y (ap (order y) (sym first ∙ sym ((bytes_eq-Decides q x).0 same)) ∙ above_has y q ys down.0 has)))
+    true_disjunction_has_true_part (bytes_eq q x) (is_name_among q xs) (IsNameInList q xs) (back q (disjunction_with_true_second_is_true (bytes_eq q y) (is_name_among q ys) has))
+    (λ same. absurd (name_is_not_below_itself y (ap (byte_order_of_names y) (sym first ∙ sym ((bytes_eq-Decides q x).0 same)) ∙ name_below_all_is_below_each y q ys down.0 has)))
     (λ later. later)))
   where
     first : x ≡ y
     first =
-        or_true (bytes_eq x y) (is_among x ys) (x ≡ y) (there x (has_first x xs)) (λ same. (bytes_eq-Decides x y).0 same)
+        true_disjunction_has_true_part (bytes_eq x y) (is_name_among x ys) (x ≡ y) (there x (first_name_is_in_list x xs)) (λ same. (bytes_eq-Decides x y).0 same)
         (λ behind.
-        or_true (bytes_eq y x) (is_among y xs) (x ≡ y) (back y (has_first y ys)) (λ same. sym ((bytes_eq-Decides y x).0 same))
-        (λ within. absurd (irreflexive x (nat_list_cmp_total.trans x y x (above_has x y xs up.0 within) (above_has y x ys down.0 behind)))))
+        true_disjunction_has_true_part (bytes_eq y x) (is_name_among y xs) (x ≡ y) (back y (first_name_is_in_list y ys)) (λ same. sym ((bytes_eq-Decides y x).0 same))
+        (λ within. absurd (name_is_not_below_itself x (nat_list_cmp_total.trans x y x (name_below_all_is_below_each x y xs up.0 within) (name_below_all_is_below_each y x ys down.0 behind)))))
 
 -- ---- names that are inserted
 
-pub reversed : (x y : List ℕ) → order x y ≡ Greater → order y x ≡ Less
-reversed x y greater = nat_list_cmp_total.antisymm y x ∙ ap ordering_reverse greater
+pub greater_name_has_lesser_reversed : (x y : List ℕ) → byte_order_of_names x y ≡ Greater → byte_order_of_names y x ≡ Less
+greater_name_has_lesser_reversed x y greater = nat_list_cmp_total.antisymm y x ∙ ap ordering_reverse greater
 
-rises_insert : (keys : List (List ℕ)) (key : List ℕ) → Rises keys → Rises (insert_key (slice_cmp nat_cmp) keys key)
-rises_insert [] key up = (tt, tt)
-rises_insert (x ∷ keys) key up = by (order key x) refl (rises_insert keys key up.1)
+inserted_name_keeps_ascending : (keys : List (List ℕ)) (key : List ℕ) → AreNamesAscending keys → AreNamesAscending (insert_key (slice_cmp nat_cmp) keys key)
+inserted_name_keeps_ascending [] key up = (tt, tt)
+inserted_name_keeps_ascending (x ∷ keys) key up = by (byte_order_of_names key x) refl (inserted_name_keeps_ascending keys key up.1)
   where
-    by : (o : Ordering) → order key x ≡ o → Rises (insert_key (slice_cmp nat_cmp) keys key) → Rises (match_ordering o (key ∷ x ∷ keys) (x ∷ keys) (x ∷ insert_key (slice_cmp nat_cmp) keys key))
-    by Less is later = ((is, above_trans key x keys is up.0), up)
+    by : (o : Ordering) → byte_order_of_names key x ≡ o → AreNamesAscending (insert_key (slice_cmp nat_cmp) keys key) → AreNamesAscending (match_ordering o (key ∷ x ∷ keys) (x ∷ keys) (x ∷ insert_key (slice_cmp nat_cmp) keys key))
+    by Less is later = ((is, smaller_name_is_below_all_too key x keys is up.0), up)
     by Equal is later = up
-    by Greater is later = (insert_all (λ y. order x y ≡ Less) keys key up.0 (reversed key x is), later)
+    by Greater is later = (inserted_key_keeps_property_of_all (λ y. byte_order_of_names x y ≡ Less) keys key up.0 (greater_name_has_lesser_reversed key x is), later)
 
-insert_new : (keys : List (List ℕ)) (key : List ℕ) → Has key (insert_key (slice_cmp nat_cmp) keys key)
-insert_new [] key = has_first key []
-insert_new (x ∷ keys) key = by (order key x) refl (insert_new keys key)
+inserted_name_is_in_list : (keys : List (List ℕ)) (key : List ℕ) → IsNameInList key (insert_key (slice_cmp nat_cmp) keys key)
+inserted_name_is_in_list [] key = first_name_is_in_list key []
+inserted_name_is_in_list (x ∷ keys) key = by (byte_order_of_names key x) refl (inserted_name_is_in_list keys key)
   where
-    by : (o : Ordering) → order key x ≡ o → Has key (insert_key (slice_cmp nat_cmp) keys key) → Has key (match_ordering o (key ∷ x ∷ keys) (x ∷ keys) (x ∷ insert_key (slice_cmp nat_cmp) keys key))
-    by Less is later = has_first key (x ∷ keys)
-    by Equal is later = true_before (bytes_eq key x) (is_among key keys) (sym (is_eq-slice_cmp key x) ∙ ap is_eq is)
-    by Greater is later = true_behind (bytes_eq key x) (is_among key (insert_key (slice_cmp nat_cmp) keys key)) later
+    by : (o : Ordering) → byte_order_of_names key x ≡ o → IsNameInList key (insert_key (slice_cmp nat_cmp) keys key) → IsNameInList key (match_ordering o (key ∷ x ∷ keys) (x ∷ keys) (x ∷ insert_key (slice_cmp nat_cmp) keys key))
+    by Less is later = first_name_is_in_list key (x ∷ keys)
+    by Equal is later = disjunction_with_true_first_is_true (bytes_eq key x) (is_name_among key keys) (sym (is_eq-slice_cmp key x) ∙ ap is_eq is)
+    by Greater is later = disjunction_with_true_second_is_true (bytes_eq key x) (is_name_among key (insert_key (slice_cmp nat_cmp) keys key)) later
 
-insert_keeps : (q : List ℕ) (keys : List (List ℕ)) (key : List ℕ) → Has q keys → Has q (insert_key (slice_cmp nat_cmp) keys key)
-insert_keeps q [] key has = absurd cc
-insert_keeps q (x ∷ keys) key has = by (order key x) (λ later. insert_keeps q keys key later)
+insertion_keeps_names_in_list : (q : List ℕ) (keys : List (List ℕ)) (key : List ℕ) → IsNameInList q keys → IsNameInList q (insert_key (slice_cmp nat_cmp) keys key)
+insertion_keeps_names_in_list q [] key has = absurd cc
+insertion_keeps_names_in_list q (x ∷ keys) key has = by (byte_order_of_names key x) (λ later. insertion_keeps_names_in_list q keys key later)
   where
-    by : (o : Ordering) → (Has q keys → Has q (insert_key (slice_cmp nat_cmp) keys key)) → Has q (match_ordering o (key ∷ x ∷ keys) (x ∷ keys) (x ∷ insert_key (slice_cmp nat_cmp) keys key))
-    by Less later = true_behind (bytes_eq q key) (is_among q (x ∷ keys)) has
+    by : (o : Ordering) → (IsNameInList q keys → IsNameInList q (insert_key (slice_cmp nat_cmp) keys key)) → IsNameInList q (match_ordering o (key ∷ x ∷ keys) (x ∷ keys) (x ∷ insert_key (slice_cmp nat_cmp) keys key))
+    by Less later = disjunction_with_true_second_is_true (bytes_eq q key) (is_name_among q (x ∷ keys)) has
     by Equal later = has
     by Greater later =
-        or_true (bytes_eq q x) (is_among q keys) (Has q (x ∷ insert_key (slice_cmp nat_cmp) keys key)) has
-        (λ same. true_before (bytes_eq q x) (is_among q (insert_key (slice_cmp nat_cmp) keys key)) same)
-        (λ behind. true_behind (bytes_eq q x) (is_among q (insert_key (slice_cmp nat_cmp) keys key)) (later behind))
+        true_disjunction_has_true_part (bytes_eq q x) (is_name_among q keys) (IsNameInList q (x ∷ insert_key (slice_cmp nat_cmp) keys key)) has
+        (λ same. disjunction_with_true_first_is_true (bytes_eq q x) (is_name_among q (insert_key (slice_cmp nat_cmp) keys key)) same)
+        (λ behind. disjunction_with_true_second_is_true (bytes_eq q x) (is_name_among q (insert_key (slice_cmp nat_cmp) keys key)) (later behind))
 
-base_rises : (before : List (List ℕ)) (base : List ℕ) → Rises before → Rises (with_base base before)
-base_rises before base up = by (is_base base)
+added_base_name_keeps_ascending : (before : List (List ℕ)) (base : List ℕ) → AreNamesAscending before → AreNamesAscending (base_names_with_includable_added base before)
+added_base_name_keeps_ascending before base up = by (is_includable_base_name base)
   where
-    by : (t : Bool) → Rises (if t then insert_key (slice_cmp nat_cmp) before base else before)
-    by true = rises_insert before base up
+    by : (t : Bool) → AreNamesAscending (if t then insert_key (slice_cmp nat_cmp) before base else before)
+    by true = inserted_name_keeps_ascending before base up
     by false = up
 
-base_keeps : (q : List ℕ) (before : List (List ℕ)) (base : List ℕ) → Has q before → Has q (with_base base before)
-base_keeps q before base has = by (is_base base)
+added_base_name_keeps_names_in_list : (q : List ℕ) (before : List (List ℕ)) (base : List ℕ) → IsNameInList q before → IsNameInList q (base_names_with_includable_added base before)
+added_base_name_keeps_names_in_list q before base has = by (is_includable_base_name base)
   where
-    by : (t : Bool) → Has q (if t then insert_key (slice_cmp nat_cmp) before base else before)
-    by true = insert_keeps q before base has
+    by : (t : Bool) → IsNameInList q (if t then insert_key (slice_cmp nat_cmp) before base else before)
+    by true = insertion_keeps_names_in_list q before base has
     by false = has
 
-pub order_rises : (before bases : List (List ℕ)) → Rises before → Rises (picked_in_order before bases)
-order_rises before [] up = up
-order_rises before (base ∷ bases) up = order_rises (with_base base before) bases (base_rises before base up)
+pub added_base_names_keep_ascending : (before bases : List (List ℕ)) → AreNamesAscending before → AreNamesAscending (base_names_with_includables_added before bases)
+added_base_names_keep_ascending before [] up = up
+added_base_names_keep_ascending before (base ∷ bases) up = added_base_names_keep_ascending (base_names_with_includable_added base before) bases (added_base_name_keeps_ascending before base up)
 
-order_keeps : (q : List ℕ) (before bases : List (List ℕ)) → Has q before → Has q (picked_in_order before bases)
-order_keeps q before [] has = has
-order_keeps q before (base ∷ bases) has = order_keeps q (with_base base before) bases (base_keeps q before base has)
+added_base_names_keep_names_in_list : (q : List ℕ) (before bases : List (List ℕ)) → IsNameInList q before → IsNameInList q (base_names_with_includables_added before bases)
+added_base_names_keep_names_in_list q before [] has = has
+added_base_names_keep_names_in_list q before (base ∷ bases) has = added_base_names_keep_names_in_list q (base_names_with_includable_added base before) bases (added_base_name_keeps_names_in_list q before base has)
 
-order_has : (q : List ℕ) (before bases : List (List ℕ)) → is_base q ≡ true → Has q bases → Has q (picked_in_order before bases)
-order_has q before [] is has = absurd cc
-order_has q before (base ∷ bases) is has =
-    or_true (bytes_eq q base) (is_among q bases) (Has q (picked_in_order before (base ∷ bases))) has
+includable_base_name_is_added : (q : List ℕ) (before bases : List (List ℕ)) → is_includable_base_name q ≡ true → IsNameInList q bases → IsNameInList q (base_names_with_includables_added before bases)
+includable_base_name_is_added q before [] is has = absurd cc
+includable_base_name_is_added q before (base ∷ bases) is has =
+    true_disjunction_has_true_part (bytes_eq q base) (is_name_among q bases) (IsNameInList q (base_names_with_includables_added before (base ∷ bases))) has
     (λ same.
     let here : q ≡ base = (bytes_eq-Decides q base).0 same in
-    order_keeps q (with_base base before) bases
-    (subst (λ b. Has q (with_base b before)) here
-    (subst (λ t. Has q (if t then insert_key (slice_cmp nat_cmp) before q else before)) (sym is) (insert_new before q))))
-    (λ later. order_has q (with_base base before) bases is later)
+    added_base_names_keep_names_in_list q (base_names_with_includable_added base before) bases
+    (subst (λ b. IsNameInList q (base_names_with_includable_added b before)) here
+    (subst (λ t. IsNameInList q (if t then insert_key (slice_cmp nat_cmp) before q else before)) (sym is) (inserted_name_is_in_list before q))))
+    (λ later. includable_base_name_is_added q (base_names_with_includable_added base before) bases is later)
 
 -- ---- names in a folder
 
-equal_alike : (o : Ordering) → o ≡ ordering_reverse o → o ≡ Equal
-equal_alike Less same = absurd cc
-equal_alike Equal same = refl
-equal_alike Greater same = absurd cc
+ordering_equal_to_reverse_is_equal : (o : Ordering) → o ≡ ordering_reverse o → o ≡ Equal
+ordering_equal_to_reverse_is_equal Less same = absurd cc
+ordering_equal_to_reverse_is_equal Equal same = refl
+ordering_equal_to_reverse_is_equal Greater same = absurd cc
 
-same_front : (d : ℕ) (xs ys : List ℕ) → order (d ∷ xs) (d ∷ ys) ≡ order xs ys
-same_front d xs ys = ap (λ o. ordering_then o (order xs ys)) (equal_alike (nat_cmp d d) (nat_cmp_total.antisymm d d))
+common_first_byte_keeps_order : (d : ℕ) (xs ys : List ℕ) → byte_order_of_names (d ∷ xs) (d ∷ ys) ≡ byte_order_of_names xs ys
+common_first_byte_keeps_order d xs ys = ap (λ o. ordering_then o (byte_order_of_names xs ys)) (ordering_equal_to_reverse_is_equal (nat_cmp d d) (nat_cmp_total.antisymm d d))
 
-order_in : (dir a b : List ℕ) → order (name_in dir a) (name_in dir b) ≡ order a b
-order_in [] a b = same_front 47 a b
-order_in (d ∷ dir) a b = same_front d (name_in dir a) (name_in dir b) ∙ order_in dir a b
+common_folder_keeps_order : (dir a b : List ℕ) → byte_order_of_names (file_name_of_base_in_folder dir a) (file_name_of_base_in_folder dir b) ≡ byte_order_of_names a b
+common_folder_keeps_order [] a b = common_first_byte_keeps_order 47 a b
+common_folder_keeps_order (d ∷ dir) a b = common_first_byte_keeps_order d (file_name_of_base_in_folder dir a) (file_name_of_base_in_folder dir b) ∙ common_folder_keeps_order dir a b
 
-above_in : (dir base : List ℕ) (bases : List (List ℕ)) → Above base bases → Above (name_in dir base) (map (name_in dir) bases)
-above_in dir base [] above = tt
-above_in dir base (b ∷ bases) above = (order_in dir base b ∙ above.0, above_in dir base bases above.1)
+common_folder_keeps_name_below_all : (dir base : List ℕ) (bases : List (List ℕ)) → IsNameBelowAll base bases → IsNameBelowAll (file_name_of_base_in_folder dir base) (map (file_name_of_base_in_folder dir) bases)
+common_folder_keeps_name_below_all dir base [] above = tt
+common_folder_keeps_name_below_all dir base (b ∷ bases) above = (common_folder_keeps_order dir base b ∙ above.0, common_folder_keeps_name_below_all dir base bases above.1)
 
-pub rises_in : (dir : List ℕ) (bases : List (List ℕ)) → Rises bases → Rises (map (name_in dir) bases)
-rises_in dir [] up = tt
-rises_in dir (base ∷ bases) up = (above_in dir base bases up.0, rises_in dir bases up.1)
+pub common_folder_keeps_ascending : (dir : List ℕ) (bases : List (List ℕ)) → AreNamesAscending bases → AreNamesAscending (map (file_name_of_base_in_folder dir) bases)
+common_folder_keeps_ascending dir [] up = tt
+common_folder_keeps_ascending dir (base ∷ bases) up = (common_folder_keeps_name_below_all dir base bases up.0, common_folder_keeps_ascending dir bases up.1)
 
-has_in : (dir q : List ℕ) (bases : List (List ℕ)) → Has q bases → Has (name_in dir q) (map (name_in dir) bases)
-has_in dir q [] has = absurd cc
-has_in dir q (b ∷ bases) has =
-    or_true (bytes_eq q b) (is_among q bases) (Has (name_in dir q) (map (name_in dir) (b ∷ bases))) has
-    (λ same. true_before (bytes_eq (name_in dir q) (name_in dir b)) (is_among (name_in dir q) (map (name_in dir) bases))
-    ((bytes_eq-Decides (name_in dir q) (name_in dir b)).1 (ap (name_in dir) ((bytes_eq-Decides q b).0 same))))
-    (λ later. true_behind (bytes_eq (name_in dir q) (name_in dir b)) (is_among (name_in dir q) (map (name_in dir) bases)) (has_in dir q bases later))
+listed_base_gives_listed_file_name : (dir q : List ℕ) (bases : List (List ℕ)) → IsNameInList q bases → IsNameInList (file_name_of_base_in_folder dir q) (map (file_name_of_base_in_folder dir) bases)
+listed_base_gives_listed_file_name dir q [] has = absurd cc
+listed_base_gives_listed_file_name dir q (b ∷ bases) has =
+    true_disjunction_has_true_part (bytes_eq q b) (is_name_among q bases) (IsNameInList (file_name_of_base_in_folder dir q) (map (file_name_of_base_in_folder dir) (b ∷ bases))) has
+    (λ same. disjunction_with_true_first_is_true (bytes_eq (file_name_of_base_in_folder dir q) (file_name_of_base_in_folder dir b)) (is_name_among (file_name_of_base_in_folder dir q) (map (file_name_of_base_in_folder dir) bases))
+    ((bytes_eq-Decides (file_name_of_base_in_folder dir q) (file_name_of_base_in_folder dir b)).1 (ap (file_name_of_base_in_folder dir) ((bytes_eq-Decides q b).0 same))))
+    (λ later. disjunction_with_true_second_is_true (bytes_eq (file_name_of_base_in_folder dir q) (file_name_of_base_in_folder dir b)) (is_name_among (file_name_of_base_in_folder dir q) (map (file_name_of_base_in_folder dir) bases)) (listed_base_gives_listed_file_name dir q bases later))
 
 -- a name is its folder and its base
-parted : (name : List ℕ) → name ≡ folder_of name ++ base_of name
-parted [] = refl
-parted (b ∷ name) = by (has_byte 47 (b ∷ name)) (parted name)
+name_is_folder_and_base : (name : List ℕ) → name ≡ folder_of name ++ base_name_of_file name
+name_is_folder_and_base [] = refl
+name_is_folder_and_base (b ∷ name) = by (has_byte 47 (b ∷ name)) (name_is_folder_and_base name)
   where
-    by : (t : Bool) → name ≡ folder_of name ++ base_of name
+    by : (t : Bool) → name ≡ folder_of name ++ base_name_of_file name
         → b ∷ name ≡ (if t then b ∷ folder_of name else []) ++ drop (length (if t then b ∷ folder_of name else [])) (b ∷ name)
     by true later = ap (λ n. b ∷ n) later
     by false later = refl
 
-appended : (dir base : List ℕ) → (dir ++ 47 ∷ []) ++ base ≡ name_in dir base
-appended [] base = refl
-appended (d ∷ dir) base = ap (λ n. d ∷ n) (appended dir base)
+folder_slash_and_base_are_file_name : (dir base : List ℕ) → (dir ++ 47 ∷ []) ++ base ≡ file_name_of_base_in_folder dir base
+folder_slash_and_base_are_file_name [] base = refl
+folder_slash_and_base_are_file_name (d ∷ dir) base = ap (λ n. d ∷ n) (folder_slash_and_base_are_file_name dir base)
 
-pub base_named : (dir name : List ℕ) → folder_of name ≡ dir ++ 47 ∷ [] → name ≡ name_in dir (base_of name)
-base_named dir name is = parted name ∙ ap (λ f. f ++ base_of name) is ∙ appended dir (base_of name)
+pub name_in_folder_is_of_its_base : (dir name : List ℕ) → folder_of name ≡ dir ++ 47 ∷ [] → name ≡ file_name_of_base_in_folder dir (base_name_of_file name)
+name_in_folder_is_of_its_base dir name is = name_is_folder_and_base name ∙ ap (λ f. f ++ base_name_of_file name) is ∙ folder_slash_and_base_are_file_name dir (base_name_of_file name)
 
-known_in : (known : List NamedFile) (dir name bytes : List ℕ) → folder_of name ≡ dir ++ 47 ∷ [] → front_of name known ≡ Some bytes → Has (base_of name) (names_in dir known)
-known_in [] dir name bytes is there = absurd cc
-known_in (file ∷ known) dir name bytes is there = by (bytes_eq name file.name) refl there (known_in known dir name bytes is)
+known_file_base_is_in_folder : (known : List NamedFile) (dir name bytes : List ℕ) → folder_of name ≡ dir ++ 47 ∷ [] → limited_bytes_of_named_file name known ≡ Some bytes → IsNameInList (base_name_of_file name) (base_names_in_folder dir known)
+known_file_base_is_in_folder [] dir name bytes is there = absurd cc
+known_file_base_is_in_folder (file ∷ known) dir name bytes is there = by (bytes_eq name file.name) refl there (known_file_base_is_in_folder known dir name bytes is)
   where
-    kept : (t : Bool) → Has (base_of name) (names_in dir known) → Has (base_of name) (if t then base_of file.name ∷ names_in dir known else names_in dir known)
-    kept true later = true_behind (bytes_eq (base_of name) (base_of file.name)) (is_among (base_of name) (names_in dir known)) later
+    kept : (t : Bool) → IsNameInList (base_name_of_file name) (base_names_in_folder dir known) → IsNameInList (base_name_of_file name) (if t then base_name_of_file file.name ∷ base_names_in_folder dir known else base_names_in_folder dir known)
+    kept true later = disjunction_with_true_second_is_true (bytes_eq (base_name_of_file name) (base_name_of_file file.name)) (is_name_among (base_name_of_file name) (base_names_in_folder dir known)) later
     kept false later = later
 
-    by : (t : Bool) → bytes_eq name file.name ≡ t → (if t then Some (take (text_limit + 1) file.bytes) else front_of name known) ≡ Some bytes → (front_of name known ≡ Some bytes → Has (base_of name) (names_in dir known))
-        → Has (base_of name) (names_in dir (file ∷ known))
+    by : (t : Bool) → bytes_eq name file.name ≡ t → (if t then Some (take (text_limit + 1) file.bytes) else limited_bytes_of_named_file name known) ≡ Some bytes → (limited_bytes_of_named_file name known ≡ Some bytes → IsNameInList (base_name_of_file name) (base_names_in_folder dir known))
+        → IsNameInList (base_name_of_file name) (base_names_in_folder dir (file ∷ known))
     by true e f later =
         let same : name ≡ file.name = (bytes_eq-Decides name file.name).0 e in
-        subst (λ t. Has (base_of name) (if t then base_of file.name ∷ names_in dir known else names_in dir known))
+        subst (λ t. IsNameInList (base_name_of_file name) (if t then base_name_of_file file.name ∷ base_names_in_folder dir known else base_names_in_folder dir known))
         (sym ((bytes_eq-Decides (folder_of file.name) (dir ++ 47 ∷ [])).1 (ap folder_of (sym same) ∙ is)))
-        (true_before (bytes_eq (base_of name) (base_of file.name)) (is_among (base_of name) (names_in dir known)) ((bytes_eq-Decides (base_of name) (base_of file.name)).1 (ap base_of same)))
+        (disjunction_with_true_first_is_true (bytes_eq (base_name_of_file name) (base_name_of_file file.name)) (is_name_among (base_name_of_file name) (base_names_in_folder dir known)) ((bytes_eq-Decides (base_name_of_file name) (base_name_of_file file.name)).1 (ap base_name_of_file same)))
     by false e f later = kept (bytes_eq (folder_of file.name) (dir ++ 47 ∷ [])) (later f)
 
 -- A file that is known and to which an include of the folder leads is among its names.
-pub led_has : (known : List NamedFile) (dir name bytes : List ℕ) → folder_of name ≡ dir ++ 47 ∷ [] → is_base (base_of name) ≡ true → front_of name known ≡ Some bytes
-    → Has name (map (name_in dir) (picked_in_order [] (names_in dir known)))
-led_has known dir name bytes is base there =
-    subst (λ n. Has n (map (name_in dir) (picked_in_order [] (names_in dir known)))) (sym (base_named dir name is))
-    (has_in dir (base_of name) (picked_in_order [] (names_in dir known)) (order_has (base_of name) [] (names_in dir known) base (known_in known dir name bytes is there)))
+pub known_includable_file_is_included : (known : List NamedFile) (dir name bytes : List ℕ) → folder_of name ≡ dir ++ 47 ∷ [] → is_includable_base_name (base_name_of_file name) ≡ true → limited_bytes_of_named_file name known ≡ Some bytes
+    → IsNameInList name (map (file_name_of_base_in_folder dir) (base_names_with_includables_added [] (base_names_in_folder dir known)))
+known_includable_file_is_included known dir name bytes is base there =
+    subst (λ n. IsNameInList n (map (file_name_of_base_in_folder dir) (base_names_with_includables_added [] (base_names_in_folder dir known)))) (sym (name_in_folder_is_of_its_base dir name is))
+    (listed_base_gives_listed_file_name dir (base_name_of_file name) (base_names_with_includables_added [] (base_names_in_folder dir known)) (includable_base_name_is_added (base_name_of_file name) [] (base_names_in_folder dir known) base (known_file_base_is_in_folder known dir name bytes is there)))

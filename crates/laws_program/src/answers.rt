@@ -2,19 +2,19 @@
 
 ghost use Rattle.std.specs.Prelude.{◌≡◌, ◌↔◌, ℕ, true, List, Option, Ok};
 ghost use Rattle.sudoers_tree.specs.Line.{Line as LineOf};
-ghost use Rattle.laws_program.specs.ReadAs.{IsPrintedAs};
-ghost use Rattle.laws_program.specs.Sound.{IsSound};
-ghost use Rattle.sudoers_tree.specs.Load.{Loaded};
+ghost use Rattle.laws_program.specs.ReadAs.{IsPolicyOfPrintedRules};
+ghost use Rattle.laws_program.specs.Sound.{AreWalkLinesWithoutNul};
+ghost use Rattle.sudoers_tree.specs.Load.{LoadedPolicy};
 ghost use Rattle.sudoers_check.specs.Chains.{HasReachableCycle};
-ghost use Rattle.sudoers_match_member.specs.declared.asked.Who.{Who as WhoOf};
-ghost use Rattle.laws_print.specs.Same.{read_back};
+ghost use Rattle.sudoers_match_member.specs.declared.people_and_commands.Who.{Who as WhoOf};
+ghost use Rattle.laws_print.specs.Same.{atom_read_back};
 ghost use Rattle.sudoers_match_member.specs.declared.request.Request.{Request as RequestOf};
-ghost use Rattle.sudoers_match.specs.Alike.{MatchesSame};
-ghost use Rattle.sudoers_match.specs.Answer.{Answer as AnswerOf, IsAnswer};
+ghost use Rattle.sudoers_match.specs.Alike.{KeepsAtomMatches};
+ghost use Rattle.sudoers_match.specs.Answer.{Answer as AnswerOf, IsAnswerToRequest};
 ghost use Rattle.sudoers_match.specs.Default.{IsRunasDefault};
-ghost use Rattle.sudoers_match.specs.Groups.{AreHostGroups};
-ghost use Rattle.sudoers_match.specs.declared.groups.GroupPlace.{GroupPlace as GroupPlaceOf};
-ghost use Rattle.sudoers_cvt_rules.specs.Rules.{rules_of, printed, fits};
+ghost use Rattle.sudoers_match.specs.Groups.{AreMatchingHostGroups};
+ghost use Rattle.sudoers_match.specs.declared.matching_host_groups.HostGroupPlace.{HostGroupPlace as GroupPlaceOf};
+ghost use Rattle.sudoers_cvt_rules.specs.Rules.{rules_of_policy_lines, printed_rules, is_printed_within_limits};
 
 use crate::printing::printed_rules_are_read;
 use laws_load::text_loads;
@@ -26,7 +26,7 @@ use sudoers_match_member::laws::plain_first_is;
 
 /// What a printed member is read as matches what the member matches. A host may have got a backslash.
 pub fn read_member_matches_same()
-    ensures { MatchesSame read_back }
+    ensures { KeepsAtomMatches atom_read_back }
 {
     plain_first_is();
 }
@@ -34,15 +34,15 @@ pub fn read_member_matches_same()
 /// What is read of the printed rules of a policy gives each request the answer of the policy, and no other. Each user has the same
 /// runas_default, and rules at the same places. A reachable alias is cyclic in both, or in neither.
 pub fn printed_rules_answer()
-    ensures answer { (lines : List LineOf) (policy : Loaded) → IsSound lines → IsPrintedAs (rules_of lines) policy
-        → (request : RequestOf) (answer : Option AnswerOf) → IsAnswer lines request answer → IsAnswer policy.walk.lines request answer }
-    ensures back { (lines : List LineOf) (policy : Loaded) → IsSound lines → IsPrintedAs (rules_of lines) policy
-        → (request : RequestOf) (answer : Option AnswerOf) → IsAnswer policy.walk.lines request answer → IsAnswer lines request answer }
-    ensures default { (lines : List LineOf) (policy : Loaded) → IsSound lines → IsPrintedAs (rules_of lines) policy
+    ensures answer { (lines : List LineOf) (policy : LoadedPolicy) → AreWalkLinesWithoutNul lines → IsPolicyOfPrintedRules (rules_of_policy_lines lines) policy
+        → (request : RequestOf) (answer : Option AnswerOf) → IsAnswerToRequest lines request answer → IsAnswerToRequest policy.walk.lines request answer }
+    ensures back { (lines : List LineOf) (policy : LoadedPolicy) → AreWalkLinesWithoutNul lines → IsPolicyOfPrintedRules (rules_of_policy_lines lines) policy
+        → (request : RequestOf) (answer : Option AnswerOf) → IsAnswerToRequest policy.walk.lines request answer → IsAnswerToRequest lines request answer }
+    ensures default { (lines : List LineOf) (policy : LoadedPolicy) → AreWalkLinesWithoutNul lines → IsPolicyOfPrintedRules (rules_of_policy_lines lines) policy
         → (who : WhoOf) (name : List ℕ) → IsRunasDefault lines who name ↔ IsRunasDefault policy.walk.lines who name }
-    ensures groups { (lines : List LineOf) (policy : Loaded) → IsSound lines → IsPrintedAs (rules_of lines) policy
-        → (who : WhoOf) (places : List GroupPlaceOf) → AreHostGroups lines who places ↔ AreHostGroups policy.walk.lines who places }
-    ensures cycle { (lines : List LineOf) (policy : Loaded) → IsSound lines → IsPrintedAs (rules_of lines) policy
+    ensures groups { (lines : List LineOf) (policy : LoadedPolicy) → AreWalkLinesWithoutNul lines → IsPolicyOfPrintedRules (rules_of_policy_lines lines) policy
+        → (who : WhoOf) (places : List GroupPlaceOf) → AreMatchingHostGroups lines who places ↔ AreMatchingHostGroups policy.walk.lines who places }
+    ensures cycle { (lines : List LineOf) (policy : LoadedPolicy) → AreWalkLinesWithoutNul lines → IsPolicyOfPrintedRules (rules_of_policy_lines lines) policy
         → HasReachableCycle lines ↔ HasReachableCycle policy.walk.lines }
 {
     read_member_matches_same();

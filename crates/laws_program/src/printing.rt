@@ -3,11 +3,11 @@
 ghost use Rattle.std.specs.Prelude.{◌≡◌, true, List, Ok};
 ghost use Rattle.std.specs.List.{AllByRecursion};
 ghost use Rattle.sudoers_tree.specs.Line.{Line as LineOf};
-ghost use Rattle.laws_program.specs.Sound.{IsSound};
-ghost use Rattle.sudoers_tree.specs.Load.{Loaded};
-ghost use Rattle.laws_print.specs.Writable.{IsWritable};
-ghost use Rattle.sudoers_cvt_rules.specs.Rules.{rules_of, lines_of, printed, fits};
-ghost use Rattle.laws_program.specs.ReadAs.{IsPrintedAs, IsReadAs};
+ghost use Rattle.laws_program.specs.Sound.{AreWalkLinesWithoutNul};
+ghost use Rattle.sudoers_tree.specs.Load.{LoadedPolicy};
+ghost use Rattle.laws_print.specs.Writable.{IsWritableNode};
+ghost use Rattle.sudoers_cvt_rules.specs.Rules.{rules_of_policy_lines, rule_nodes_in_print_order, printed_rules, is_printed_within_limits};
+ghost use Rattle.laws_program.specs.ReadAs.{IsPolicyOfPrintedRules, IsTextReadAsNodes};
 
 use laws_load::text_loads;
 use laws_print::{
@@ -17,7 +17,7 @@ use sudoers_tree::laws::{one_outcome, read_is};
 
 /// Each line of the rules of a policy can be written.
 pub fn rules_can_be_written()
-    ensures { (lines : List LineOf) → IsSound lines → AllByRecursion IsWritable (lines_of (rules_of lines)) }
+    ensures { (lines : List LineOf) → AreWalkLinesWithoutNul lines → AllByRecursion IsWritableNode (rule_nodes_in_print_order (rules_of_policy_lines lines)) }
 {
     read_can_be_written();
 }
@@ -25,8 +25,8 @@ pub fn rules_can_be_written()
 /// The text that is printed of the rules of a policy, if it is within the limits, is a policy. Its lines say the same as those of the
 /// rules, one by one.
 pub fn printed_rules_are_read()
-    ensures { (lines : List LineOf) → IsSound lines → fits (rules_of lines) ≡ true
-        → IsReadAs (printed (rules_of lines)) (lines_of (rules_of lines)) }
+    ensures { (lines : List LineOf) → AreWalkLinesWithoutNul lines → is_printed_within_limits (rules_of_policy_lines lines) ≡ true
+        → IsTextReadAsNodes (printed_rules (rules_of_policy_lines lines)) (rule_nodes_in_print_order (rules_of_policy_lines lines)) }
 {
     rules_can_be_written();
     printed_line_is_read();
@@ -39,10 +39,10 @@ pub fn printed_rules_are_read()
 
 /// What is read of the printed rules of a policy gives rules that are printed as the same text, which is within the limits again.
 pub fn second_printing_is_same()
-    ensures text { (lines : List LineOf) (policy : Loaded) → IsSound lines
-        → IsPrintedAs (rules_of lines) policy → printed (rules_of policy.walk.lines) ≡ printed (rules_of lines) }
-    ensures size { (lines : List LineOf) (policy : Loaded) → IsSound lines
-        → IsPrintedAs (rules_of lines) policy → fits (rules_of policy.walk.lines) ≡ true }
+    ensures text { (lines : List LineOf) (policy : LoadedPolicy) → AreWalkLinesWithoutNul lines
+        → IsPolicyOfPrintedRules (rules_of_policy_lines lines) policy → printed_rules (rules_of_policy_lines policy.walk.lines) ≡ printed_rules (rules_of_policy_lines lines) }
+    ensures size { (lines : List LineOf) (policy : LoadedPolicy) → AreWalkLinesWithoutNul lines
+        → IsPolicyOfPrintedRules (rules_of_policy_lines lines) policy → is_printed_within_limits (rules_of_policy_lines policy.walk.lines) ≡ true }
 {
     printed_rules_are_read();
     text_loads();

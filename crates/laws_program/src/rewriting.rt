@@ -3,13 +3,13 @@
 ghost use Rattle.std.specs.Prelude.{◌≡◌, true, List, Ok};
 ghost use Rattle.std.specs.List.{AllByRecursion};
 ghost use Rattle.sudoers_tree.specs.Line.{Line as LineOf};
-ghost use Rattle.laws_program.specs.Sound.{IsSound};
-ghost use Rattle.sudoers_tree.specs.Load.{Loaded};
-ghost use Rattle.laws_print.specs.Writable.{IsWritable};
-ghost use Rattle.sudoers_cvt_rules.specs.Rules.{lines_of, rules_of, printed, fits};
-ghost use Rattle.laws_program.specs.ReadAs.{IsPrintedAs, IsReadAs};
-ghost use Rattle.sudoers_cvt_rewrite.specs.Rewrite.{rewritten, used_rules, Changes as ChangesOf};
-ghost use Rattle.laws_program.specs.Expanded.{expanded};
+ghost use Rattle.laws_program.specs.Sound.{AreWalkLinesWithoutNul};
+ghost use Rattle.sudoers_tree.specs.Load.{LoadedPolicy};
+ghost use Rattle.laws_print.specs.Writable.{IsWritableNode};
+ghost use Rattle.sudoers_cvt_rules.specs.Rules.{rule_nodes_in_print_order, rules_of_policy_lines, printed_rules, is_printed_within_limits};
+ghost use Rattle.laws_program.specs.ReadAs.{IsPolicyOfPrintedRules, IsTextReadAsNodes};
+ghost use Rattle.sudoers_cvt_rewrite.specs.Rewrite.{rewritten_lines_of_policy, rules_with_used_definitions, PolicyChanges as ChangesOf};
+ghost use Rattle.laws_program.specs.Expanded.{lines_with_aliases_replaced};
 
 use laws_load::text_loads;
 use laws_print::{
@@ -20,7 +20,7 @@ use sudoers_tree::laws::{one_outcome, read_is};
 
 /// Each line of the rules of a policy can be written with its aliases replaced.
 pub fn expanded_rules_can_be_written()
-    ensures { (lines : List LineOf) → IsSound lines → AllByRecursion IsWritable (lines_of (used_rules (expanded lines))) }
+    ensures { (lines : List LineOf) → AreWalkLinesWithoutNul lines → AllByRecursion IsWritableNode (rule_nodes_in_print_order (rules_with_used_definitions (lines_with_aliases_replaced lines))) }
 {
     read_can_be_written();
     writable_is_kept();
@@ -29,8 +29,8 @@ pub fn expanded_rules_can_be_written()
 /// The text that is printed of the rules of a policy with its aliases replaced, if it is within the limits, is a policy. Its lines say
 /// the same as those of the rules, one by one.
 pub fn expanded_rules_are_read()
-    ensures { (lines : List LineOf) → IsSound lines → fits (used_rules (expanded lines)) ≡ true
-        → IsReadAs (printed (used_rules (expanded lines))) (lines_of (used_rules (expanded lines))) }
+    ensures { (lines : List LineOf) → AreWalkLinesWithoutNul lines → is_printed_within_limits (rules_with_used_definitions (lines_with_aliases_replaced lines)) ≡ true
+        → IsTextReadAsNodes (printed_rules (rules_with_used_definitions (lines_with_aliases_replaced lines))) (rule_nodes_in_print_order (rules_with_used_definitions (lines_with_aliases_replaced lines))) }
 {
     expanded_rules_can_be_written();
     printed_line_is_read();
@@ -44,8 +44,8 @@ pub fn expanded_rules_are_read()
 /// The text that is printed of the rules that a filter leaves, if it is within the limits, is a policy. Its lines say the same as those
 /// of the rules, one by one.
 pub fn filtered_rules_are_read()
-    ensures { (changes : ChangesOf) (lines : List LineOf) → IsSound lines → fits (used_rules (rewritten changes lines)) ≡ true
-        → IsReadAs (printed (used_rules (rewritten changes lines))) (lines_of (used_rules (rewritten changes lines))) }
+    ensures { (changes : ChangesOf) (lines : List LineOf) → AreWalkLinesWithoutNul lines → is_printed_within_limits (rules_with_used_definitions (rewritten_lines_of_policy changes lines)) ≡ true
+        → IsTextReadAsNodes (printed_rules (rules_with_used_definitions (rewritten_lines_of_policy changes lines))) (rule_nodes_in_print_order (rules_with_used_definitions (rewritten_lines_of_policy changes lines))) }
 {
     read_can_be_written();
     writable_is_kept();
@@ -60,10 +60,10 @@ pub fn filtered_rules_are_read()
 /// What is read of the printed rules of a policy with its aliases replaced gives rules that are printed as the same text, which is within
 /// the limits again.
 pub fn second_printing_of_expansion_is_same()
-    ensures text { (lines : List LineOf) (policy : Loaded) → IsSound lines
-        → IsPrintedAs (used_rules (expanded lines)) policy → printed (rules_of policy.walk.lines) ≡ printed (used_rules (expanded lines)) }
-    ensures size { (lines : List LineOf) (policy : Loaded) → IsSound lines
-        → IsPrintedAs (used_rules (expanded lines)) policy → fits (rules_of policy.walk.lines) ≡ true }
+    ensures text { (lines : List LineOf) (policy : LoadedPolicy) → AreWalkLinesWithoutNul lines
+        → IsPolicyOfPrintedRules (rules_with_used_definitions (lines_with_aliases_replaced lines)) policy → printed_rules (rules_of_policy_lines policy.walk.lines) ≡ printed_rules (rules_with_used_definitions (lines_with_aliases_replaced lines)) }
+    ensures size { (lines : List LineOf) (policy : LoadedPolicy) → AreWalkLinesWithoutNul lines
+        → IsPolicyOfPrintedRules (rules_with_used_definitions (lines_with_aliases_replaced lines)) policy → is_printed_within_limits (rules_of_policy_lines policy.walk.lines) ≡ true }
 {
     expanded_rules_are_read();
     text_loads();

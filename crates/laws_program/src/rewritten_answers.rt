@@ -2,20 +2,20 @@
 
 ghost use Rattle.std.specs.Prelude.{◌≡◌, ◌↔◌, ℕ, true, List, Option, Ok};
 ghost use Rattle.sudoers_tree.specs.Line.{Line as LineOf};
-ghost use Rattle.laws_program.specs.ReadAs.{IsPrintedAs};
-ghost use Rattle.laws_program.specs.Sound.{IsSound};
-ghost use Rattle.sudoers_tree.specs.Load.{Loaded};
+ghost use Rattle.laws_program.specs.ReadAs.{IsPolicyOfPrintedRules};
+ghost use Rattle.laws_program.specs.Sound.{AreWalkLinesWithoutNul};
+ghost use Rattle.sudoers_tree.specs.Load.{LoadedPolicy};
 ghost use Rattle.sudoers_check.specs.Chains.{HasReachableCycle};
-ghost use Rattle.sudoers_match_member.specs.declared.asked.Who.{Who as WhoOf};
+ghost use Rattle.sudoers_match_member.specs.declared.people_and_commands.Who.{Who as WhoOf};
 ghost use Rattle.sudoers_match_member.specs.declared.request.Request.{Request as RequestOf};
-ghost use Rattle.sudoers_match.specs.Alike.{SaysSame};
-ghost use Rattle.sudoers_match.specs.Answer.{Answer as AnswerOf, IsAnswer};
+ghost use Rattle.sudoers_match.specs.Alike.{AreAnswersSameButNumbers};
+ghost use Rattle.sudoers_match.specs.Answer.{Answer as AnswerOf, IsAnswerToRequest};
 ghost use Rattle.sudoers_match.specs.Default.{IsRunasDefault};
-ghost use Rattle.sudoers_match.specs.Groups.{AreHostGroups};
-ghost use Rattle.sudoers_match.specs.declared.groups.GroupPlace.{GroupPlace as GroupPlaceOf};
-ghost use Rattle.sudoers_cvt_rules.specs.Rules.{printed, fits};
-ghost use Rattle.sudoers_cvt_rewrite.specs.Rewrite.{used_rules};
-ghost use Rattle.laws_program.specs.Expanded.{expanded};
+ghost use Rattle.sudoers_match.specs.Groups.{AreMatchingHostGroups};
+ghost use Rattle.sudoers_match.specs.declared.matching_host_groups.HostGroupPlace.{HostGroupPlace as GroupPlaceOf};
+ghost use Rattle.sudoers_cvt_rules.specs.Rules.{printed_rules, is_printed_within_limits};
+ghost use Rattle.sudoers_cvt_rewrite.specs.Rewrite.{rules_with_used_definitions};
+ghost use Rattle.laws_program.specs.Expanded.{lines_with_aliases_replaced};
 
 use crate::answers::read_member_matches_same;
 use crate::rewriting::expanded_rules_are_read;
@@ -32,14 +32,14 @@ use sudoers_match_list::laws::{
 /// With its aliases replaced, a policy none of whose reachable aliases is cyclic answers each request the same, numbers aside. Each user
 /// has the same runas_default, and rules at the same places.
 pub fn expanded_policy_answers()
-    ensures there { (lines : List LineOf) → IsSound lines → (HasReachableCycle lines → ⊥) → (request : RequestOf) (answer : Option AnswerOf)
-        → IsAnswer lines request answer → (other : Option AnswerOf) × IsAnswer (expanded lines) request other × SaysSame answer other }
-    ensures back { (lines : List LineOf) → IsSound lines → (HasReachableCycle lines → ⊥) → (request : RequestOf) (other : Option AnswerOf)
-        → IsAnswer (expanded lines) request other → (answer : Option AnswerOf) × IsAnswer lines request answer × SaysSame answer other }
-    ensures default { (lines : List LineOf) → IsSound lines → (HasReachableCycle lines → ⊥) → (who : WhoOf) (name : List ℕ)
-        → IsRunasDefault lines who name ↔ IsRunasDefault (expanded lines) who name }
-    ensures groups { (lines : List LineOf) → IsSound lines → (HasReachableCycle lines → ⊥) → (who : WhoOf) (places : List GroupPlaceOf)
-        → AreHostGroups lines who places ↔ AreHostGroups (expanded lines) who places }
+    ensures there { (lines : List LineOf) → AreWalkLinesWithoutNul lines → (HasReachableCycle lines → ⊥) → (request : RequestOf) (answer : Option AnswerOf)
+        → IsAnswerToRequest lines request answer → (other : Option AnswerOf) × IsAnswerToRequest (lines_with_aliases_replaced lines) request other × AreAnswersSameButNumbers answer other }
+    ensures back { (lines : List LineOf) → AreWalkLinesWithoutNul lines → (HasReachableCycle lines → ⊥) → (request : RequestOf) (other : Option AnswerOf)
+        → IsAnswerToRequest (lines_with_aliases_replaced lines) request other → (answer : Option AnswerOf) × IsAnswerToRequest lines request answer × AreAnswersSameButNumbers answer other }
+    ensures default { (lines : List LineOf) → AreWalkLinesWithoutNul lines → (HasReachableCycle lines → ⊥) → (who : WhoOf) (name : List ℕ)
+        → IsRunasDefault lines who name ↔ IsRunasDefault (lines_with_aliases_replaced lines) who name }
+    ensures groups { (lines : List LineOf) → AreWalkLinesWithoutNul lines → (HasReachableCycle lines → ⊥) → (who : WhoOf) (places : List GroupPlaceOf)
+        → AreMatchingHostGroups lines who places ↔ AreMatchingHostGroups (lines_with_aliases_replaced lines) who places }
 {
     flat_or_cycle();
     flattened_is_flat();
@@ -56,20 +56,20 @@ pub fn expanded_policy_answers()
 /// What is read of the printed rules of that policy, without unused definitions, answers each request the same, numbers aside. Each
 /// user has the same runas_default, and rules at the same places. No reachable alias is cyclic.
 pub fn printed_expansion_answers()
-    ensures there { (lines : List LineOf) (policy : Loaded) → IsSound lines → (HasReachableCycle lines → ⊥)
-        → IsPrintedAs (used_rules (expanded lines)) policy → (request : RequestOf) (answer : Option AnswerOf)
-        → IsAnswer lines request answer → (other : Option AnswerOf) × IsAnswer policy.walk.lines request other × SaysSame answer other }
-    ensures back { (lines : List LineOf) (policy : Loaded) → IsSound lines → (HasReachableCycle lines → ⊥)
-        → IsPrintedAs (used_rules (expanded lines)) policy → (request : RequestOf) (other : Option AnswerOf)
-        → IsAnswer policy.walk.lines request other → (answer : Option AnswerOf) × IsAnswer lines request answer × SaysSame answer other }
-    ensures default { (lines : List LineOf) (policy : Loaded) → IsSound lines → (HasReachableCycle lines → ⊥)
-        → IsPrintedAs (used_rules (expanded lines)) policy → (who : WhoOf) (name : List ℕ)
+    ensures there { (lines : List LineOf) (policy : LoadedPolicy) → AreWalkLinesWithoutNul lines → (HasReachableCycle lines → ⊥)
+        → IsPolicyOfPrintedRules (rules_with_used_definitions (lines_with_aliases_replaced lines)) policy → (request : RequestOf) (answer : Option AnswerOf)
+        → IsAnswerToRequest lines request answer → (other : Option AnswerOf) × IsAnswerToRequest policy.walk.lines request other × AreAnswersSameButNumbers answer other }
+    ensures back { (lines : List LineOf) (policy : LoadedPolicy) → AreWalkLinesWithoutNul lines → (HasReachableCycle lines → ⊥)
+        → IsPolicyOfPrintedRules (rules_with_used_definitions (lines_with_aliases_replaced lines)) policy → (request : RequestOf) (other : Option AnswerOf)
+        → IsAnswerToRequest policy.walk.lines request other → (answer : Option AnswerOf) × IsAnswerToRequest lines request answer × AreAnswersSameButNumbers answer other }
+    ensures default { (lines : List LineOf) (policy : LoadedPolicy) → AreWalkLinesWithoutNul lines → (HasReachableCycle lines → ⊥)
+        → IsPolicyOfPrintedRules (rules_with_used_definitions (lines_with_aliases_replaced lines)) policy → (who : WhoOf) (name : List ℕ)
         → IsRunasDefault lines who name ↔ IsRunasDefault policy.walk.lines who name }
-    ensures groups { (lines : List LineOf) (policy : Loaded) → IsSound lines → (HasReachableCycle lines → ⊥)
-        → IsPrintedAs (used_rules (expanded lines)) policy → (who : WhoOf) (places : List GroupPlaceOf)
-        → AreHostGroups lines who places ↔ AreHostGroups policy.walk.lines who places }
-    ensures straight { (lines : List LineOf) (policy : Loaded) → IsSound lines → (HasReachableCycle lines → ⊥)
-        → IsPrintedAs (used_rules (expanded lines)) policy → HasReachableCycle policy.walk.lines → ⊥ }
+    ensures groups { (lines : List LineOf) (policy : LoadedPolicy) → AreWalkLinesWithoutNul lines → (HasReachableCycle lines → ⊥)
+        → IsPolicyOfPrintedRules (rules_with_used_definitions (lines_with_aliases_replaced lines)) policy → (who : WhoOf) (places : List GroupPlaceOf)
+        → AreMatchingHostGroups lines who places ↔ AreMatchingHostGroups policy.walk.lines who places }
+    ensures straight { (lines : List LineOf) (policy : LoadedPolicy) → AreWalkLinesWithoutNul lines → (HasReachableCycle lines → ⊥)
+        → IsPolicyOfPrintedRules (rules_with_used_definitions (lines_with_aliases_replaced lines)) policy → HasReachableCycle policy.walk.lines → ⊥ }
 {
     expanded_rules_are_read();
     text_loads();

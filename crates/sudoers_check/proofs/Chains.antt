@@ -1,13 +1,12 @@
 -- Chains of steps.
-use Rattle.std.proofs.Common.{[], ◌∷◌, inl, refl}
-use Rattle.sudoers_check.specs.Chain.{Has, Chain, here, onward}
+use Rattle.sudoers_check.proofs.Common.{IsReachedBySteps, ListHasElement, [], here, inl, onward, refl, ◌∷◌}
 
 -- a chain from some comes from more
-pub from_more : {X : Type 0} {Step : X → X → Type 0} (P Q : X → Type 0) → ((x : X) → P x → Q x) → (x : X) → Chain Step P x → Chain Step Q x
-from_more P Q wider x (here y p) = here y (wider y p)
-from_more P Q wider x (onward y z c s) = onward y z (from_more P Q wider y c) s
+pub chain_from_some_is_chain_from_superset : {X : Type 0} {Step : X → X → Type 0} (P Q : X → Type 0) → ((x : X) → P x → Q x) → (x : X) → IsReachedBySteps Step P x → IsReachedBySteps Step Q x
+chain_from_some_is_chain_from_superset P Q wider x (here y p) = here y (wider y p)
+chain_from_some_is_chain_from_superset P Q wider x (onward y z c s) = onward y z (chain_from_some_is_chain_from_superset P Q wider y c) s
 
 -- a chain from some comes from one of them
-pub from_one : {X : Type 0} {Step : X → X → Type 0} (P : X → Type 0) (x : X) → Chain Step P x → (y : X) × P y × Chain Step (Has (y ∷ [])) x
-from_one P x (here y p) = (y, p, here y (inl refl))
-from_one P x (onward y z c s) = let first = from_one P y c in (first.0, first.1, onward y z first.2 s)
+pub chain_starts_at_one_element : {X : Type 0} {Step : X → X → Type 0} (P : X → Type 0) (x : X) → IsReachedBySteps Step P x → (y : X) × P y × IsReachedBySteps Step (ListHasElement (y ∷ [])) x
+chain_starts_at_one_element P x (here y p) = (y, p, here y (inl refl))
+chain_starts_at_one_element P x (onward y z c s) = let first = chain_starts_at_one_element P y c in (first.0, first.1, onward y z first.2 s)

@@ -1,29 +1,21 @@
 -- What closing a group keeps.
-use Rattle.std.proofs.Common.{◌≡◌, ◌<◌, ◌≤◌, ◌+◌, ◌⊎◌, inl, inr, ℕ, Bool, true, false, nat_eq, not, List, [], ◌∷◌, ◌++◌, length, take, get_or, slice_get, Some, None, sym, ap, subst, ◌∙◌, arith}
-use Rattle.std.proofs.Math.ListN.{set}
-use Rattle.std.proofs.lemmas.Bool.{cases_lt, cases_eq}
-use Rattle.std.proofs.lemmas.Bool.Decides.{eqb_tells}
-use Rattle.std.proofs.lemmas.List.{length-set, length-append, take-take}
+use Rattle.sudoers_check.proofs.Common.{AreNodesClosed, Bool, Closed, DepthSearchStep, HasEdge, HasPathBetween, IsClosedOrInLaterGroup, IsEdgeLookedAt, IsInGroupNotBefore, IsMarkOfClosedNode, IsMetNode, IsOnCycle}
+use Rattle.sudoers_check.proofs.Common.{IsReachedBySteps, KeepsSearchInvariant, List, ListHasElement, New, NodeSearchState, None, Open, Some, [], ap, arith, cases_eq, cases_lt, edge_targets_of_node, eqb_tells, false}
+use Rattle.sudoers_check.proofs.Common.{get_or, here, inl, inr, length, length-append, length-set, nat_eq, not, onward, place_of_step, set, slice_get, slice_get-get_or, slice_get_within, subst, sym, take, take-take}
+use Rattle.sudoers_check.proofs.Common.{true, ℕ, ◌++◌, ◌+◌, ◌<◌, ◌∙◌, ◌∷◌, ◌≡◌, ◌≤◌, ◌⊎◌}
 use Rattle.std.proofs.Math.Seq.{take-append_seam}
-use Rattle.std.proofs.lemmas.Option.{slice_get_within, slice_get-get_or}
-use Rattle.sudoers_check.specs.Chain.{Has, Chain, here, onward}
-use Rattle.sudoers_check.specs.internal.Graph.{edges_of, Leads, IsOnCycle}
-use Rattle.sudoers_check.specs.declared.cycles.Standing.{Standing}
-use Rattle.sudoers_check.specs.declared.cycles.Standing.TheVariants.{New, Open, Closed}
-use Rattle.sudoers_check.specs.declared.cycles.Step.{Step}
-use Rattle.sudoers_check.specs.internal.Search.{Path, place_of_step, IsNotBefore, IsLookedAt, IsOnward, IsMet, IsSearch, IsClosed, IsMark}
 use Rattle.sudoers_check.proofs.Lists.{place_of, get_pushed, Has_front, Has_pushed, Has_push, get-set_same, get-set_other, get_cut, get_kept}
 use Rattle.sudoers_check.proofs.Ascending.{ascends_front, ascends_last}
-use Rattle.sudoers_check.proofs.Fuel.{fresh_closed}
+use Rattle.sudoers_check.proofs.Fuel.{closing_node_keeps_search_steps_left}
 use Rattle.sudoers_check.proofs.Paths.{round_trip}
-use Rattle.sudoers_check.proofs.Searching.{no_next, last_at, starts_up_to, looked_all}
+use Rattle.sudoers_check.proofs.Searching.{no_next_node_leaves_first_case, last_at, starts_up_to, looked_all}
 
 -- ---- one more node is closed
 
-module _ (graph : List (List ℕ)) (alone : Bool) (standings : List Standing) (marks : List Bool) (nodes : List ℕ)
+module _ (graph : List (List ℕ)) (alone : Bool) (standings : List NodeSearchState) (marks : List Bool) (nodes : List ℕ)
     (stands : (p v : ℕ) → slice_get nodes p ≡ Some v → slice_get standings v ≡ Some (Open p)) (sizes : length marks ≡ length standings)
-    (standings_i : List Standing) (marks_i : List Bool) (nodes_i rest : List ℕ) (v : ℕ) (e : nodes_i ≡ rest ++ v ∷ [])
-    (c : IsClosed graph alone (length nodes_i) standings marks nodes standings_i marks_i nodes_i) where
+    (standings_i : List NodeSearchState) (marks_i : List Bool) (nodes_i rest : List ℕ) (v : ℕ) (e : nodes_i ≡ rest ++ v ∷ [])
+    (c : AreNodesClosed graph alone (length nodes_i) standings marks nodes standings_i marks_i nodes_i) where
   pub long : length nodes_i ≡ length rest + 1
   long = ap length e ∙ length-append rest (v ∷ [])
 
@@ -42,8 +34,8 @@ module _ (graph : List (List ℕ)) (alone : Bool) (standings : List Standing) (m
   pub next_within : v < length standings_i
   next_within = slice_get_within standings_i v (Open (length rest)) next_stands
 
-  pub closed_more : (mark : Bool) → IsMark graph alone v mark
-      → IsClosed graph alone (length rest) standings marks nodes (set standings_i v Closed) (set marks_i v mark) rest
+  pub closed_more : (mark : Bool) → IsMarkOfClosedNode graph alone v mark
+      → AreNodesClosed graph alone (length rest) standings marks nodes (set standings_i v Closed) (set marks_i v mark) rest
   closed_more mark is = record {
     nodes_are = sym (take-append_seam rest (v ∷ [])) ∙ ap (take (length rest)) (sym e ∙ c.nodes_are) ∙ take-take (length rest) (length nodes_i) nodes (omega (arith, long));
     standings_size = length-set standings_i v Closed ∙ c.standings_size;
@@ -56,13 +48,13 @@ module _ (graph : List (List ℕ)) (alone : Bool) (standings : List Standing) (m
       ]
     ];
     others = λ u. elim (cases_eq u v) [
-      | inl same ↦ inr (length rest, mark, omega arith, at_v ∙ ap Some (sym same), closed_now u same, marked_now u same, subst (λ x. IsMark graph alone x mark) (sym same) is)
+      | inl same ↦ inr (length rest, mark, omega arith, at_v ∙ ap Some (sym same), closed_now u same, marked_now u same, subst (λ x. IsMarkOfClosedNode graph alone x mark) (sym same) is)
       | inr other ↦ elim (c.others u) [
         | inl o ↦ inl (get-set_other standings_i v u Closed other ∙ o.0, get-set_other marks_i v u mark other ∙ o.1)
         | inr o ↦ inr (o.0, o.1, omega (arith, o.2, long), o.3, get-set_other standings_i v u Closed other ∙ o.4, get-set_other marks_i v u mark other ∙ o.5, o.6)
       ]
     ];
-    fresh_same = fresh_closed standings_i graph v (length rest) next_stands ∙ c.fresh_same;
+    fresh_same = closing_node_keeps_search_steps_left standings_i graph v (length rest) next_stands ∙ c.fresh_same;
   }
     where
       closed_now : (u : ℕ) → u ≡ v → slice_get (set standings_i v Closed) u ≡ Some Closed
@@ -72,8 +64,8 @@ module _ (graph : List (List ℕ)) (alone : Bool) (standings : List Standing) (m
       marked_now u same = ap (slice_get (set marks_i v mark)) same ∙ get-set_same marks_i v mark (let within = next_within in omega (arith, c.standings_size, c.marks_size, sizes))
 
 -- the mark of a node that is not alone
-pub not_alone : (graph : List (List ℕ)) (v m n : ℕ) (mark : Bool) → mark ≡ not (nat_eq m n) → (m ≡ n → ⊥) → IsMark graph (nat_eq m n) v mark
-not_alone graph v m n mark is apart = elim (eqb_tells m n) [
+pub node_in_joined_group_is_marked_cyclic : (graph : List (List ℕ)) (v m n : ℕ) (mark : Bool) → mark ≡ not (nat_eq m n) → (m ≡ n → ⊥) → IsMarkOfClosedNode graph (nat_eq m n) v mark
+node_in_joined_group_is_marked_cyclic graph v m n mark is apart = elim (eqb_tells m n) [
   | inl same ↦ absurd (apart same.1)
   | inr other ↦ record {
     says = λ e. inl other.0;
@@ -82,22 +74,22 @@ not_alone graph v m n mark is apart = elim (eqb_tells m n) [
 ]
 
 -- no node becomes new
-pub closed_met : (graph : List (List ℕ)) (alone : Bool) (place : ℕ) (standings : List Standing) (marks : List Bool) (nodes : List ℕ)
-    (standings_new : List Standing) (marks_new : List Bool) (nodes_new : List ℕ)
-    → IsClosed graph alone place standings marks nodes standings_new marks_new nodes_new → (v : ℕ) → IsMet standings v → IsMet standings_new v
-closed_met graph alone place standings marks nodes standings_new marks_new nodes_new c v met e = elim (c.others v) [
+pub closing_nodes_keeps_met_nodes : (graph : List (List ℕ)) (alone : Bool) (place : ℕ) (standings : List NodeSearchState) (marks : List Bool) (nodes : List ℕ)
+    (standings_new : List NodeSearchState) (marks_new : List Bool) (nodes_new : List ℕ)
+    → AreNodesClosed graph alone place standings marks nodes standings_new marks_new nodes_new → (v : ℕ) → IsMetNode standings v → IsMetNode standings_new v
+closing_nodes_keeps_met_nodes graph alone place standings marks nodes standings_new marks_new nodes_new c v met e = elim (c.others v) [
   | inl same ↦ met (sym same.0 ∙ e)
   | inr o ↦ let clash : Some Closed ≡ Some New = sym o.4 ∙ e in absurd cc
 ]
 
 -- ---- the last group is closed
 
-module _ (graph : List (List ℕ)) (standings : List Standing) (marks : List Bool) (nodes groups : List ℕ) (way : List Step) (step : Step)
-    (f : IsSearch graph None standings marks nodes (groups ++ step.place ∷ []) (way ++ step ∷ []))
-    (done : length (edges_of graph step.node) ≤ step.edges)
-    (standings_new : List Standing) (marks_new : List Bool) (nodes_new : List ℕ)
-    (c : IsClosed graph (nat_eq (step.place + 1) (length nodes)) step.place standings marks nodes standings_new marks_new nodes_new) where
-  starts_before : (b : ℕ) → Has (groups ++ step.place ∷ []) b → b ≤ step.place
+module _ (graph : List (List ℕ)) (standings : List NodeSearchState) (marks : List Bool) (nodes groups : List ℕ) (way : List DepthSearchStep) (step : DepthSearchStep)
+    (f : KeepsSearchInvariant graph None standings marks nodes (groups ++ step.place ∷ []) (way ++ step ∷ []))
+    (done : length (edge_targets_of_node graph step.node) ≤ step.edges)
+    (standings_new : List NodeSearchState) (marks_new : List Bool) (nodes_new : List ℕ)
+    (c : AreNodesClosed graph (nat_eq (step.place + 1) (length nodes)) step.place standings marks nodes standings_new marks_new nodes_new) where
+  starts_before : (b : ℕ) → ListHasElement (groups ++ step.place ∷ []) b → b ≤ step.place
   starts_before = starts_up_to graph standings marks nodes (groups ++ step.place ∷ []) way step f
 
   place_within : step.place < length nodes
@@ -118,13 +110,13 @@ module _ (graph : List (List ℕ)) (standings : List Standing) (marks : List Boo
   stays_closed v e = elim (c.others v) [ inl same ↦ same.0 ∙ e | inr o ↦ o.4 ]
 
   -- where the edges of the group lead
-  beyond : (p v : ℕ) → step.place ≤ p → slice_get nodes p ≡ Some v → (x : ℕ) → Leads graph v x
+  beyond : (p v : ℕ) → step.place ≤ p → slice_get nodes p ≡ Some v → (x : ℕ) → HasEdge graph v x
       → (slice_get standings x ≡ Some Closed) ⊎ ((q : ℕ) × (slice_get nodes q ≡ Some x) × (step.place ≤ q))
   beyond p v le at x e =
-      let j = place_of (edges_of graph v) x e in
-      let on_way_past : IsLookedAt way p j.0 = (λ t k on. absurd (let lt : t.place < step.place = ascends_last place_of_step way step f.way_ascends t k in omega arith)) in
-      let looked : IsLookedAt (way ++ step ∷ []) p j.0 = looked_all graph standings marks nodes (groups ++ step.place ∷ []) way step f done p j.0 v x at j.1 on_way_past in
-      elim (no_next x (f.looked p j.0 v x at j.1 looked)) [
+      let j = place_of (edge_targets_of_node graph v) x e in
+      let on_way_past : IsEdgeLookedAt way p j.0 = (λ t k on. absurd (let lt : t.place < step.place = ascends_last place_of_step way step f.way_ascends t k in omega arith)) in
+      let looked : IsEdgeLookedAt (way ++ step ∷ []) p j.0 = looked_all graph standings marks nodes (groups ++ step.place ∷ []) way step f done p j.0 v x at j.1 on_way_past in
+      elim (no_next_node_leaves_first_case x (f.looked p j.0 v x at j.1 looked)) [
         | inl cl ↦ inl cl
         | inr o ↦ inr (o.0, o.1, o.2 step.place (Has_pushed groups step.place) le)
       ]
@@ -148,15 +140,15 @@ module _ (graph : List (List ℕ)) (standings : List Standing) (marks : List Boo
     | inr o ↦ absurd (let clash : Some (Open p) ≡ Some Closed = sym e ∙ o.4 in cc)
   ]
 
-  paths_now : (p q v x : ℕ) → slice_get nodes_new p ≡ Some v → slice_get nodes_new q ≡ Some x → IsNotBefore groups p q → Path graph v x
+  paths_now : (p q v x : ℕ) → slice_get nodes_new p ≡ Some v → slice_get nodes_new q ≡ Some x → IsInGroupNotBefore groups p q → HasPathBetween graph v x
   paths_now p q v x at_p at_q nb =
       let b = before p v at_p in
       f.paths p q v x b.1 (before q x at_q).1 (λ g h le. elim (Has_push groups step.place g h) [ inl k ↦ nb g k le | inr same ↦ absurd (omega (arith, b.0)) ])
 
-  looked_then : (p j v x : ℕ) → slice_get nodes_new p ≡ Some v → slice_get (edges_of graph v) j ≡ Some x → IsLookedAt way p j → IsOnward standings_new nodes_new groups p x
+  looked_then : (p j v x : ℕ) → slice_get nodes_new p ≡ Some v → slice_get (edge_targets_of_node graph v) j ≡ Some x → IsEdgeLookedAt way p j → IsClosedOrInLaterGroup standings_new nodes_new groups p x
   looked_then p j v x at e l =
       let b = before p v at in
-      elim (no_next x (f.looked p j v x b.1 e (λ t h on. elim (Has_push way step t h) [
+      elim (no_next_node_leaves_first_case x (f.looked p j v x b.1 e (λ t h on. elim (Has_push way step t h) [
         | inl k ↦ l t k on
         | inr is ↦ let same : step.place ≡ t.place = ap place_of_step is in absurd (omega (arith, b.0))
       ]))) [
@@ -167,7 +159,7 @@ module _ (graph : List (List ℕ)) (standings : List Standing) (marks : List Boo
         ]
       ]
 
-  closed_now : (v x : ℕ) → slice_get standings_new v ≡ Some Closed → Leads graph v x → slice_get standings_new x ≡ Some Closed
+  closed_now : (v x : ℕ) → slice_get standings_new v ≡ Some Closed → HasEdge graph v x → slice_get standings_new x ≡ Some Closed
   closed_now v x cl e = elim (c.others v) [
     | inl same ↦ stays_closed x (f.closed v x (sym same.0 ∙ cl) e)
     | inr o ↦ elim (beyond o.0 v o.2 o.3 x e) [ inl k ↦ stays_closed x k | inr q ↦ c.closed q.0 x q.2 q.1 ]
@@ -188,8 +180,8 @@ module _ (graph : List (List ℕ)) (standings : List Standing) (marks : List Boo
       let q = companion more p le in
       let x : ℕ = get_or nodes q.0 0 in
       let at_q : slice_get nodes q.0 ≡ Some x = slice_get-get_or nodes q.0 0 q.3 in
-      let one_way : Path graph v x = f.paths p q.0 v x at at_q (λ b h less. let s = starts_before b h in omega (arith, q.1, s)) in
-      let other_way : Path graph x v = f.paths q.0 p x v at_q at (λ b h less. let s = starts_before b h in omega (arith, le, s)) in
+      let one_way : HasPathBetween graph v x = f.paths p q.0 v x at at_q (λ b h less. let s = starts_before b h in omega (arith, q.1, s)) in
+      let other_way : HasPathBetween graph x v = f.paths q.0 p x v at_q at (λ b h less. let s = starts_before b h in omega (arith, le, s)) in
       round_trip graph v x (λ same. q.2 (one_place p q.0 v at (at_q ∙ ap Some (sym same)))) one_way other_way
 
   marked_now : (v : ℕ) → slice_get standings_new v ≡ Some Closed → slice_get marks_new v ≡ Some true → IsOnCycle graph v
@@ -212,8 +204,8 @@ module _ (graph : List (List ℕ)) (standings : List Standing) (marks : List Boo
         absurd cc
   ]
     where
-      all_closed : (p v : ℕ) → step.place ≤ p → slice_get nodes p ≡ Some v → nat_eq (step.place + 1) (length nodes) ≡ true → (Leads graph v v → ⊥)
-          → (x : ℕ) → Chain (Leads graph) (Leads graph v) x → slice_get standings x ≡ Some Closed
+      all_closed : (p v : ℕ) → step.place ≤ p → slice_get nodes p ≡ Some v → nat_eq (step.place + 1) (length nodes) ≡ true → (HasEdge graph v v → ⊥)
+          → (x : ℕ) → IsReachedBySteps (HasEdge graph) (HasEdge graph v) x → slice_get standings x ≡ Some Closed
       all_closed p v le at alone none x (here y e) = elim (beyond p v le at x e) [
         | inl cl ↦ cl
         | inr q ↦ elim (eqb_tells (step.place + 1) (length nodes)) [
@@ -224,13 +216,13 @@ module _ (graph : List (List ℕ)) (standings : List Standing) (marks : List Boo
               let same : q.0 ≡ p = omega (arith, q.2, count) in
               let two : Some x ≡ Some v = sym q.1 ∙ ap (slice_get nodes) same ∙ at in
               let is : x ≡ v = cc in
-              absurd (none (subst (Leads graph v) is e))
+              absurd (none (subst (HasEdge graph v) is e))
           | inr apart ↦ absurd (let clash : true ≡ false = sym alone ∙ apart.0 in cc)
         ]
       ]
       all_closed p v le at alone none x (onward y z ch e) = f.closed y z (all_closed p v le at alone none y ch) e
 
-  pub left_closed : IsSearch graph None standings_new marks_new nodes_new groups way
+  pub left_closed : KeepsSearchInvariant graph None standings_new marks_new nodes_new groups way
   left_closed = record {
     standings_size = c.standings_size ∙ f.standings_size;
     marks_size = c.marks_size ∙ f.marks_size;

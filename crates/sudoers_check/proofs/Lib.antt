@@ -1,3 +1,4 @@
+mod Common
 pub mod Ascending
 pub mod Closing
 pub mod Found

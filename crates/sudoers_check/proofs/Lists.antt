@@ -1,22 +1,17 @@
 -- Elements of lists by their places, after a write, a push or a cut.
-use Rattle.std.proofs.Common.{◌≡◌, ◌≢◌, ◌<◌, ◌-◌, ◌⊎◌, inl, inr, ℕ, zero, suc, List, [], ◌∷◌, ◌++◌, length, take, get_or, slice_get, Option, Some, None, refl, sym, ap, subst, ◌∙◌, eqb, ltb, true, arith}
-use Rattle.std.proofs.Math.ListN.{set}
-use Rattle.std.proofs.lemmas.Option.{slice_get_within, slice_get_read, get_or_from_slice_get}
-use Rattle.std.proofs.lemmas.Bool.{eq-eqb, ltb-true}
-use Rattle.std.proofs.lemmas.Bool.Decides.{eqb_tells}
+use Rattle.sudoers_check.proofs.Common.{AllByRecursion, List, ListHasElement, None, Option, Some, [], ap, arith, eq-eqb, eqb, eqb_tells, get_or, get_or_from_slice_get, inl, inr, length, list_any, ltb, ltb-true, refl}
+use Rattle.sudoers_check.proofs.Common.{set, slice_get, slice_get_read, slice_get_within, subst, suc, sym, take, true, zero, ℕ, ◌++◌, ◌-◌, ◌<◌, ◌∙◌, ◌∷◌, ◌≡◌, ◌≢◌, ◌⊎◌}
 use Rattle.std.proofs.Math.Bool.{or-true}
 use Rattle.std.specs.Borrow.{Bor}
 use Rattle.std.specs.Option.{option_to_list, option_copied, is_some, IfSome}
-use Rattle.std.specs.List.{AllByRecursion, list_any}
-use Rattle.sudoers_check.specs.Chain.{Has}
 
 module _ {X : Type 0} where
-  pub Has_at : (xs : List X) (i : ℕ) (x : X) → slice_get xs i ≡ Some x → Has xs x
+  pub Has_at : (xs : List X) (i : ℕ) (x : X) → slice_get xs i ≡ Some x → ListHasElement xs x
   Has_at [] i x e = absurd cc
   Has_at (y ∷ ys) zero x e = inl cc
   Has_at (y ∷ ys) (suc i) x e = inr (Has_at ys i x e)
 
-  pub place_of : (xs : List X) (x : X) → Has xs x → (i : ℕ) × (slice_get xs i ≡ Some x)
+  pub place_of : (xs : List X) (x : X) → ListHasElement xs x → (i : ℕ) × (slice_get xs i ≡ Some x)
   place_of [] x h = elim h [ ]
   place_of (y ∷ ys) x (inl e) = (zero, ap Some e)
   place_of (y ∷ ys) x (inr h) = let at = place_of ys x h in (suc at.0, at.1)
@@ -44,16 +39,16 @@ module _ {X : Type 0} where
   get_push (z ∷ zs) x zero y e = inl e
   get_push (z ∷ zs) x (suc i) y e = elim (get_push zs x i y e) [ inl h ↦ inl h | inr h ↦ inr (ap suc h.0, h.1) ]
 
-  pub Has_front : (xs ys : List X) (x : X) → Has xs x → Has (xs ++ ys) x
+  pub Has_front : (xs ys : List X) (x : X) → ListHasElement xs x → ListHasElement (xs ++ ys) x
   Has_front [] ys x h = elim h [ ]
   Has_front (y ∷ xs) ys x (inl e) = inl e
   Has_front (y ∷ xs) ys x (inr h) = inr (Has_front xs ys x h)
 
-  pub Has_pushed : (xs : List X) (x : X) → Has (xs ++ x ∷ []) x
+  pub Has_pushed : (xs : List X) (x : X) → ListHasElement (xs ++ x ∷ []) x
   Has_pushed [] x = inl refl
   Has_pushed (y ∷ ys) x = inr (Has_pushed ys x)
 
-  pub Has_push : (xs : List X) (x y : X) → Has (xs ++ x ∷ []) y → Has xs y ⊎ (x ≡ y)
+  pub Has_push : (xs : List X) (x y : X) → ListHasElement (xs ++ x ∷ []) y → ListHasElement xs y ⊎ (x ≡ y)
   Has_push [] x y (inl e) = inr e
   Has_push [] x y (inr h) = elim h [ ]
   Has_push (z ∷ zs) x y (inl e) = inl (inl e)
@@ -99,26 +94,26 @@ module _ {X : Type 0} where
 
 -- ---- a number among others
 
-pub Has_any : (v : ℕ) (xs : List ℕ) → Has xs v → list_any (λ y. eqb y v) xs ≡ true
-Has_any v [] h = elim h [ ]
-Has_any v (x ∷ xs) (inl e) = rw (eq-eqb x v e)
-Has_any v (x ∷ xs) (inr h) = rw (Has_any v xs h) (or-true (eqb x v))
+pub list_element_passes_number_test : (v : ℕ) (xs : List ℕ) → ListHasElement xs v → list_any (λ y. eqb y v) xs ≡ true
+list_element_passes_number_test v [] h = elim h [ ]
+list_element_passes_number_test v (x ∷ xs) (inl e) = rw (eq-eqb x v e)
+list_element_passes_number_test v (x ∷ xs) (inr h) = rw (list_element_passes_number_test v xs h) (or-true (eqb x v))
 
-pub any_Has : (v : ℕ) (xs : List ℕ) → list_any (λ y. eqb y v) xs ≡ true → Has xs v
-any_Has v [] e = absurd cc
-any_Has v (x ∷ xs) e = elim (eqb_tells x v) [ inl same ↦ inl same.1 | inr other ↦ inr (any_Has v xs (rw other.0 at e)) ]
+pub number_test_implies_list_element : (v : ℕ) (xs : List ℕ) → list_any (λ y. eqb y v) xs ≡ true → ListHasElement xs v
+number_test_implies_list_element v [] e = absurd cc
+number_test_implies_list_element v (x ∷ xs) e = elim (eqb_tells x v) [ inl same ↦ inl same.1 | inr other ↦ inr (number_test_implies_list_element v xs (rw other.0 at e)) ]
 
 -- what is left without the last
-pub popped : (xs rest : List ℕ) (o : Option ℕ) (n x : ℕ) → xs ≡ rest ++ option_to_list o → ((d : ℕ) → 0 < n → o ≡ Some (get_or xs (n - 1) d))
+pub popped_list_is_front_and_last : (xs rest : List ℕ) (o : Option ℕ) (n x : ℕ) → xs ≡ rest ++ option_to_list o → ((d : ℕ) → 0 < n → o ≡ Some (get_or xs (n - 1) d))
     → n ≡ length xs → slice_get xs (length xs - 1) ≡ Some x → xs ≡ rest ++ x ∷ []
-popped xs rest o n x e value count last =
+popped_list_is_front_and_last xs rest o n x e value count last =
     let within : length xs - 1 < length xs = slice_get_within xs (length xs - 1) x last in
     let is = value 0 (omega (arith, count, within)) in
     let same : get_or xs (length xs - 1) 0 ≡ x = get_or_from_slice_get xs (length xs - 1) x 0 last in
     e ∙ ap (λ r. rest ++ option_to_list r) (is ∙ ap (λ m. Some (get_or xs (m - 1) 0)) count ∙ ap Some same)
 
 -- what `get` and `copied` gave
-pub got : (xs : List ℕ) (i : ℕ) (o : Option (Bor ℕ)) (x : ℕ) → is_some o ≡ ltb i (length xs) → IfSome o (λ y. y.now ≡ get_or xs i y.now)
+pub copied_element_is_element_at_index : (xs : List ℕ) (i : ℕ) (o : Option (Bor ℕ)) (x : ℕ) → is_some o ≡ ltb i (length xs) → IfSome o (λ y. y.now ≡ get_or xs i y.now)
     → Some x ≡ option_copied o → slice_get xs i ≡ Some x
-got xs i None x m h e = absurd cc
-got xs i (Some y) x m h e = slice_get_read xs (length xs) i y.now refl (ltb-true i (length xs) (sym m)) h ∙ sym e
+copied_element_is_element_at_index xs i None x m h e = absurd cc
+copied_element_is_element_at_index xs i (Some y) x m h e = slice_get_read xs (length xs) i y.now refl (ltb-true i (length xs) (sym m)) h ∙ sym e

@@ -1,34 +1,26 @@
 -- What the steps of the search keep: an edge is looked at, a node is entered, groups are joined, a node is left.
-use Rattle.std.proofs.Common.{◌≡◌, ◌<◌, ◌≤◌, ◌+◌, ◌-◌, ◌⊎◌, inl, inr, ℕ, Bool, List, [], ◌∷◌, ◌++◌, length, get_or, slice_get, Option, Some, None, sym, ap, subst, ◌∙◌, arith}
-use Rattle.std.proofs.Math.ListN.{set}
-use Rattle.std.proofs.lemmas.Bool.{cases_lt, cases_eq}
-use Rattle.std.proofs.lemmas.List.{length-set}
-use Rattle.std.proofs.lemmas.Option.{slice_get_within, slice_get-get_or}
-use Rattle.sudoers_check.specs.Chain.{Has, here, onward}
-use Rattle.sudoers_check.specs.internal.Graph.{edges_of, Leads}
-use Rattle.sudoers_check.specs.declared.cycles.Standing.{Standing}
-use Rattle.sudoers_check.specs.declared.cycles.Standing.TheVariants.{New, Open, Closed}
-use Rattle.sudoers_check.specs.declared.cycles.Step.{Step}
-use Rattle.sudoers_check.specs.internal.Search.{Path, place_of_step, IsNotBefore, IsLookedAt, IsOnward, IsSearch, IsJoined}
+use Rattle.sudoers_check.proofs.Common.{AreGroupsJoined, Bool, Closed, DepthSearchStep, HasEdge, HasPathBetween, IsClosedOrInLaterGroup, IsEdgeLookedAt, IsInGroupNotBefore, KeepsSearchInvariant, List, ListHasElement}
+use Rattle.sudoers_check.proofs.Common.{New, NodeSearchState, None, Open, Option, Some, [], ap, arith, cases_eq, cases_lt, edge_targets_of_node, get_or, here, inl, inr, length, length-set, onward, place_of_step, set}
+use Rattle.sudoers_check.proofs.Common.{slice_get, slice_get-get_or, slice_get_within, subst, sym, ℕ, ◌++◌, ◌+◌, ◌-◌, ◌<◌, ◌∙◌, ◌∷◌, ◌≡◌, ◌≤◌, ◌⊎◌}
 use Rattle.sudoers_check.proofs.Lists.{Has_at, place_of, get_front, get_pushed, get_push, Has_front, Has_pushed, Has_push, get-set_same, get-set_other, get-set}
 use Rattle.sudoers_check.proofs.Ascending.{ascends_front, ascends_last, ascends_push}
 use Rattle.sudoers_check.proofs.Paths.{path_on}
 
-pub no_next : {A : Type 0} (x : ℕ) → A ⊎ (None ≡ Some x) → A
-no_next x (inl a) = a
-no_next x (inr e) = absurd cc
+pub no_next_node_leaves_first_case : {A : Type 0} (x : ℕ) → A ⊎ (None ≡ Some x) → A
+no_next_node_leaves_first_case x (inl a) = a
+no_next_node_leaves_first_case x (inr e) = absurd cc
 
-abbrev pub one_more : Step → Step
-one_more s = record { node = s.node; place = s.place; edges = s.edges + 1 }
+abbrev pub step_with_one_more_edge : DepthSearchStep → DepthSearchStep
+step_with_one_more_edge s = record { node = s.node; place = s.place; edges = s.edges + 1 }
 
 -- ---- the last node of the way
 
-module _ (graph : List (List ℕ)) (standings : List Standing) (marks : List Bool) (nodes groups : List ℕ) (way : List Step) (step : Step)
-    (f : IsSearch graph None standings marks nodes groups (way ++ step ∷ [])) where
+module _ (graph : List (List ℕ)) (standings : List NodeSearchState) (marks : List Bool) (nodes groups : List ℕ) (way : List DepthSearchStep) (step : DepthSearchStep)
+    (f : KeepsSearchInvariant graph None standings marks nodes groups (way ++ step ∷ [])) where
   pub last_at : slice_get nodes step.place ≡ Some step.node
   last_at = f.on_way step (Has_pushed way step)
 
-  pub starts_up_to : (b : ℕ) → Has groups b → b ≤ step.place
+  pub starts_up_to : (b : ℕ) → ListHasElement groups b → b ≤ step.place
   starts_up_to b h =
       let s = f.starts b h in
       elim (Has_push way step s.0 s.1) [
@@ -37,34 +29,34 @@ module _ (graph : List (List ℕ)) (standings : List Standing) (marks : List Boo
       ]
 
   -- all open nodes reach the last one, and where its edge leads
-  pub all_reach : (w : ℕ) → Leads graph step.node w → (p v : ℕ) → slice_get nodes p ≡ Some v → Path graph v w
+  pub all_reach : (w : ℕ) → HasEdge graph step.node w → (p v : ℕ) → slice_get nodes p ≡ Some v → HasPathBetween graph v w
   all_reach w e p v at = onward step.node w (f.paths p step.place v step.node at last_at (λ b h le. starts_up_to b h)) e
 
-  looked_now : (w : ℕ) → slice_get (edges_of graph step.node) step.edges ≡ Some w
-      → (p j v x : ℕ) → slice_get nodes p ≡ Some v → slice_get (edges_of graph v) j ≡ Some x → IsLookedAt (way ++ one_more step ∷ []) p j
-      → IsOnward standings nodes groups p x ⊎ (Some w ≡ Some x)
+  looked_now : (w : ℕ) → slice_get (edge_targets_of_node graph step.node) step.edges ≡ Some w
+      → (p j v x : ℕ) → slice_get nodes p ≡ Some v → slice_get (edge_targets_of_node graph v) j ≡ Some x → IsEdgeLookedAt (way ++ step_with_one_more_edge step ∷ []) p j
+      → IsClosedOrInLaterGroup standings nodes groups p x ⊎ (Some w ≡ Some x)
   looked_now w edge p j v x at e l = elim (cases_eq p step.place) [
     | inl last_is ↦
-        let below : j < step.edges + 1 = l (one_more step) (Has_pushed way (one_more step)) (sym last_is) in
+        let below : j < step.edges + 1 = l (step_with_one_more_edge step) (Has_pushed way (step_with_one_more_edge step)) (sym last_is) in
         elim (cases_eq j step.edges) [
           | inl same ↦
               let node_is : Some v ≡ Some step.node = sym at ∙ ap (slice_get nodes) last_is ∙ last_at in
               let v_is : v ≡ step.node = cc in
-              inr (sym edge ∙ ap (slice_get (edges_of graph step.node)) (sym same) ∙ ap (λ u. slice_get (edges_of graph u) j) (sym v_is) ∙ e)
-          | inr other ↦ inl (no_next x (f.looked p j v x at e (λ s h on. elim (Has_push way step s h) [
-            | inl k ↦ l s (Has_front way (one_more step ∷ []) s k) on
-            | inr is ↦ let edges_is : step.edges ≡ s.edges = ap (λ (t : Step). t.edges) is in omega arith
+              inr (sym edge ∙ ap (slice_get (edge_targets_of_node graph step.node)) (sym same) ∙ ap (λ u. slice_get (edge_targets_of_node graph u) j) (sym v_is) ∙ e)
+          | inr other ↦ inl (no_next_node_leaves_first_case x (f.looked p j v x at e (λ s h on. elim (Has_push way step s h) [
+            | inl k ↦ l s (Has_front way (step_with_one_more_edge step ∷ []) s k) on
+            | inr is ↦ let edges_is : step.edges ≡ s.edges = ap (λ (t : DepthSearchStep). t.edges) is in omega arith
           ])))
         ]
-    | inr apart ↦ inl (no_next x (f.looked p j v x at e (λ s h on. elim (Has_push way step s h) [
-      | inl k ↦ l s (Has_front way (one_more step ∷ []) s k) on
+    | inr apart ↦ inl (no_next_node_leaves_first_case x (f.looked p j v x at e (λ s h on. elim (Has_push way step s h) [
+      | inl k ↦ l s (Has_front way (step_with_one_more_edge step ∷ []) s k) on
       | inr is ↦ absurd (apart (sym (ap place_of_step is ∙ on)))
     ])))
   ]
 
   -- the next edge is looked at
-  pub advanced : (w : ℕ) → slice_get (edges_of graph step.node) step.edges ≡ Some w
-      → IsSearch graph (Some w) standings marks nodes groups (way ++ one_more step ∷ [])
+  pub advanced : (w : ℕ) → slice_get (edge_targets_of_node graph step.node) step.edges ≡ Some w
+      → KeepsSearchInvariant graph (Some w) standings marks nodes groups (way ++ step_with_one_more_edge step ∷ [])
   advanced w edge = record {
     standings_size = f.standings_size;
     marks_size = f.marks_size;
@@ -75,37 +67,37 @@ module _ (graph : List (List ℕ)) (standings : List Standing) (marks : List Boo
     closed = f.closed;
     marked = f.marked;
     unmarked = f.unmarked;
-    on_way = λ s h. elim (Has_push way (one_more step) s h) [
+    on_way = λ s h. elim (Has_push way (step_with_one_more_edge step) s h) [
       | inl k ↦ f.on_way s (Has_front way (step ∷ []) s k)
-      | inr is ↦ subst (λ (t : Step). slice_get nodes t.place ≡ Some t.node) is last_at
+      | inr is ↦ subst (λ (t : DepthSearchStep). slice_get nodes t.place ≡ Some t.node) is last_at
     ];
-    way_ascends = ascends_push place_of_step way (one_more step) (ascends_front place_of_step way (step ∷ []) f.way_ascends)
+    way_ascends = ascends_push place_of_step way (step_with_one_more_edge step) (ascends_front place_of_step way (step ∷ []) f.way_ascends)
         (λ s h. ascends_last place_of_step way step f.way_ascends s h);
     groups_ascend = f.groups_ascend;
     starts = λ b h. let s = f.starts b h in elim (Has_push way step s.0 s.1) [
-      | inl k ↦ (s.0, Has_front way (one_more step ∷ []) s.0 k, s.2)
-      | inr is ↦ (one_more step, Has_pushed way (one_more step), ap place_of_step is ∙ s.2)
+      | inl k ↦ (s.0, Has_front way (step_with_one_more_edge step ∷ []) s.0 k, s.2)
+      | inr is ↦ (step_with_one_more_edge step, Has_pushed way (step_with_one_more_edge step), ap place_of_step is ∙ s.2)
     ];
     first = f.first;
   }
 
   -- all edges of the last node were looked at
-  pub looked_all : length (edges_of graph step.node) ≤ step.edges → (p j v x : ℕ) → slice_get nodes p ≡ Some v
-      → slice_get (edges_of graph v) j ≡ Some x → IsLookedAt way p j → IsLookedAt (way ++ step ∷ []) p j
+  pub looked_all : length (edge_targets_of_node graph step.node) ≤ step.edges → (p j v x : ℕ) → slice_get nodes p ≡ Some v
+      → slice_get (edge_targets_of_node graph v) j ≡ Some x → IsEdgeLookedAt way p j → IsEdgeLookedAt (way ++ step ∷ []) p j
   looked_all done p j v x at e l s h on = elim (Has_push way step s h) [
     | inl k ↦ l s k on
     | inr is ↦
         let place_is : step.place ≡ p = ap place_of_step is ∙ on in
         let node_is : Some step.node ≡ Some v = sym last_at ∙ ap (slice_get nodes) place_is ∙ at in
         let v_is : v ≡ step.node = cc in
-        let within : j < length (edges_of graph v) = slice_get_within (edges_of graph v) j x e in
-        let same : length (edges_of graph v) ≡ length (edges_of graph step.node) = ap (λ u. length (edges_of graph u)) v_is in
-        let edges_is : step.edges ≡ s.edges = ap (λ (t : Step). t.edges) is in
+        let within : j < length (edge_targets_of_node graph v) = slice_get_within (edge_targets_of_node graph v) j x e in
+        let same : length (edge_targets_of_node graph v) ≡ length (edge_targets_of_node graph step.node) = ap (λ u. length (edge_targets_of_node graph u)) v_is in
+        let edges_is : step.edges ≡ s.edges = ap (λ (t : DepthSearchStep). t.edges) is in
         omega arith
   ]
 
   -- the last node is left, and its group does not begin with it
-  pub left_open : length (edges_of graph step.node) ≤ step.edges → (Has groups step.place → ⊥) → IsSearch graph None standings marks nodes groups way
+  pub left_open : length (edge_targets_of_node graph step.node) ≤ step.edges → (ListHasElement groups step.place → ⊥) → KeepsSearchInvariant graph None standings marks nodes groups way
   left_open done no_start = record {
     standings_size = f.standings_size;
     marks_size = f.marks_size;
@@ -121,13 +113,13 @@ module _ (graph : List (List ℕ)) (standings : List Standing) (marks : List Boo
     groups_ascend = f.groups_ascend;
     starts = λ b h. let s = f.starts b h in elim (Has_push way step s.0 s.1) [
       | inl k ↦ (s.0, k, s.2)
-      | inr is ↦ absurd (no_start (subst (Has groups) (sym (ap place_of_step is ∙ s.2)) h))
+      | inr is ↦ absurd (no_start (subst (ListHasElement groups) (sym (ap place_of_step is ∙ s.2)) h))
     ];
     first = f.first;
   }
 
   -- a group begins with the last node only if the last one does
-  pub no_group : (o : Option ℕ) → o ≡ slice_get groups (length groups - 1) → (o ≡ Some step.place → ⊥) → Has groups step.place → ⊥
+  pub no_group : (o : Option ℕ) → o ≡ slice_get groups (length groups - 1) → (o ≡ Some step.place → ⊥) → ListHasElement groups step.place → ⊥
   no_group o is other h =
       let at = place_of groups step.place h in
       let within : at.0 < length groups = slice_get_within groups at.0 step.place at.1 in
@@ -142,10 +134,10 @@ module _ (graph : List (List ℕ)) (standings : List Standing) (marks : List Boo
 
 -- ---- where an edge led
 
-module _ (graph : List (List ℕ)) (next : Option ℕ) (standings : List Standing) (marks : List Bool) (nodes groups : List ℕ) (way : List Step)
-    (f : IsSearch graph next standings marks nodes groups way) (w : ℕ) (is_next : (x : ℕ) → next ≡ Some x → w ≡ x) where
+module _ (graph : List (List ℕ)) (next : Option ℕ) (standings : List NodeSearchState) (marks : List Bool) (nodes groups : List ℕ) (way : List DepthSearchStep)
+    (f : KeepsSearchInvariant graph next standings marks nodes groups way) (w : ℕ) (is_next : (x : ℕ) → next ≡ Some x → w ≡ x) where
   -- to a closed node
-  pub led_to_closed : slice_get standings w ≡ Some Closed → IsSearch graph None standings marks nodes groups way
+  pub led_to_closed : slice_get standings w ≡ Some Closed → KeepsSearchInvariant graph None standings marks nodes groups way
   led_to_closed c = record {
     standings_size = f.standings_size;
     marks_size = f.marks_size;
@@ -163,10 +155,10 @@ module _ (graph : List (List ℕ)) (next : Option ℕ) (standings : List Standin
     first = f.first;
   }
 
-  module _ (reach : (p v : ℕ) → slice_get nodes p ≡ Some v → Path graph v w) where
+  module _ (reach : (p v : ℕ) → slice_get nodes p ≡ Some v → HasPathBetween graph v w) where
     -- to an open node
-    pub led_to_open : (q : ℕ) → slice_get standings w ≡ Some (Open q) → (groups_new : List ℕ) → IsJoined groups q groups_new
-        → IsSearch graph None standings marks nodes groups_new way
+    pub led_to_open : (q : ℕ) → slice_get standings w ≡ Some (Open q) → (groups_new : List ℕ) → AreGroupsJoined groups q groups_new
+        → KeepsSearchInvariant graph None standings marks nodes groups_new way
     led_to_open q is groups_new j = record {
       standings_size = f.standings_size;
       marks_size = f.marks_size;
@@ -198,16 +190,16 @@ module _ (graph : List (List ℕ)) (next : Option ℕ) (standings : List Standin
       abbrev k : ℕ
       k = length nodes
 
-      abbrev standings_new : List Standing
+      abbrev standings_new : List NodeSearchState
       standings_new = set standings w (Open (length nodes))
 
-      abbrev entry : Step
+      abbrev entry : DepthSearchStep
       entry = record { node = w; place = length nodes; edges = 0 }
 
-      kept : (v : ℕ) (s : Standing) → (New ≡ s → ⊥) → slice_get standings v ≡ Some s → slice_get standings_new v ≡ Some s
+      kept : (v : ℕ) (s : NodeSearchState) → (New ≡ s → ⊥) → slice_get standings v ≡ Some s → slice_get standings_new v ≡ Some s
       kept v s n e = get-set_other standings w v (Open k) (λ same. n (let clash : Some New ≡ Some s = sym is ∙ ap (slice_get standings) (sym same) ∙ e in cc)) ∙ e
 
-      was : (v : ℕ) (s : Standing) → (Open k ≡ s → ⊥) → slice_get standings_new v ≡ Some s → slice_get standings v ≡ Some s
+      was : (v : ℕ) (s : NodeSearchState) → (Open k ≡ s → ⊥) → slice_get standings_new v ≡ Some s → slice_get standings v ≡ Some s
       was v s n e = elim (get-set standings w v (Open k) s e) [ inl here_now ↦ absurd (n here_now.1) | inr old ↦ old.1 ]
 
       stands_now : (p v : ℕ) → slice_get (nodes ++ w ∷ []) p ≡ Some v → slice_get standings_new v ≡ Some (Open p)
@@ -225,20 +217,20 @@ module _ (graph : List (List ℕ)) (next : Option ℕ) (standings : List Standin
         | inr old ↦ get_front nodes (w ∷ []) p v (f.placed p v old.1)
       ]
 
-      paths_now : (p q v x : ℕ) → slice_get (nodes ++ w ∷ []) p ≡ Some v → slice_get (nodes ++ w ∷ []) q ≡ Some x → IsNotBefore (groups ++ k ∷ []) p q → Path graph v x
+      paths_now : (p q v x : ℕ) → slice_get (nodes ++ w ∷ []) p ≡ Some v → slice_get (nodes ++ w ∷ []) q ≡ Some x → IsInGroupNotBefore (groups ++ k ∷ []) p q → HasPathBetween graph v x
       paths_now p q v x at_p at_q nb = by (get_push nodes w p v at_p) (get_push nodes w q x at_q)
         where
-          by : (slice_get nodes p ≡ Some v) ⊎ ((p ≡ length nodes) × (w ≡ v)) → (slice_get nodes q ≡ Some x) ⊎ ((q ≡ length nodes) × (w ≡ x)) → Path graph v x
+          by : (slice_get nodes p ≡ Some v) ⊎ ((p ≡ length nodes) × (w ≡ v)) → (slice_get nodes q ≡ Some x) ⊎ ((q ≡ length nodes) × (w ≡ x)) → HasPathBetween graph v x
           by (inl a) (inl b) = f.paths p q v x a b (λ g h le. nb g (Has_front groups (k ∷ []) g h) le)
-          by (inl a) (inr b) = subst (Path graph v) b.1 (reach p v a)
+          by (inl a) (inr b) = subst (HasPathBetween graph v) b.1 (reach p v a)
           by (inr a) (inl b) =
               let within : q < length nodes = slice_get_within nodes q x b in
               let le : length nodes ≤ q = nb k (Has_pushed groups k) (omega (arith, a.0)) in
               absurd (omega arith)
           by (inr a) (inr b) = here x (sym a.1 ∙ b.1)
 
-      looked_then : (p j v x : ℕ) → slice_get (nodes ++ w ∷ []) p ≡ Some v → slice_get (edges_of graph v) j ≡ Some x → IsLookedAt (way ++ entry ∷ []) p j
-          → IsOnward standings_new (nodes ++ w ∷ []) (groups ++ k ∷ []) p x
+      looked_then : (p j v x : ℕ) → slice_get (nodes ++ w ∷ []) p ≡ Some v → slice_get (edge_targets_of_node graph v) j ≡ Some x → IsEdgeLookedAt (way ++ entry ∷ []) p j
+          → IsClosedOrInLaterGroup standings_new (nodes ++ w ∷ []) (groups ++ k ∷ []) p x
       looked_then p j v x at e l = elim (get_push nodes w p v at) [
         | inl old ↦
             let within : p < length nodes = slice_get_within nodes p v old in
@@ -252,7 +244,7 @@ module _ (graph : List (List ℕ)) (next : Option ℕ) (standings : List Standin
         | inr new ↦ absurd (let below : j < 0 = l entry (Has_pushed way entry) (sym new.0) in omega arith)
       ]
 
-      pub led_to_new : IsSearch graph None (set standings w (Open (length nodes))) marks (nodes ++ w ∷ []) (groups ++ length nodes ∷ [])
+      pub led_to_new : KeepsSearchInvariant graph None (set standings w (Open (length nodes))) marks (nodes ++ w ∷ []) (groups ++ length nodes ∷ [])
           (way ++ record { node = w; place = length nodes; edges = 0 } ∷ [])
       led_to_new = record {
         standings_size = length-set standings w (Open k) ∙ f.standings_size;
@@ -266,7 +258,7 @@ module _ (graph : List (List ℕ)) (next : Option ℕ) (standings : List Standin
         unmarked = λ v c m. f.unmarked v (was v Closed (λ e. absurd cc) c) m;
         on_way = λ s h. elim (Has_push way entry s h) [
           | inl old ↦ get_front nodes (w ∷ []) s.place s.node (f.on_way s old)
-          | inr same ↦ subst (λ (t : Step). slice_get (nodes ++ w ∷ []) t.place ≡ Some t.node) same (get_pushed nodes w)
+          | inr same ↦ subst (λ (t : DepthSearchStep). slice_get (nodes ++ w ∷ []) t.place ≡ Some t.node) same (get_pushed nodes w)
         ];
         way_ascends = ascends_push place_of_step way entry f.way_ascends (λ s h. slice_get_within nodes s.place s.node (f.on_way s h));
         groups_ascend = ascends_push (λ n. n) groups k f.groups_ascend (λ b h.
@@ -279,6 +271,6 @@ module _ (graph : List (List ℕ)) (next : Option ℕ) (standings : List Standin
         ];
         first = λ h. elim (cases_lt 0 (length nodes)) [
           | inl some ↦ Has_front groups (k ∷ []) 0 (f.first some)
-          | inr none ↦ let zero_is : k ≡ 0 = omega arith in subst (Has (groups ++ k ∷ [])) zero_is (Has_pushed groups k)
+          | inr none ↦ let zero_is : k ≡ 0 = omega arith in subst (ListHasElement (groups ++ k ∷ [])) zero_is (Has_pushed groups k)
         ];
       }

@@ -1,12 +1,8 @@
 -- Where the search ends.
-use Rattle.std.proofs.Common.{◌≡◌, ◌<◌, ℕ, Bool, true, false, List, [], length, get_or, slice_get, Some, None, arith}
-use Rattle.std.proofs.lemmas.Option.{slice_get_within, slice_get-get_or}
-use Rattle.sudoers_check.specs.internal.Graph.{IsOnCycle, Marks}
-use Rattle.sudoers_check.specs.declared.cycles.Standing.{Standing}
-use Rattle.sudoers_check.specs.declared.cycles.Standing.TheVariants.{New, Open, Closed}
-use Rattle.sudoers_check.specs.internal.Search.{IsMet, IsSearch}
+use Rattle.sudoers_check.proofs.Common.{Bool, Closed, IsMetNode, IsOnCycle, KeepsSearchInvariant, List, MarksDecidePredicate, New, NodeSearchState, None, Open, Some, [], arith, false, get_or, length, slice_get}
+use Rattle.sudoers_check.proofs.Common.{slice_get-get_or, slice_get_within, true, ℕ, ◌<◌, ◌≡◌}
 
-module _ (graph : List (List ℕ)) (standings : List Standing) (marks : List Bool) (nodes groups : List ℕ) (f : IsSearch graph None standings marks nodes groups []) where
+module _ (graph : List (List ℕ)) (standings : List NodeSearchState) (marks : List Bool) (nodes groups : List ℕ) (f : KeepsSearchInvariant graph None standings marks nodes groups []) where
   -- at the end of the way no node is open
   pub none_open : (p v : ℕ) → slice_get nodes p ≡ Some v → ⊥
   none_open p v at =
@@ -14,14 +10,14 @@ module _ (graph : List (List ℕ)) (standings : List Standing) (marks : List Boo
       let s = f.starts 0 (f.first (omega arith)) in
       elim s.1 [ ]
 
-  pub all_marked : ((v : ℕ) → v < length graph → IsMet standings v) → Marks (IsOnCycle graph) (length graph) marks
+  pub all_marked : ((v : ℕ) → v < length graph → IsMetNode standings v) → MarksDecidePredicate (IsOnCycle graph) (length graph) marks
   all_marked met = record {
     size = f.marks_size;
     holds = λ v m. f.marked v (closed v (slice_get_within marks v true m)) m;
     fails = λ v m. f.unmarked v (closed v (slice_get_within marks v false m)) m;
   }
     where
-      by : (v : ℕ) → IsMet standings v → (s : Standing) → slice_get standings v ≡ Some s → slice_get standings v ≡ Some Closed
+      by : (v : ℕ) → IsMetNode standings v → (s : NodeSearchState) → slice_get standings v ≡ Some s → slice_get standings v ≡ Some Closed
       by v is New e = absurd (is e)
       by v is (Open p) e = absurd (none_open p v (f.placed p v e))
       by v is Closed e = e

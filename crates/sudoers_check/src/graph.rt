@@ -2,8 +2,8 @@
 
 ghost use Rattle.std.specs.Prelude.{◌≡◌, ◌<◌, length, map, [], List, ℕ, IfOk, OnOk};
 ghost use Rattle.std.specs.List.{AllByRecursion};
-ghost use Rattle.sudoers_check.specs.internal.Found.{IsFound, IsGrown};
-ghost use Rattle.sudoers_check.specs.internal.Graph.{edges_of, AreNodes, IsGraph, IsReached, Marks};
+ghost use Rattle.sudoers_check.specs.internal.Found.{ListsMarkedNodes, MarksNodesAdded};
+ghost use Rattle.sudoers_check.specs.internal.Graph.{edge_targets_of_node, AreNodesOfGraph, IsGraph, IsReachedFromNodes, MarksDecidePredicate};
 
 use std::alloc::{AllocError, Global};
 use std::marker::Model;
@@ -43,10 +43,10 @@ impl Graph {
     }
 
     /// The nodes to which the edges of a node lead.
-    pub fn edges(&self, node: usize) -> &[usize]
+    pub fn edges_of_node(&self, node: usize) -> &[usize]
         requires { node < length self.now }
-        ensures edges { result.now ≡ edges_of self.now node }
-        ensures nodes { AreNodes self.now result.now }
+        ensures edges { result.now ≡ edge_targets_of_node self.now node }
+        ensures nodes { AreNodesOfGraph self.now result.now }
     {
         self.nodes[node].as_slice()
     }
@@ -56,16 +56,16 @@ impl Graph {
     /// # Errors
     ///
     /// Want of memory alone.
-    pub fn reached(&self, alloc: Global, from: &[usize]) -> Result<Vec<bool>, AllocError>
-        requires { AreNodes self.now from.now }
-        ensures { IfOk result (λ marks. Marks (IsReached self.now from.now) (length self.now) marks.items) }
+    pub fn find_reached_nodes(&self, alloc: Global, from: &[usize]) -> Result<Vec<bool>, AllocError>
+        requires { AreNodesOfGraph self.now from.now }
+        ensures { IfOk result (λ marks. MarksDecidePredicate (IsReachedFromNodes self.now from.now) (length self.now) marks.items) }
     {
-        let mut found = Found::new(alloc, self.len())?;
-        found.mark_all(from)?;
+        let mut found = ReachedNodes::new(alloc, self.len())?;
+        found.mark_all_nodes(from)?;
         let mut next = 0;
         while next < found.nodes.len() {
             let node = found.nodes[next];
-            found.mark_all(self.edges(node))?;
+            found.mark_all_nodes(self.edges_of_node(node))?;
             next += 1;
         }
         Ok(found.marks)
@@ -74,27 +74,27 @@ impl Graph {
 
 /// The nodes that were found, and a mark for each node that tells whether it was.
 #[derive(Drop)]
-struct Found {
+struct ReachedNodes {
     nodes: Vec<usize>,
     marks: Vec<bool>,
 }
 
-impl Found {
-    fn new(alloc: Global, len: usize) -> Result<Found, AllocError>
+impl ReachedNodes {
+    fn new(alloc: Global, len: usize) -> Result<ReachedNodes, AllocError>
         ensures nodes { IfOk result (λ found. found.nodes.items ≡ []) }
-        ensures found { IfOk result (λ found. IsFound len found.nodes.items found.marks.items) }
+        ensures found { IfOk result (λ found. ListsMarkedNodes len found.nodes.items found.marks.items) }
     {
-        Ok(Found {
+        Ok(ReachedNodes {
             nodes: Vec::new(alloc),
             marks: Vec::from_elem(alloc, false, len)?,
         })
     }
 
     /// Marks those of these that are not marked yet.
-    fn mark_all(&mut self, nodes: &[usize]) -> Result<(), AllocError>
-        requires found { IsFound (length self.old.marks.items) self.old.nodes.items self.old.marks.items }
+    fn mark_all_nodes(&mut self, nodes: &[usize]) -> Result<(), AllocError>
+        requires found { ListsMarkedNodes (length self.old.marks.items) self.old.nodes.items self.old.marks.items }
         requires nodes { AllByRecursion (λ node. node < length self.old.marks.items) nodes.now }
-        ensures { OnOk result (IsGrown (length self.old.marks.items) self.old.nodes.items self.old.marks.items nodes.now (length nodes.now) self.new.nodes.items self.new.marks.items) }
+        ensures { OnOk result (MarksNodesAdded (length self.old.marks.items) self.old.nodes.items self.old.marks.items nodes.now (length nodes.now) self.new.nodes.items self.new.marks.items) }
     {
         for node in nodes {
             if !self.marks[*node] {

@@ -2,17 +2,17 @@
 #![tactic(auto)]
 
 mod checking;
-mod cursor;
 mod cycles;
+mod definition_numbers;
 mod graph;
 pub mod laws;
-mod lines;
-mod mentioned;
+mod line_definitions;
+mod line_mentions;
 mod notes;
-mod numbers;
+mod physical_line_cursor;
 mod report;
-mod seen;
+mod seen_names;
 
-pub use checking::{check, find_unused, mark_used, unused};
-pub use numbers::{First, Numbers};
+pub use checking::{check, find_unused_definitions, mark_used_definitions, unused};
+pub use definition_numbers::{AliasLineFirstNumber, DefinitionNumbers};
 pub use report::{Note, Report, report_text};

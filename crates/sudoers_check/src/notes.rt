@@ -1,91 +1,98 @@
 //! Notes of names with their places.
 
 ghost use Rattle.std.specs.Prelude.{◌≡◌, ◌++◌, ◌∷◌, [], List, Some, length, map, slice_get, IfOk, OnOk};
-ghost use Rattle.sudoers_line_rows.specs.View.{defs_shown, node_shown};
-ghost use Rattle.sudoers_tree.specs.Definition.{definitions};
-ghost use Rattle.sudoers_tree.specs.Line.{line_shown};
-ghost use Rattle.sudoers_tree.specs.Walk.{spot_at};
-ghost use Rattle.sudoers_check.specs.Report.{note_on, note_of_mention, note_of_definition, undefined_of, undefined_behind, is_first_undefined};
+ghost use Rattle.sudoers_line_rows.specs.View.{alias_definitions_of_view, node_of_view};
+ghost use Rattle.sudoers_tree.specs.Definition.{definitions_of_lines};
+ghost use Rattle.sudoers_tree.specs.Line.{line_of_view};
+ghost use Rattle.sudoers_tree.specs.Walk.{spot_of_walk_line};
+ghost use Rattle.sudoers_check.specs.Report.{note_in_line_text, note_of_mention, note_of_definition, undefined_mentions_of_lines, new_undefined_mentions, is_first_mention_of_undefined};
 ghost use Rattle.sudoers_check.specs.Mentioned.{Mention as MentionOf};
-ghost use Rattle.sudoers_check.specs.Numbers.{picked};
-ghost use Rattle.sudoers_check.specs.internal.Noting.{noted_defs, noted_node, noted_mentions, Agrees};
+ghost use Rattle.sudoers_check.specs.Numbers.{definitions_with_mark};
+ghost use Rattle.sudoers_check.specs.internal.Noting.{notes_of_marked_definitions, notes_of_marked_in_node, notes_of_mentions, SeenKeysMatchMentions};
 
-use crate::cursor::Cursor;
-use crate::lines::count_definitions;
-use crate::mentioned::{Mention, mentioned_in};
+use crate::line_definitions::count_definitions;
+use crate::line_mentions::{Mention, find_mentions_in_line};
+use crate::physical_line_cursor::PhysicalLineCursor;
 use crate::report::Note;
-use crate::seen::Seen;
+use crate::seen_names::SeenAliasNames;
 use std::alloc::{AllocError, Global};
-use sudoers_tree::{DefRow, Items, Kind, Line, Node, Policy, Rows, Walk};
+use sudoers_tree::{AliasDefinitionRow, Items, Kind, Line, Node, Policy, RowsOfTable, Walk};
 
 /// Returns the notes of the definitions with the mark `wanted`; there is a mark for each definition.
 ///
 /// # Errors
 ///
 /// Memory ran out.
-pub fn marked_notes(
+pub fn make_notes_of_definitions(
     alloc: Global,
     policy: &Policy,
     marks: &[bool],
     wanted: bool,
 ) -> Result<Items<Note>, AllocError>
-    requires { length marks.now ≡ length (definitions policy.now.walk.lines) }
+    requires { length marks.now ≡ length (definitions_of_lines policy.now.walk.lines) }
     ensures { IfOk result (λ notes. notes
-        ≡ map (note_of_definition policy.now.walk) (picked wanted marks.now (definitions policy.now.walk.lines))) }
+        ≡ map (note_of_definition policy.now.walk) (definitions_with_mark wanted marks.now (definitions_of_lines policy.now.walk.lines))) }
 {
     let mut notes = Vec::new(alloc);
     let mut rest = marks;
     let lines = policy.lines();
     for (number, line_row) in lines.rows.iter().enumerate() {
-        let line = Line::of(lines.tables, line_row);
+        let line = Line::from_line_row(lines.tables, line_row);
         let (here, behind) = rest.split_at(count_definitions(&line.node));
-        let mut cursor = cursor_at(policy, number, &line);
-        note_line(alloc, &mut cursor, &line.node, here, wanted, &mut notes)?;
+        let mut cursor = make_cursor_at_line(policy, number, &line);
+        append_notes_of_line(alloc, &mut cursor, &line.node, here, wanted, &mut notes)?;
         rest = behind;
     }
     Ok(Items::from_vec(notes))
 }
 
 /// Returns the beginning of `line`, the line with the number `number` of the walk.
-fn cursor_at<'a>(policy: &Policy, number: usize, line: &Line<'a>) -> Cursor<'a>
-    requires { slice_get policy.now.walk.lines number ≡ Some (line_shown line.now) }
+fn make_cursor_at_line<'a>(
+    policy: &Policy,
+    number: usize,
+    line: &Line<'a>,
+) -> PhysicalLineCursor<'a>
+    requires { slice_get policy.now.walk.lines number ≡ Some (line_of_view line.now) }
     ensures text { result.text.now ≡ line.now.text.now }
-    ensures spot { result.spot ≡ spot_at policy.now.walk number }
+    ensures spot { result.spot ≡ spot_of_walk_line policy.now.walk number }
 {
+    // laws
     policy.lines_stand();
-    Cursor::new(line.text, policy.spots()[number])
+    PhysicalLineCursor::new(line.text, policy.spots_of_walk_lines()[number])
 }
 
 /// Adds the notes of those of a line's definitions that have the mark `wanted`.
-fn note_line(
+fn append_notes_of_line(
     alloc: Global,
-    cursor: &mut Cursor<'_>,
+    cursor: &mut PhysicalLineCursor<'_>,
     node: &Node<'_>,
     marks: &[bool],
     wanted: bool,
     notes: &mut Vec<Note>,
 ) -> Result<(), AllocError>
     ensures { OnOk result (notes.new.items ≡ notes.old.items
-        ++ noted_node wanted cursor.old.spot cursor.old.text.now marks.now (node_shown node.now)) }
+        ++ notes_of_marked_in_node wanted cursor.old.spot cursor.old.text.now marks.now (node_of_view node.now)) }
 {
     match node {
-        Node::Alias { kind, defs } => note_defs(alloc, cursor, *kind, defs, marks, wanted, notes),
+        Node::Alias { kind, defs } => append_notes_of_definitions(
+            alloc, cursor, *kind, defs, marks, wanted, notes,
+        ),
         _ => Ok(()),
     }
 }
 
 /// Adds the notes of those of the definitions that have the mark `wanted`.
-fn note_defs(
+fn append_notes_of_definitions(
     alloc: Global,
-    cursor: &mut Cursor<'_>,
+    cursor: &mut PhysicalLineCursor<'_>,
     kind: Kind,
-    defs: &Rows<'_, DefRow>,
+    defs: &RowsOfTable<'_, AliasDefinitionRow>,
     marks: &[bool],
     wanted: bool,
     notes: &mut Vec<Note>,
 ) -> Result<(), AllocError>
     ensures { OnOk result (notes.new.items ≡ notes.old.items
-        ++ noted_defs wanted cursor.old.spot cursor.old.text.now kind marks.now (defs_shown defs.now)) }
+        ++ notes_of_marked_definitions wanted cursor.old.spot cursor.old.text.now kind marks.now (alias_definitions_of_view defs.now)) }
 {
     let mut rest = marks;
     let tables = defs.tables;
@@ -93,9 +100,9 @@ fn note_defs(
         let Some((mark, behind)) = rest.split_first() else {
             break;
         };
-        let def = tables.def(row);
+        let def = tables.alias_definition_of_row(row);
         if *mark == wanted {
-            notes.push(note_at(alloc, cursor, kind, def.name, def.start)?)?;
+            notes.push(make_note_at(alloc, cursor, kind, def.name, def.start)?)?;
         }
         rest = behind;
     }
@@ -107,18 +114,21 @@ fn note_defs(
 /// # Errors
 ///
 /// Memory ran out.
-pub fn undefined_notes(alloc: Global, policy: &Policy) -> Result<Items<Note>, AllocError>
-    ensures { IfOk result (λ notes. notes ≡ map (note_of_mention policy.now.walk) (undefined_of policy.now.walk.lines)) }
+pub fn make_notes_of_undefined_names(
+    alloc: Global,
+    policy: &Policy,
+) -> Result<Items<Note>, AllocError>
+    ensures { IfOk result (λ notes. notes ≡ map (note_of_mention policy.now.walk) (undefined_mentions_of_lines policy.now.walk.lines)) }
 {
     let mut notes = Vec::new(alloc);
-    let mut seen = Seen::new(alloc);
+    let mut seen = SeenAliasNames::new(alloc);
     let walk = policy.walk();
     let lines = policy.lines();
     for (number, line_row) in lines.rows.iter().enumerate() {
-        let line = Line::of(lines.tables, line_row);
-        let mentions = mentioned_in(alloc, number, &line.node)?;
-        let mut cursor = cursor_at(policy, number, &line);
-        note_undefined(
+        let line = Line::from_line_row(lines.tables, line_row);
+        let mentions = find_mentions_in_line(alloc, number, &line.node)?;
+        let mut cursor = make_cursor_at_line(policy, number, &line);
+        append_notes_of_undefined(
             alloc,
             &walk,
             mentions.as_slice(),
@@ -131,60 +141,63 @@ pub fn undefined_notes(alloc: Global, policy: &Policy) -> Result<Items<Note>, Al
 }
 
 /// Adds the notes of the undefined names of a line that were not seen yet.
-fn note_undefined(
+fn append_notes_of_undefined(
     alloc: Global,
     walk: &Walk<'_>,
     mentions: &[Mention<'_>],
-    cursor: &mut Cursor<'_>,
-    seen: &mut Seen,
+    cursor: &mut PhysicalLineCursor<'_>,
+    seen: &mut SeenAliasNames,
     notes: &mut Vec<Note>,
 ) -> Result<(), AllocError>
-    ensures notes { OnOk result ((before : List MentionOf) → Agrees (definitions walk.now) seen.old before
-        → notes.new.items ≡ notes.old.items ++ noted_mentions cursor.old.spot cursor.old.text.now
-        (undefined_behind (definitions walk.now) before mentions.now)) }
-    ensures seen { OnOk result ((before : List MentionOf) → Agrees (definitions walk.now) seen.old before
-        → Agrees (definitions walk.now) seen.new (before ++ mentions.now)) }
+    ensures notes { OnOk result ((before : List MentionOf) → SeenKeysMatchMentions (definitions_of_lines walk.now) seen.old before
+        → notes.new.items ≡ notes.old.items ++ notes_of_mentions cursor.old.spot cursor.old.text.now
+        (new_undefined_mentions (definitions_of_lines walk.now) before mentions.now)) }
+    ensures seen { OnOk result ((before : List MentionOf) → SeenKeysMatchMentions (definitions_of_lines walk.now) seen.old before
+        → SeenKeysMatchMentions (definitions_of_lines walk.now) seen.new (before ++ mentions.now)) }
 {
     for mention in mentions {
-        if is_first(alloc, walk, mention, seen)? {
+        if is_first_undefined_mention(alloc, walk, mention, seen)? {
             let start = mention.span.start;
-            notes.push(note_at(alloc, cursor, mention.kind, mention.name, start)?)?;
+            notes.push(make_note_at(alloc, cursor, mention.kind, mention.name, start)?)?;
         }
     }
     Ok(())
 }
 
 /// Returns whether the name is not defined, and was not seen before.
-fn is_first(
+fn is_first_undefined_mention(
     alloc: Global,
     walk: &Walk<'_>,
     mention: &Mention<'_>,
-    seen: &mut Seen,
+    seen: &mut SeenAliasNames,
 ) -> Result<bool, AllocError>
-    ensures is { IfOk result (λ first. (before : List MentionOf) → Agrees (definitions walk.now) seen.old before
-        → first ≡ is_first_undefined (definitions walk.now) before mention.now) }
-    ensures seen { OnOk result ((before : List MentionOf) → Agrees (definitions walk.now) seen.old before
-        → Agrees (definitions walk.now) seen.new (before ++ mention.now ∷ [])) }
+    ensures is { IfOk result (λ first. (before : List MentionOf) → SeenKeysMatchMentions (definitions_of_lines walk.now) seen.old before
+        → first ≡ is_first_mention_of_undefined (definitions_of_lines walk.now) before mention.now) }
+    ensures seen { OnOk result ((before : List MentionOf) → SeenKeysMatchMentions (definitions_of_lines walk.now) seen.old before
+        → SeenKeysMatchMentions (definitions_of_lines walk.now) seen.new (before ++ mention.now ∷ [])) }
 {
-    if walk.definition(mention.kind, mention.name).is_some() {
+    if walk
+        .place_of_definition(mention.kind, mention.name)
+        .is_some()
+    {
         return Ok(false);
     }
-    seen.add(alloc, mention.kind, mention.name)
+    seen.add_alias_name(alloc, mention.kind, mention.name)
 }
 
 /// Returns the note of a name that begins at this byte of the cursor's line.
-fn note_at(
+fn make_note_at(
     alloc: Global,
-    cursor: &mut Cursor<'_>,
+    cursor: &mut PhysicalLineCursor<'_>,
     kind: Kind,
     name: &[u8],
     start: usize,
 ) -> Result<Note, AllocError>
-    ensures note { IfOk result (λ note. note ≡ note_on cursor.old.spot cursor.old.text.now kind name.now start) }
+    ensures note { IfOk result (λ note. note ≡ note_in_line_text cursor.old.spot cursor.old.text.now kind name.now start) }
     ensures text { cursor.new.text.now ≡ cursor.old.text.now }
     ensures spot { cursor.new.spot ≡ cursor.old.spot }
 {
-    let (line, col) = cursor.place(start);
+    let (line, col) = cursor.find_line_and_column(start);
     let name = Items::from_slice(alloc, name)?;
     Ok(Note {
         kind,

@@ -3,11 +3,11 @@
 ghost use Rattle.std.specs.Prelude.{◌≡◌, ◌++◌, IfOk, OnOk};
 ghost use Rattle.std.specs.List.{flat_map};
 ghost use Rattle.std.specs.Fmt.{decimal};
-ghost use Rattle.sudoers_check.specs.Report.{place_text, name_text, note_text, is_fine as is_fine_report, verdict, report_text as text_of_report};
+ghost use Rattle.sudoers_check.specs.Report.{note_place_text, note_name_text, note_text, is_report_without_faults as is_fine_report, verdict_line_text, report_text as text_of_report};
 
 use std::alloc::{AllocError, Global};
-use sudoers_line::kind_name;
-use sudoers_text::append_number;
+use sudoers_grammar::alias_keyword_of_kind;
+use sudoers_text::append_decimal_number;
 use sudoers_tree::{Items, Kind, Policy};
 
 /// A name in a policy, and where it stands.
@@ -37,7 +37,7 @@ pub struct Report {
 
 impl Report {
     /// Returns whether there are no undefined names and no cyclic aliases, or they are not looked at.
-    pub fn is_fine(&self, strict: bool) -> bool
+    pub fn has_no_faults(&self, strict: bool) -> bool
         ensures { result ≡ is_fine_report strict self.now }
     {
         !strict || (self.undefined.len() == 0 && self.cyclic.len() == 0)
@@ -61,18 +61,18 @@ pub fn report_text(
 {
     let mut text = Vec::new(alloc);
     let undefined = report.undefined.as_slice();
-    append_notes(alloc, &mut text, policy, b"undefined", undefined)?;
+    append_note_lines(alloc, &mut text, policy, b"undefined", undefined)?;
     let cyclic = report.cyclic.as_slice();
-    append_notes(alloc, &mut text, policy, b"cyclic", cyclic)?;
+    append_note_lines(alloc, &mut text, policy, b"cyclic", cyclic)?;
     let unused = report.unused.as_slice();
-    append_notes(alloc, &mut text, policy, b"unused", unused)?;
+    append_note_lines(alloc, &mut text, policy, b"unused", unused)?;
     text.extend_from_slice(policy.file_name(0))?;
-    text.extend_from_slice(verdict_text(report.is_fine(strict)))?;
+    text.extend_from_slice(choose_verdict_text(report.has_no_faults(strict)))?;
     Ok(text)
 }
 
-fn verdict_text(fine: bool) -> &'static [u8]
-    ensures { result.now ≡ verdict fine }
+fn choose_verdict_text(fine: bool) -> &'static [u8]
+    ensures { result.now ≡ verdict_line_text fine }
 {
     if fine {
         b": parsed OK\n"
@@ -81,7 +81,7 @@ fn verdict_text(fine: bool) -> &'static [u8]
     }
 }
 
-fn append_notes(
+fn append_note_lines(
     alloc: Global,
     text: &mut Vec<u8>,
     policy: &Policy,
@@ -91,36 +91,36 @@ fn append_notes(
     ensures { OnOk result (text.new.items ≡ text.old.items ++ flat_map (note_text policy.now word.now) notes.now) }
 {
     for note in notes {
-        append_place(alloc, text, policy, note)?;
-        append_name(text, word, note)?;
+        append_note_place(alloc, text, policy, note)?;
+        append_note_name(text, word, note)?;
     }
     Ok(())
 }
 
 /// Adds the file, the line and the column.
-fn append_place(
+fn append_note_place(
     alloc: Global,
     text: &mut Vec<u8>,
     policy: &Policy,
     note: &Note,
 ) -> Result<(), AllocError>
-    ensures { OnOk result (text.new.items ≡ text.old.items ++ place_text policy.now note.now) }
+    ensures { OnOk result (text.new.items ≡ text.old.items ++ note_place_text policy.now note.now) }
 {
     text.extend_from_slice(policy.file_name(note.file))?;
     text.extend_from_slice(b":")?;
-    append_number(alloc, text, note.line)?;
+    append_decimal_number(alloc, text, note.line)?;
     text.extend_from_slice(b":")?;
-    append_number(alloc, text, note.col)?;
+    append_decimal_number(alloc, text, note.col)?;
     text.extend_from_slice(b": ")
 }
 
 /// Adds the word, the kind and the name.
-fn append_name(text: &mut Vec<u8>, word: &[u8], note: &Note) -> Result<(), AllocError>
-    ensures { OnOk result (text.new.items ≡ text.old.items ++ name_text word.now note.now) }
+fn append_note_name(text: &mut Vec<u8>, word: &[u8], note: &Note) -> Result<(), AllocError>
+    ensures { OnOk result (text.new.items ≡ text.old.items ++ note_name_text word.now note.now) }
 {
     text.extend_from_slice(word)?;
     text.extend_from_slice(b" ")?;
-    text.extend_from_slice(kind_name(note.kind))?;
+    text.extend_from_slice(alias_keyword_of_kind(note.kind))?;
     text.extend_from_slice(b" ")?;
     text.extend_from_slice(note.name.as_slice())?;
     text.extend_from_slice(b"\n")

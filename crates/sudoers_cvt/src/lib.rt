@@ -5,5 +5,7 @@ mod changed;
 
 pub use changed::{expand_policy, filter_policy};
 pub use sudoers_cvt_json::json;
-pub use sudoers_cvt_rewrite::{Changes, Filter, FilterFault, Rewritten, read_filter, rewrite};
+pub use sudoers_cvt_rewrite::{
+    Filter, FilterFault, RewriteChanges, RewrittenPolicy, read_filter, rewrite_policy_lines,
+};
 pub use sudoers_cvt_rules::{CvtFault, Rule, Rules, print, print_command};

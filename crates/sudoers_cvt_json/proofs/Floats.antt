@@ -3,53 +3,53 @@ use Rattle.std.proofs.Common.{◌≡◌, ℕ, Bool, false, List, [], ◌∷◌, 
 use Rattle.std.specs.Prelude.{◌||◌}
 use Rattle.serde_json.specs.Data.{Data}
 use Rattle.serde_json.specs.Written.{compact_text, has_float}
-use Rattle.sudoers_line.specs.declared.node.Kind.{Kind}
-use Rattle.sudoers_line.specs.declared.node.Kind.TheVariants.{Runas}
-use Rattle.sudoers_line.specs.Node.{Member, RunasSpec, Scope, Param, Def}
+use Rattle.sudoers_grammar.specs.declared.node.Kind.{Kind}
+use Rattle.sudoers_grammar.specs.declared.node.Kind.TheVariants.{Runas}
+use Rattle.sudoers_grammar.specs.Node.{Member, RunasSpec, Scope, Param, Def}
 use Rattle.sudoers_cvt_spell.specs.Parameters.{printed_param}
 use Rattle.sudoers_line_rows.specs.declared.view.Member.{Member as MemberView}
-use Rattle.sudoers_line_rows.specs.View.{runas_shown}
-use Rattle.sudoers_match.specs.declared.head.Head.{Head as HeadHeld}
+use Rattle.sudoers_line_rows.specs.View.{runas_of_view}
+use Rattle.sudoers_match.specs.declared.command_settings.CommandSettings.{CommandSettings as HeadHeld}
 use Rattle.std.specs.Option.{option_map}
-use Rattle.sudoers_cvt_json.specs.Value.{texts_value, member_texts, members_value, part_value, runas_value, def_value, scope_value, defaults_value}
-use Rattle.sudoers_cvt_json.specs.internal.Built.{held_value, option_texts, tag_texts}
+use Rattle.sudoers_cvt_json.specs.Value.{string_array_value, printed_member_texts, member_array_value, runas_part_array_or_null, runas_object_or_null, alias_object_value, scope_object_or_null, defaults_object_value}
+use Rattle.sudoers_cvt_json.specs.internal.Built.{command_value_of_view, printed_option_texts, printed_tag_texts}
 
-pub texts_have_none : (texts : List (List ℕ)) → has_float (texts_value texts) ≡ false
-texts_have_none [] = refl
-texts_have_none (text ∷ texts) = texts_have_none texts
+pub string_array_has_no_float : (texts : List (List ℕ)) → has_float (string_array_value texts) ≡ false
+string_array_has_no_float [] = refl
+string_array_has_no_float (text ∷ texts) = string_array_has_no_float texts
 
-pub members_have_none : (first : Bool) (k : Kind) (ms : List Member) → has_float (members_value first k ms) ≡ false
-members_have_none first k ms = texts_have_none (member_texts first k ms)
+pub member_array_has_no_float : (first : Bool) (k : Kind) (ms : List Member) → has_float (member_array_value first k ms) ≡ false
+member_array_has_no_float first k ms = string_array_has_no_float (printed_member_texts first k ms)
 
-part_has_none : (ms : List Member) → has_float (part_value ms) ≡ false
-part_has_none [] = refl
-part_has_none (m ∷ ms) = members_have_none false Runas (m ∷ ms)
+runas_part_has_no_float : (ms : List Member) → has_float (runas_part_array_or_null ms) ≡ false
+runas_part_has_no_float [] = refl
+runas_part_has_no_float (m ∷ ms) = member_array_has_no_float false Runas (m ∷ ms)
 
-both : (a b : Bool) → a ≡ false → b ≡ false → a || (b || false) ≡ false
-both a b e f = rw (e, f)
+false_or_false_is_false : (a b : Bool) → a ≡ false → b ≡ false → a || (b || false) ≡ false
+false_or_false_is_false a b e f = rw (e, f)
 
-runas_has_none : (r : Option RunasSpec) → has_float (runas_value r) ≡ false
-runas_has_none None = refl
-runas_has_none (Some r) = both _ _ (part_has_none r.groups) (part_has_none r.users)
+runas_object_has_no_float : (r : Option RunasSpec) → has_float (runas_object_or_null r) ≡ false
+runas_object_has_no_float None = refl
+runas_object_has_no_float (Some r) = false_or_false_is_false _ _ (runas_part_has_no_float r.groups) (runas_part_has_no_float r.users)
 
-all_three : (a b c : Bool) → a ≡ false → b ≡ false → c ≡ false → a || (b || (c || false)) ≡ false
-all_three a b c e f g = rw (e, f, g)
+disjunction_of_three_false_is_false : (a b c : Bool) → a ≡ false → b ≡ false → c ≡ false → a || (b || (c || false)) ≡ false
+disjunction_of_three_false_is_false a b c e f g = rw (e, f, g)
 
-pub held_has_none : (held : HeadHeld) (m : MemberView) → has_float (held_value held m) ≡ false
-held_has_none held m =
-    all_three _ _ _ (texts_have_none (option_texts held.options)) (runas_has_none (option_map runas_shown held.runas)) (texts_have_none (tag_texts held.tags))
+pub command_value_has_no_float : (held : HeadHeld) (m : MemberView) → has_float (command_value_of_view held m) ≡ false
+command_value_has_no_float held m =
+    disjunction_of_three_false_is_false _ _ _ (string_array_has_no_float (printed_option_texts held.options)) (runas_object_has_no_float (option_map runas_of_view held.runas)) (string_array_has_no_float (printed_tag_texts held.tags))
 
-pub def_has_none : (k : Kind) (d : Def) → has_float (def_value k d) ≡ false
-def_has_none k d = both (has_float (members_value false k d.members)) false (members_have_none false k d.members) refl
+pub alias_object_has_no_float : (k : Kind) (d : Def) → has_float (alias_object_value k d) ≡ false
+alias_object_has_no_float k d = false_or_false_is_false (has_float (member_array_value false k d.members)) false (member_array_has_no_float false k d.members) refl
 
-scope_has_none : (s : Option Scope) → has_float (scope_value s) ≡ false
-scope_has_none None = refl
-scope_has_none (Some s) = both (has_float (members_value false s.kind s.members)) false (members_have_none false s.kind s.members) refl
+scope_object_has_no_float : (s : Option Scope) → has_float (scope_object_or_null s) ≡ false
+scope_object_has_no_float None = refl
+scope_object_has_no_float (Some s) = false_or_false_is_false (has_float (member_array_value false s.kind s.members)) false (member_array_has_no_float false s.kind s.members) refl
 
-pub defaults_have_none : (s : Option Scope) (ps : List Param) → has_float (defaults_value s ps) ≡ false
-defaults_have_none s ps = both (has_float (texts_value (map printed_param ps))) (has_float (scope_value s)) (texts_have_none (map printed_param ps)) (scope_has_none s)
+pub defaults_object_has_no_float : (s : Option Scope) (ps : List Param) → has_float (defaults_object_value s ps) ≡ false
+defaults_object_has_no_float s ps = false_or_false_is_false (has_float (string_array_value (map printed_param ps))) (has_float (scope_object_or_null s)) (string_array_has_no_float (map printed_param ps)) (scope_object_has_no_float s)
 
 -- A value that is the stated one, and has no floats, is appended as stated.
-pub appended : (shown d : Data) (out out' : List ℕ) → shown ≡ d → has_float d ≡ false → (has_float shown ≡ false → out' ≡ out ++ compact_text shown)
+pub floatless_value_is_appended_as_stated : (shown d : Data) (out out' : List ℕ) → shown ≡ d → has_float d ≡ false → (has_float shown ≡ false → out' ≡ out ++ compact_text shown)
     → out' ≡ out ++ compact_text d
-appended shown d out out' e none then = then (ap has_float e ∙ none) ∙ ap (λ v. out ++ compact_text v) e
+floatless_value_is_appended_as_stated shown d out out' e none then = then (ap has_float e ∙ none) ∙ ap (λ v. out ++ compact_text v) e

@@ -4,61 +4,61 @@ use Rattle.std.specs.Prelude.{◌&&◌}
 use Rattle.std.proofs.lemmas.List.{drop_more}
 use Rattle.serde_json.specs.Data.{Data}
 use Rattle.serde_json.specs.Written.{comma_if, compact_text}
-use Rattle.sudoers_line.specs.Node.{CmdSpec}
-use Rattle.sudoers_match.specs.declared.head.Head.{Head as HeadHeld}
-use Rattle.sudoers_match.specs.Heads.{Head, inherit, filled}
-use Rattle.sudoers_match.specs.IsHead.{IsHead}
+use Rattle.sudoers_grammar.specs.Node.{CmdSpec}
+use Rattle.sudoers_match.specs.declared.command_settings.CommandSettings.{CommandSettings as HeadHeld}
+use Rattle.sudoers_match.specs.Heads.{SettingsOfCommand, settings_after_command, commands_with_settings}
+use Rattle.sudoers_match.specs.IsHead.{HoldsCommandSettings}
 use Rattle.sudoers_cvt_rules.specs.Effective.{effective_command}
-use Rattle.sudoers_cvt_json.specs.Value.{command_value}
+use Rattle.sudoers_cvt_json.specs.Value.{command_object_value}
 use Rattle.sudoers_cvt_json.specs.Unicode.{is_unicode}
-use Rattle.sudoers_cvt_json.specs.internal.Built.{are_unicode, list_text}
+use Rattle.sudoers_cvt_json.specs.internal.Built.{are_values_unicode, array_items_text}
 
 -- what is next in a list, by what each row says
-pub next_at : {X Y : Type 0} (f : X → Y) (xs : List X) (i : ℕ) (d : X) → i < length xs → (y : Y) → y ≡ f (get_or xs i d)
+pub mapped_drop_begins_with_next_image : {X Y : Type 0} (f : X → Y) (xs : List X) (i : ℕ) (d : X) → i < length xs → (y : Y) → y ≡ f (get_or xs i d)
     → map f (drop i xs) ≡ y ∷ map f (drop (i + 1) xs)
-next_at f xs i d h y e = ap (map f) (drop_more xs i d h) ∙ ap (λ z. z ∷ map f (drop (i + 1) xs)) (sym e)
+mapped_drop_begins_with_next_image f xs i d h y e = ap (map f) (drop_more xs i d h) ∙ ap (λ z. z ∷ map f (drop (i + 1) xs)) (sym e)
 
 -- commands behind others that leave this to be inherited
-abbrev pub values_behind : Head → List CmdSpec → List Data
-values_behind h cs = map command_value (map effective_command (filled h cs))
+abbrev pub command_values_after_settings : SettingsOfCommand → List CmdSpec → List Data
+command_values_after_settings h cs = map command_object_value (map effective_command (commands_with_settings h cs))
 
 -- With these commands, what is appended becomes the whole, and is UTF-8 or not.
-pub record IsSoFar (held : HeadHeld) (out : List ℕ) (later : Bool) (rest : List CmdSpec) (whole : List ℕ) (unicode : Bool) : Type 0 where
-  pub head : Head
-  pub is_head : IsHead held head
-  pub text : out ++ list_text later (values_behind head rest) ≡ whole
-  pub all : are_unicode (values_behind head rest) ≡ unicode
+pub record AreCommandValuesAppendedSoFar (held : HeadHeld) (out : List ℕ) (later : Bool) (rest : List CmdSpec) (whole : List ℕ) (unicode : Bool) : Type 0 where
+  pub head : SettingsOfCommand
+  pub is_head : HoldsCommandSettings held head
+  pub text : out ++ array_items_text later (command_values_after_settings head rest) ≡ whole
+  pub all : are_values_unicode (command_values_after_settings head rest) ≡ unicode
 
-pub regrouped : (a b c d : List ℕ) → ((a ++ b) ++ c) ++ d ≡ a ++ (b ++ (c ++ d))
-regrouped a b c d = simp append_assoc
+pub four_appended_texts_are_regrouped : (a b c d : List ℕ) → ((a ++ b) ++ c) ++ d ≡ a ++ (b ++ (c ++ d))
+four_appended_texts_are_regrouped a b c d = simp append_assoc
 
-good_and : (a b : Bool) → a ≡ true → a && b ≡ b
-good_and true b e = refl
-good_and false b e = absurd (let clash : false ≡ true = e in cc)
+true_conjunct_drops_out : (a b : Bool) → a ≡ true → a && b ≡ b
+true_conjunct_drops_out true b e = refl
+true_conjunct_drops_out false b e = absurd (let clash : false ≡ true = e in cc)
 
-bad_and : (a b : Bool) → a ≡ false → a && b ≡ false
-bad_and false b e = refl
-bad_and true b e = absurd (let clash : true ≡ false = e in cc)
+false_conjunct_is_false : (a b : Bool) → a ≡ false → a && b ≡ false
+false_conjunct_is_false false b e = refl
+false_conjunct_is_false true b e = absurd (let clash : true ≡ false = e in cc)
 
-abbrev pub next_value : Head → CmdSpec → Data
-next_value h c = command_value (effective_command (inherit h c, c.member))
+abbrev pub value_of_next_command : SettingsOfCommand → CmdSpec → Data
+value_of_next_command h c = command_object_value (effective_command (settings_after_command h c, c.member))
 
-pub more_passed : (held held' : HeadHeld) (out out' : List ℕ) (later : Bool) (c : CmdSpec) (cs : List CmdSpec) (whole : List ℕ) (unicode : Bool)
-    → (s : IsSoFar held out later (c ∷ cs) whole unicode) → IsHead held' (inherit s.head c)
-    → out' ≡ (out ++ comma_if later) ++ compact_text (next_value s.head c) → is_unicode (next_value s.head c) ≡ true
-    → IsSoFar held' out' true cs whole unicode
-more_passed held held' out out' later c cs whole unicode s is e good =
-    let h = inherit s.head c in
+pub appending_command_value_keeps_so_far : (held held' : HeadHeld) (out out' : List ℕ) (later : Bool) (c : CmdSpec) (cs : List CmdSpec) (whole : List ℕ) (unicode : Bool)
+    → (s : AreCommandValuesAppendedSoFar held out later (c ∷ cs) whole unicode) → HoldsCommandSettings held' (settings_after_command s.head c)
+    → out' ≡ (out ++ comma_if later) ++ compact_text (value_of_next_command s.head c) → is_unicode (value_of_next_command s.head c) ≡ true
+    → AreCommandValuesAppendedSoFar held' out' true cs whole unicode
+appending_command_value_keeps_so_far held held' out out' later c cs whole unicode s is e good =
+    let h = settings_after_command s.head c in
     record {
       head = h;
       is_head = is;
-      text = ap (λ o. o ++ list_text true (values_behind h cs)) e
-          ∙ regrouped out (comma_if later) (compact_text (next_value s.head c)) (list_text true (values_behind h cs)) ∙ s.text;
-      all = sym (good_and (is_unicode (next_value s.head c)) (are_unicode (values_behind h cs)) good) ∙ s.all;
+      text = ap (λ o. o ++ array_items_text true (command_values_after_settings h cs)) e
+          ∙ four_appended_texts_are_regrouped out (comma_if later) (compact_text (value_of_next_command s.head c)) (array_items_text true (command_values_after_settings h cs)) ∙ s.text;
+      all = sym (true_conjunct_drops_out (is_unicode (value_of_next_command s.head c)) (are_values_unicode (command_values_after_settings h cs)) good) ∙ s.all;
     }
 
 -- Some text of the next command is not UTF-8.
-pub stops : (held : HeadHeld) (out : List ℕ) (later : Bool) (c : CmdSpec) (cs : List CmdSpec) (whole : List ℕ) (unicode : Bool)
-    → (s : IsSoFar held out later (c ∷ cs) whole unicode) → is_unicode (next_value s.head c) ≡ false → unicode ≡ false
-stops held out later c cs whole unicode s bad =
-    sym s.all ∙ bad_and (is_unicode (next_value s.head c)) (are_unicode (values_behind (inherit s.head c) cs)) bad
+pub non_unicode_command_makes_whole_non_unicode : (held : HeadHeld) (out : List ℕ) (later : Bool) (c : CmdSpec) (cs : List CmdSpec) (whole : List ℕ) (unicode : Bool)
+    → (s : AreCommandValuesAppendedSoFar held out later (c ∷ cs) whole unicode) → is_unicode (value_of_next_command s.head c) ≡ false → unicode ≡ false
+non_unicode_command_makes_whole_non_unicode held out later c cs whole unicode s bad =
+    sym s.all ∙ false_conjunct_is_false (is_unicode (value_of_next_command s.head c)) (are_values_unicode (command_values_after_settings (settings_after_command s.head c) cs)) bad

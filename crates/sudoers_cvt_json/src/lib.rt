@@ -1,10 +1,10 @@
 //! The rules of a policy as JSON.
 #![tactic(auto)]
 
-mod entries;
-mod lists;
+mod line_values;
+mod rule_entries;
 mod rules;
+mod text_lists;
 mod texts;
-mod values;
 
 pub use rules::json;

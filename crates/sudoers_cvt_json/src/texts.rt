@@ -2,27 +2,27 @@
 
 ghost use Rattle.std.specs.Prelude.{◌≡◌, map, IfOk};
 ghost use Rattle.std.specs.List.{filter_map};
-ghost use Rattle.sudoers_line_rows.specs.View.{member_shown, members_shown, param_shown, params_shown};
+ghost use Rattle.sudoers_line_rows.specs.View.{member_of_view, members_of_view, parameter_of_view, parameters_of_view};
 ghost use Rattle.sudoers_cvt_spell.specs.Members.{printed_member};
-ghost use Rattle.sudoers_cvt_spell.specs.Commands.{printed_option, printed_tag};
+ghost use Rattle.sudoers_cvt_spell.specs.Commands.{printed_option, printed_tag_or_negated};
 ghost use Rattle.sudoers_cvt_spell.specs.Parameters.{printed_param};
-ghost use Rattle.sudoers_cvt_json.specs.Value.{member_texts};
-ghost use Rattle.sudoers_cvt_json.specs.internal.Built.{bytes_of, option_text, option_texts, tag_text, tag_texts};
+ghost use Rattle.sudoers_cvt_json.specs.Value.{printed_member_texts};
+ghost use Rattle.sudoers_cvt_json.specs.internal.Built.{bytes_of_vectors, printed_option_text_if_given, printed_option_texts, printed_tag_text_if_given, printed_tag_texts};
 
 use std::alloc::{AllocError, Global};
 use sudoers_cvt_spell::{append_member, append_option, append_param, append_tag};
-use sudoers_line::{Kind, OptionName, Tag};
-use sudoers_line_rows::{Member, MemberRow, Param, ParamRow, Rows};
-use sudoers_match::{Options, Tags};
+use sudoers_grammar::{Kind, OptionName, Tag};
+use sudoers_line_rows::{Member, MemberRow, Param, ParamRow, RowsOfTable};
+use sudoers_match::{CommandOptions, CommandTags};
 
 /// Returns a member of a list of `kind`. With `first`, a line begins with it.
-pub fn member_text(
+pub fn make_member_text(
     alloc: Global,
     first: bool,
     kind: Kind,
     member: &Member<'_>,
 ) -> Result<Vec<u8>, AllocError>
-    ensures { IfOk result (λ text. text.items ≡ printed_member first kind (member_shown member.now)) }
+    ensures { IfOk result (λ text. text.items ≡ printed_member first kind (member_of_view member.now)) }
 {
     let mut text = Vec::new(alloc);
     append_member(alloc, &mut text, first, kind, member)?;
@@ -30,27 +30,27 @@ pub fn member_text(
 }
 
 /// Returns the members of a list of `kind`. With `first`, a line begins with them.
-pub fn member_texts(
+pub fn make_member_texts(
     alloc: Global,
     first: bool,
     kind: Kind,
-    members: &Rows<'_, MemberRow>,
+    members: &RowsOfTable<'_, MemberRow>,
 ) -> Result<Vec<Vec<u8>>, AllocError>
-    ensures { IfOk result (λ texts. bytes_of texts.items ≡ member_texts first kind (members_shown members.now)) }
+    ensures { IfOk result (λ texts. bytes_of_vectors texts.items ≡ printed_member_texts first kind (members_of_view members.now)) }
 {
     let tables = members.tables;
     let mut texts = Vec::new(alloc);
     let mut is_first = first;
     for row in members.rows {
-        texts.push(member_text(alloc, is_first, kind, &tables.member(row))?)?;
+        texts.push(make_member_text(alloc, is_first, kind, &tables.member_of_row(row))?)?;
         is_first = false;
     }
     Ok(texts)
 }
 
 /// Returns a parameter.
-fn param_text(alloc: Global, param: &Param<'_>) -> Result<Vec<u8>, AllocError>
-    ensures { IfOk result (λ text. text.items ≡ printed_param (param_shown param.now)) }
+fn make_param_text(alloc: Global, param: &Param<'_>) -> Result<Vec<u8>, AllocError>
+    ensures { IfOk result (λ text. text.items ≡ printed_param (parameter_of_view param.now)) }
 {
     let mut text = Vec::new(alloc);
     append_param(alloc, &mut text, param)?;
@@ -58,19 +58,22 @@ fn param_text(alloc: Global, param: &Param<'_>) -> Result<Vec<u8>, AllocError>
 }
 
 /// Returns the parameters of a Defaults line.
-pub fn param_texts(alloc: Global, params: &Rows<'_, ParamRow>) -> Result<Vec<Vec<u8>>, AllocError>
-    ensures { IfOk result (λ texts. bytes_of texts.items ≡ map printed_param (params_shown params.now)) }
+pub fn make_param_texts(
+    alloc: Global,
+    params: &RowsOfTable<'_, ParamRow>,
+) -> Result<Vec<Vec<u8>>, AllocError>
+    ensures { IfOk result (λ texts. bytes_of_vectors texts.items ≡ map printed_param (parameters_of_view params.now)) }
 {
     let tables = params.tables;
     let mut texts = Vec::new(alloc);
     for row in params.rows {
-        texts.push(param_text(alloc, &tables.param(row))?)?;
+        texts.push(make_param_text(alloc, &tables.parameter_of_row(row))?)?;
     }
     Ok(texts)
 }
 
 /// Returns an option.
-fn option_text(alloc: Global, name: OptionName, value: &[u8]) -> Result<Vec<u8>, AllocError>
+fn make_option_text(alloc: Global, name: OptionName, value: &[u8]) -> Result<Vec<u8>, AllocError>
     ensures { IfOk result (λ text. text.items ≡ printed_option name value.now) }
 {
     let mut text = Vec::new(alloc);
@@ -79,24 +82,27 @@ fn option_text(alloc: Global, name: OptionName, value: &[u8]) -> Result<Vec<u8>,
 }
 
 /// Returns the options of `pairs` that are set.
-fn set_texts(
+fn make_texts_of_given_options(
     alloc: Global,
     pairs: &[(OptionName, Option<&[u8]>)],
 ) -> Result<Vec<Vec<u8>>, AllocError>
-    ensures { IfOk result (λ texts. bytes_of texts.items ≡ filter_map option_text pairs.now) }
+    ensures { IfOk result (λ texts. bytes_of_vectors texts.items ≡ filter_map printed_option_text_if_given pairs.now) }
 {
     let mut texts = Vec::new(alloc);
     for (name, value) in pairs {
         if let Some(value) = value {
-            texts.push(option_text(alloc, *name, value)?)?;
+            texts.push(make_option_text(alloc, *name, value)?)?;
         }
     }
     Ok(texts)
 }
 
 /// Returns the options that are set, in the order of their names.
-pub fn option_texts(alloc: Global, options: &Options<'_>) -> Result<Vec<Vec<u8>>, AllocError>
-    ensures { IfOk result (λ texts. bytes_of texts.items ≡ option_texts options.now) }
+pub fn make_option_texts(
+    alloc: Global,
+    options: &CommandOptions<'_>,
+) -> Result<Vec<Vec<u8>>, AllocError>
+    ensures { IfOk result (λ texts. bytes_of_vectors texts.items ≡ printed_option_texts options.now) }
 {
     let pairs = [
         (OptionName::Role, options.role),
@@ -110,12 +116,12 @@ pub fn option_texts(alloc: Global, options: &Options<'_>) -> Result<Vec<Vec<u8>>
         (OptionName::Cwd, options.cwd),
         (OptionName::Chroot, options.chroot),
     ];
-    set_texts(alloc, &pairs)
+    make_texts_of_given_options(alloc, &pairs)
 }
 
 /// Returns a tag, with `NO` before it if it is not `on`.
-fn tag_text(alloc: Global, tag: Tag, on: bool) -> Result<Vec<u8>, AllocError>
-    ensures { IfOk result (λ text. text.items ≡ printed_tag tag on) }
+fn make_tag_text(alloc: Global, tag: Tag, on: bool) -> Result<Vec<u8>, AllocError>
+    ensures { IfOk result (λ text. text.items ≡ printed_tag_or_negated tag on) }
 {
     let mut text = Vec::new(alloc);
     append_tag(&mut text, tag, on)?;
@@ -123,21 +129,24 @@ fn tag_text(alloc: Global, tag: Tag, on: bool) -> Result<Vec<u8>, AllocError>
 }
 
 /// Returns the tags of `pairs` that stand.
-fn said_texts(alloc: Global, pairs: &[(Tag, Option<bool>)]) -> Result<Vec<Vec<u8>>, AllocError>
-    ensures { IfOk result (λ texts. bytes_of texts.items ≡ filter_map tag_text pairs.now) }
+fn make_texts_of_given_tags(
+    alloc: Global,
+    pairs: &[(Tag, Option<bool>)],
+) -> Result<Vec<Vec<u8>>, AllocError>
+    ensures { IfOk result (λ texts. bytes_of_vectors texts.items ≡ filter_map printed_tag_text_if_given pairs.now) }
 {
     let mut texts = Vec::new(alloc);
     for (tag, said) in pairs {
         if let Some(on) = said {
-            texts.push(tag_text(alloc, *tag, *on)?)?;
+            texts.push(make_tag_text(alloc, *tag, *on)?)?;
         }
     }
     Ok(texts)
 }
 
 /// Returns the tags that stand, in the order of their names.
-pub fn tag_texts(alloc: Global, tags: &Tags) -> Result<Vec<Vec<u8>>, AllocError>
-    ensures { IfOk result (λ texts. bytes_of texts.items ≡ tag_texts tags.now) }
+pub fn make_tag_texts(alloc: Global, tags: &CommandTags) -> Result<Vec<Vec<u8>>, AllocError>
+    ensures { IfOk result (λ texts. bytes_of_vectors texts.items ≡ printed_tag_texts tags.now) }
 {
     let pairs = [
         (Tag::Exec, tags.exec),
@@ -149,5 +158,5 @@ pub fn tag_texts(alloc: Global, tags: &Tags) -> Result<Vec<Vec<u8>>, AllocError>
         (Tag::Passwd, tags.passwd),
         (Tag::Setenv, tags.setenv),
     ];
-    said_texts(alloc, &pairs)
+    make_texts_of_given_tags(alloc, &pairs)
 }

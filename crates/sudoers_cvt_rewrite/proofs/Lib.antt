@@ -1,3 +1,4 @@
+mod Common
 pub mod FilterTexts
 pub mod Latest
 pub mod Matchers
@@ -11,6 +12,4 @@ pub mod Whole
 pub mod Kept
 pub mod GroupsLeft
 pub mod Straights
-pub mod Parts
-pub mod Shortened
 pub mod Defined

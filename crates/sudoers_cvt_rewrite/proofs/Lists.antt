@@ -1,30 +1,24 @@
 -- Lists whose aliases are replaced: how long they are.
-use Rattle.std.proofs.Common.{◌≡◌, ℕ, zero, suc, ◌≤◌, List, [], ◌∷◌, length, Option, Some, None, refl, arith, length-append}
-use Rattle.std.proofs.lemmas.List.{length-map}
-use Rattle.sudoers_line.specs.declared.node.Kind.{Kind}
-use Rattle.sudoers_line.specs.declared.node.Atom.{Atom}
-use Rattle.sudoers_line.specs.Node.{Member}
-use Rattle.sudoers_tree.specs.Line.{Line}
-use Rattle.sudoers_match_list.specs.Flat.{alias_of}
-use Rattle.sudoers_match_list.specs.Flattened.{turned_member, replaced_by, replaced_once, replaced_times}
+use Rattle.sudoers_cvt_rewrite.proofs.Common.{Atom, Kind, Line, List, Member, None, Option, Some, [], alias_members_of_atom, arith, length, length-append, length-map, list_expanded_n_times}
+use Rattle.sudoers_cvt_rewrite.proofs.Common.{list_with_aliases_expanded_once, member_or_alias_members, member_under_negation, refl, suc, zero, ℕ, ◌∷◌, ◌≡◌, ◌≤◌}
 
 -- Each alias of this kind has a member.
-abbrev pub HaveMembers : Kind → List Line → Type 0
-HaveMembers k lines = (a : Atom) (ms : List Member) → alias_of k lines a ≡ Some ms → 1 ≤ length ms
+abbrev pub AllAliasesHaveMembers : Kind → List Line → Type 0
+AllAliasesHaveMembers k lines = (a : Atom) (ms : List Member) → alias_members_of_atom k lines a ≡ Some ms → 1 ≤ length ms
 
 module _ (k : Kind) (lines : List Line) where
-  module _ (have : HaveMembers k lines) where
-    some_by : (m : Member) (o : Option (List Member)) → alias_of k lines m.atom ≡ o → 1 ≤ length (replaced_by m o)
+  module _ (have : AllAliasesHaveMembers k lines) where
+    some_by : (m : Member) (o : Option (List Member)) → alias_members_of_atom k lines m.atom ≡ o → 1 ≤ length (member_or_alias_members m o)
     some_by m None e = omega arith
-    some_by m (Some ms) e = let some = have m.atom ms e in omega (arith, some, length-map ms (turned_member m.negated))
+    some_by m (Some ms) e = let some = have m.atom ms e in omega (arith, some, length-map ms (member_under_negation m.negated))
 
-    longer_once : (ms : List Member) → length ms ≤ length (replaced_once k lines ms)
+    longer_once : (ms : List Member) → length ms ≤ length (list_with_aliases_expanded_once k lines ms)
     longer_once [] = omega arith
     longer_once (m ∷ ms) =
-        let first = some_by m (alias_of k lines m.atom) refl in
+        let first = some_by m (alias_members_of_atom k lines m.atom) refl in
         let rest = longer_once ms in
-        omega (arith, first, rest, length-append (replaced_by m (alias_of k lines m.atom)) (replaced_once k lines ms))
+        omega (arith, first, rest, length-append (member_or_alias_members m (alias_members_of_atom k lines m.atom)) (list_with_aliases_expanded_once k lines ms))
 
-    pub longer : (n : ℕ) (ms : List Member) → length ms ≤ length (replaced_times n k lines ms)
+    pub longer : (n : ℕ) (ms : List Member) → length ms ≤ length (list_expanded_n_times n k lines ms)
     longer zero ms = omega arith
-    longer (suc n) ms = let first = longer_once ms in let rest = longer n (replaced_once k lines ms) in omega (arith, first, rest)
+    longer (suc n) ms = let first = longer_once ms in let rest = longer n (list_with_aliases_expanded_once k lines ms) in omega (arith, first, rest)

@@ -1,74 +1,63 @@
 -- Verdicts for each value of a filter.
-use Rattle.std.proofs.Common.{◌≡◌, ℕ, zero, suc, ◌++◌, map, cond, [], append-nil, append_assoc, ◌+◌, ◌<◌, ◌||◌, Bool, true, false, List, ◌∷◌, length, drop, set, get_or, Some, slice_get, inl, inr, refl, sym, ap, subst, ◌∙◌, arith}
-use Rattle.std.specs.List.{All, filter, list_any}
-use Rattle.std.proofs.lemmas.List.{drop_more, length-set, map_push}
-use Rattle.std.proofs.lemmas.Option.{slice_get_within, get_or_from_slice_get}
-use Rattle.sudoers_line.specs.declared.node.Kind.{Kind}
-use Rattle.sudoers_line.specs.declared.node.Kind.TheVariants.{User, Runas, Host, Cmnd}
-use Rattle.sudoers_line.specs.declared.node.Atom.{Atom}
-use Rattle.sudoers_line.specs.Node.{Member}
-use Rattle.sudoers_tree.specs.Line.{Line}
-use Rattle.sudoers_check.specs.Chain.{Has}
-use Rattle.sudoers_check.specs.Chains.{name_in, names_in}
-use Rattle.sudoers_check.proofs.Chains.{from_more}
-use Rattle.sudoers_check.proofs.Lists.{get-set}
-use Rattle.sudoers_check.proofs.Named.{has_front, has_back}
-use Rattle.sudoers_match_list.specs.Cycle.{LeadsToCycle}
-use Rattle.sudoers_match.specs.internal.Straight.{IsStraight}
-use Rattle.sudoers_cvt_rewrite.specs.declared.filter.Filter.{Filter}
-use Rattle.sudoers_cvt_rewrite.specs.Filter.{is_none, names_no_user}
-use Rattle.sudoers_cvt_rewrite.specs.internal.Pruned.{keeps_member, members_left}
-use Rattle.sudoers_match_list.specs.declared.walk.Verdicts.{Verdicts}
-use Rattle.sudoers_match_list.specs.Search.{Remembers}
-use Rattle.sudoers_cvt_rewrite.specs.internal.Matcher.{AreRemembered, AreFresh, says_of_hosts, says_of_users}
+use Rattle.sudoers_cvt_rewrite.proofs.Common.{All, AreValidVerdictCaches, Atom, Bool, Cmnd, Filter, Host, IsFreshVerdictCache, IsValidVerdictCache, Kind, Line, List, ListHasElement, Member, Runas, Some, User, []}
+use Rattle.sudoers_cvt_rewrite.proofs.Common.{alias_names_among_members, alias_names_of_atom, ap, append-nil, append_assoc, arith, cond, drop, drop_more, false, filter, get-set, get_or, get_or_from_slice_get, inl}
+use Rattle.sudoers_cvt_rewrite.proofs.Common.{inr, is_filter_without_users, is_host_list_hit_wanted, is_list_without_items, is_member_kept_by_filter, is_user_list_hit_wanted, length, list_any, map, map_push}
+use Rattle.sudoers_cvt_rewrite.proofs.Common.{members_left_by_filter, refl, slice_get, slice_get_within, subst, suc, sym, true, zero, ℕ, ◌++◌, ◌+◌, ◌<◌, ◌||◌, ◌∙◌, ◌∷◌, ◌≡◌}
+use Rattle.std.proofs.Common.{set}
+use Rattle.std.proofs.lemmas.List.{length-set}
+use Rattle.sudoers_check.proofs.Chains.{chain_from_some_is_chain_from_superset}
+use Rattle.sudoers_check.proofs.Named.{element_of_front_is_in_appended, element_of_back_is_in_appended}
+use Rattle.sudoers_match_list.specs.Cycle.{ListLeadsToCyclicAlias}
+use Rattle.sudoers_match.specs.internal.Straight.{LeadsToNoCyclicAlias}
+use Rattle.sudoers_match_list.specs.declared.alias_verdicts.AliasVerdictCache.{AliasVerdictCache}
 
 -- One of the verdicts is replaced by others for the same value.
-pub set_remembered : {X : Type 0} (k : Kind) (lines : List Line) (test : X → Atom → Bool) (values : List X) (verdicts : List Verdicts) (n : ℕ) (value : X) (of_value : Verdicts)
-    → n < length values → value ≡ get_or values n value → Remembers k lines (test value) of_value
-    → AreRemembered k lines test values verdicts → AreRemembered k lines test values (set verdicts n of_value)
-set_remembered {X} k lines test values verdicts n value of_value h is kept all = record {
+pub replaced_verdict_cache_keeps_caches_valid : {X : Type 0} (k : Kind) (lines : List Line) (test : X → Atom → Bool) (values : List X) (verdicts : List AliasVerdictCache) (n : ℕ) (value : X) (of_value : AliasVerdictCache)
+    → n < length values → value ≡ get_or values n value → IsValidVerdictCache k lines (test value) of_value
+    → AreValidVerdictCaches k lines test values verdicts → AreValidVerdictCaches k lines test values (set verdicts n of_value)
+replaced_verdict_cache_keeps_caches_valid {X} k lines test values verdicts n value of_value h is kept all = record {
   size = length-set verdicts n of_value ∙ all.size;
   each = λ m x v at_x at_v. elim (get-set verdicts n m of_value v at_v) [
     | inl new ↦
         let same_value : x ≡ value = sym (get_or_from_slice_get values n x value (subst (λ j. slice_get values j ≡ Some x) new.0 at_x)) ∙ sym is in
-        subst (λ u. Remembers k lines (test x) u) new.1 (subst (λ u. Remembers k lines (test u) of_value) (sym same_value) kept)
+        subst (λ u. IsValidVerdictCache k lines (test x) u) new.1 (subst (λ u. IsValidVerdictCache k lines (test u) of_value) (sym same_value) kept)
     | inr old ↦ all.each m x v at_x old.1
   ];
 }
 
 -- One item more does not pass.
-pub any_more : {X : Type 0} (p : X → Bool) (xs : List X) (n : ℕ) (x : X) → n < length xs → x ≡ get_or xs n x → p x ≡ false
+pub failing_item_is_dropped_from_any_test : {X : Type 0} (p : X → Bool) (xs : List X) (n : ℕ) (x : X) → n < length xs → x ≡ get_or xs n x → p x ≡ false
     → list_any p (drop n xs) ≡ list_any p xs → list_any p (drop (n + 1) xs) ≡ list_any p xs
-any_more p xs n x h is fails so_far =
+failing_item_is_dropped_from_any_test p xs n x h is fails so_far =
     ap (λ b. b || list_any p (drop (n + 1) xs)) (sym fails)
     ∙ ap (λ y. list_any p (y ∷ drop (n + 1) xs)) is
     ∙ ap (list_any p) (sym (drop_more xs n x h))
     ∙ so_far
 
-pub fresh_remembered : {X : Type 0} (k : Kind) (lines : List Line) (test : X → Atom → Bool) (values : List X) (verdicts : List Verdicts)
-    → length verdicts ≡ length values → All (AreFresh lines) verdicts → AreRemembered k lines test values verdicts
-fresh_remembered k lines test values verdicts size all = record {
+pub fresh_verdict_caches_are_valid : {X : Type 0} (k : Kind) (lines : List Line) (test : X → Atom → Bool) (values : List X) (verdicts : List AliasVerdictCache)
+    → length verdicts ≡ length values → All (IsFreshVerdictCache lines) verdicts → AreValidVerdictCaches k lines test values verdicts
+fresh_verdict_caches_are_valid k lines test values verdicts size all = record {
   size = size;
   each = λ n value v at_x at_v.
-      subst (λ u. Remembers k lines (test value) u) (get_or_from_slice_get verdicts n v v at_v) (all n v (slice_get_within verdicts n v at_v) k (test value));
+      subst (λ u. IsValidVerdictCache k lines (test value) u) (get_or_from_slice_get verdicts n v v at_v) (all n v (slice_get_within verdicts n v at_v) k (test value));
 }
 
 -- ---- a list that is one of the members of another
 
 -- the names of the member at a place
-names_at : {R : Type 0} (f : R → Member) (rows : List R) (n : ℕ) (d : R) → n < length rows → (name : List ℕ)
-    → Has (names_in (f (get_or rows n d) ∷ [])) name → Has (names_in (map f rows)) name
-names_at f [] n d h name has = absurd (omega arith)
-names_at f (x ∷ rows) zero d h name has = has_front (name_in (f x).atom) (names_in (map f rows)) name (subst (λ ns. Has ns name) (append-nil (name_in (f x).atom)) has)
-names_at f (x ∷ rows) (suc n) d h name has = has_back (name_in (f x).atom) (names_in (map f rows)) name (names_at f rows n d (omega arith) name has)
+row_member_alias_names_are_in_list : {R : Type 0} (f : R → Member) (rows : List R) (n : ℕ) (d : R) → n < length rows → (name : List ℕ)
+    → ListHasElement (alias_names_among_members (f (get_or rows n d) ∷ [])) name → ListHasElement (alias_names_among_members (map f rows)) name
+row_member_alias_names_are_in_list f [] n d h name has = absurd (omega arith)
+row_member_alias_names_are_in_list f (x ∷ rows) zero d h name has = element_of_front_is_in_appended (alias_names_of_atom (f x).atom) (alias_names_among_members (map f rows)) name (subst (λ ns. ListHasElement ns name) (append-nil (alias_names_of_atom (f x).atom)) has)
+row_member_alias_names_are_in_list f (x ∷ rows) (suc n) d h name has = element_of_back_is_in_appended (alias_names_of_atom (f x).atom) (alias_names_among_members (map f rows)) name (row_member_alias_names_are_in_list f rows n d (omega arith) name has)
 
-pub row_straight : {R : Type 0} (k : Kind) (lines : List Line) (f : R → Member) (rows : List R) (n : ℕ) (d : R) (one : List R) → n < length rows → one ≡ get_or rows n d ∷ []
-    → IsStraight k lines (map f rows) → IsStraight k lines (map f one)
-row_straight k lines f rows n d one h is straight l = let m = f (get_or rows n d) in let o = subst (λ rs. LeadsToCycle k lines (map f rs)) is l in straight (record {
+pub row_of_acyclic_list_is_acyclic : {R : Type 0} (k : Kind) (lines : List Line) (f : R → Member) (rows : List R) (n : ℕ) (d : R) (one : List R) → n < length rows → one ≡ get_or rows n d ∷ []
+    → LeadsToNoCyclicAlias k lines (map f rows) → LeadsToNoCyclicAlias k lines (map f one)
+row_of_acyclic_list_is_acyclic k lines f rows n d one h is straight l = let m = f (get_or rows n d) in let o = subst (λ rs. ListLeadsToCyclicAlias k lines (map f rs)) is l in straight (record {
   alias = o.alias;
   stands = o.stands;
   of_kind = o.of_kind;
-  reached = from_more (Has (names_in (m ∷ []))) (Has (names_in (map f rows))) (names_at f rows n d h) o.alias.def.name o.reached;
+  reached = chain_from_some_is_chain_from_superset (ListHasElement (alias_names_among_members (m ∷ []))) (ListHasElement (alias_names_among_members (map f rows))) (row_member_alias_names_are_in_list f rows n d h) o.alias.def.name o.reached;
   cyclic = o.cyclic;
 })
 
@@ -96,23 +85,23 @@ module _ {R : Type 0} (f : R → Member) (p : Member → Bool) (rows : List R) (
       ∙ ap (λ ms. map f left ++ ms) (sym at_row)
       ∙ so_far
 
-all_stay : {X : Type 0} (xs : List X) → xs ≡ filter (λ _. true) xs
-all_stay [] = refl
-all_stay (x ∷ xs) = ap (λ ys. x ∷ ys) (all_stay xs)
+filter_by_true_keeps_list : {X : Type 0} (xs : List X) → xs ≡ filter (λ _. true) xs
+filter_by_true_keeps_list [] = refl
+filter_by_true_keeps_list (x ∷ xs) = ap (λ ys. x ∷ ys) (filter_by_true_keeps_list xs)
 
 -- All stay, or those that pass.
-stay_or_pass : {X : Type 0} (all : Bool) (p : X → Bool) (xs : List X) → filter (λ x. all || p x) xs ≡ cond all xs (filter p xs)
-stay_or_pass true p xs = sym (all_stay xs)
-stay_or_pass false p xs = refl
+filter_by_all_or_test_is_conditional : {X : Type 0} (all : Bool) (p : X → Bool) (xs : List X) → filter (λ x. all || p x) xs ≡ cond all xs (filter p xs)
+filter_by_all_or_test_is_conditional true p xs = sym (filter_by_true_keeps_list xs)
+filter_by_all_or_test_is_conditional false p xs = refl
 
 module _ (lines : List Line) (f : Filter) where
-  pub pruned_is : (k : Kind) (ms : List Member) → filter (keeps_member k lines f) ms ≡ members_left k lines f true ms
-  pruned_is User ms = stay_or_pass (names_no_user f) (λ (m : Member). says_of_users false lines f (m ∷ [])) ms
-  pruned_is Host ms = stay_or_pass (is_none f.hosts) (λ (m : Member). says_of_hosts false lines f (m ∷ [])) ms
-  pruned_is Runas ms = sym (all_stay ms)
-  pruned_is Cmnd ms = sym (all_stay ms)
+  pub pruned_is : (k : Kind) (ms : List Member) → filter (is_member_kept_by_filter k lines f) ms ≡ members_left_by_filter k lines f true ms
+  pruned_is User ms = filter_by_all_or_test_is_conditional (is_filter_without_users f) (λ (m : Member). is_user_list_hit_wanted false lines f (m ∷ [])) ms
+  pruned_is Host ms = filter_by_all_or_test_is_conditional (is_list_without_items f.hosts) (λ (m : Member). is_host_list_hit_wanted false lines f (m ∷ [])) ms
+  pruned_is Runas ms = sym (filter_by_true_keeps_list ms)
+  pruned_is Cmnd ms = sym (filter_by_true_keeps_list ms)
 
-  pub whole_is : (k : Kind) (ms : List Member) → ms ≡ members_left k lines f false ms
+  pub whole_is : (k : Kind) (ms : List Member) → ms ≡ members_left_by_filter k lines f false ms
   whole_is User ms = refl
   whole_is Host ms = refl
   whole_is Runas ms = refl

@@ -1,60 +1,56 @@
 -- How many members rules have (cvtsudoers(1), -e: an expanded policy may be much longer than the one that was read).
 use Rattle.std.specs.Prelude.{ℕ, ◌+◌, List, [], ◌∷◌, length, Option, Some, None}
-use Rattle.sudoers_line.specs.Node.{RunasSpec, CmdSpec, HostGroup, Def, Scope, Node}
-use Rattle.sudoers_line.specs.Node as node
+use Rattle.sudoers_grammar.specs.Node.{RunasSpec, CmdSpec, HostGroup, Def, Scope, Node}
+use Rattle.sudoers_grammar.specs.Node as node
 use Rattle.sudoers_tree.specs.Line.{Line}
 
--- how many members expanded rules may have
-abbrev pub member_limit : ℕ
-member_limit = 65536
-
 -- the members of the Runas_Spec that holds of a command: its own, or the one that it inherits, which has `before` members
-abbrev pub runas_count : ℕ → Option RunasSpec → ℕ
-runas_count before None = before
-runas_count before (Some r) = length r.users + length r.groups
+abbrev pub runas_member_count : ℕ → Option RunasSpec → ℕ
+runas_member_count before None = before
+runas_member_count before (Some r) = length r.users + length r.groups
 
 -- Each command counts as one, and the members of the Runas_Spec that holds of it count too.
-abbrev pub commands_count : ℕ → List CmdSpec → ℕ
-commands_count before [] = 0
-commands_count before (c ∷ cs) = 1 + runas_count before c.runas + commands_count (runas_count before c.runas) cs
+abbrev pub commands_member_count : ℕ → List CmdSpec → ℕ
+commands_member_count before [] = 0
+commands_member_count before (c ∷ cs) = 1 + runas_member_count before c.runas + commands_member_count (runas_member_count before c.runas) cs
 
-abbrev pub group_count : HostGroup → ℕ
-group_count g = length g.hosts + commands_count 0 g.commands
+abbrev pub host_group_member_count : HostGroup → ℕ
+host_group_member_count g = length g.hosts + commands_member_count 0 g.commands
 
-abbrev pub groups_count : List HostGroup → ℕ
-groups_count [] = 0
-groups_count (g ∷ gs) = group_count g + groups_count gs
+abbrev pub host_groups_member_count : List HostGroup → ℕ
+host_groups_member_count [] = 0
+host_groups_member_count (g ∷ gs) = host_group_member_count g + host_groups_member_count gs
 
-abbrev pub scope_count : Option Scope → ℕ
-scope_count None = 0
-scope_count (Some s) = length s.members
+abbrev pub scope_member_count : Option Scope → ℕ
+scope_member_count None = 0
+scope_member_count (Some s) = length s.members
 
 -- the members in the lists of a user specification or of a Defaults line
-abbrev pub node_count : Node → ℕ
-node_count (node.Spec users groups) = length users + groups_count groups
-node_count (node.Defaults scope params) = scope_count scope
-node_count (node.Alias k defs) = 0
-node_count node.Blank = 0
-node_count node.Comment = 0
-node_count (node.Include dir path) = 0
+abbrev pub node_member_count : Node → ℕ
+node_member_count (node.Spec users groups) = length users + host_groups_member_count groups
+node_member_count (node.Defaults scope params) = scope_member_count scope
+node_member_count (node.Alias k defs) = 0
+node_member_count node.Blank = 0
+node_member_count node.Comment = 0
+node_member_count (node.Include dir path) = 0
 
-abbrev pub lines_count : List Line → ℕ
-lines_count [] = 0
-lines_count (line ∷ lines) = node_count line.node + lines_count lines
+abbrev pub lines_member_count : List Line → ℕ
+lines_member_count [] = 0
+lines_member_count (line ∷ lines) = node_member_count line.node + lines_member_count lines
 
-abbrev pub defs_count : List Def → ℕ
-defs_count [] = 0
-defs_count (d ∷ ds) = length d.members + defs_count ds
+abbrev pub definitions_member_count : List Def → ℕ
+definitions_member_count [] = 0
+definitions_member_count (d ∷ ds) = length d.members + definitions_member_count ds
 
 -- the members of the definitions that a line has
-abbrev pub defined_count : Node → ℕ
-defined_count (node.Alias k defs) = defs_count defs
-defined_count (node.Spec users groups) = 0
-defined_count (node.Defaults scope params) = 0
-defined_count node.Blank = 0
-defined_count node.Comment = 0
-defined_count (node.Include dir path) = 0
+abbrev pub alias_line_member_count : Node → ℕ
+alias_line_member_count (node.Alias k defs) = definitions_member_count defs
+alias_line_member_count (node.Spec users groups) = 0
+alias_line_member_count (node.Defaults scope params) = 0
+alias_line_member_count node.Blank = 0
+alias_line_member_count node.Comment = 0
+alias_line_member_count (node.Include dir path) = 0
 
-abbrev pub definitions_count : List Node → ℕ
-definitions_count [] = 0
-definitions_count (n ∷ ns) = defined_count n + definitions_count ns
+abbrev pub alias_lines_member_count : List Node → ℕ
+alias_lines_member_count [] = 0
+alias_lines_member_count (n ∷ ns) = alias_line_member_count n + alias_lines_member_count ns

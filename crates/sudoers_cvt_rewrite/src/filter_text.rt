@@ -2,14 +2,14 @@
 
 ghost use Rattle.std.specs.Prelude.{◌≡◌, ◌==◌, ◌⊎◌, map, drop, take, length, Ok, Err, IfOk, IfErr};
 ghost use Rattle.std.specs.List.{slice_split};
-ghost use Rattle.sudoers_line.specs.Number.{split_at};
+ghost use Rattle.sudoers_grammar.specs.Number.{parts_around_first_byte};
 ghost use Rattle.sudoers_cvt_rewrite.specs.declared.filter_text.FilterFault.TheVariants.{NoMemory};
-ghost use Rattle.sudoers_cvt_rewrite.specs.FilterText.{is_blank, without_first_blanks, without_last_blanks, bare, key_of, pair_of, pairs_of, is_same_key, values_of, filter_of};
-ghost use Rattle.sudoers_cvt_rewrite.specs.internal.FilterSeen.{parts_seen, pair_shown, pair_seen};
+ghost use Rattle.sudoers_cvt_rewrite.specs.FilterText.{is_blank, text_without_leading_blanks, text_without_trailing_blanks, text_without_outer_blanks, filter_key_named, filter_pair_of_piece, filter_pairs_of_pieces, is_same_key, values_with_filter_key, filter_read_from_text};
+ghost use Rattle.sudoers_cvt_rewrite.specs.internal.FilterSeen.{text_parts_of_view, filter_pair_of_view, filter_pair_result_of_view};
 
 use crate::filter::Filter;
 use std::alloc::{AllocError, AllocFailed, Global};
-use sudoers_line::Items;
+use sudoers_grammar::Items;
 use thiserror::Error;
 
 /// Why the text of a filter is refused. The first bad pair counts.
@@ -50,7 +50,7 @@ impl<T: Drop> From<AllocFailed<T>> for FilterFault {
 
 /// What a value names.
 #[derive(Clone, Copy)]
-enum Key {
+enum FilterKey {
     User,
     Group,
     Host,
@@ -58,8 +58,8 @@ enum Key {
 
 /// A key and its value.
 #[derive(Clone, Copy)]
-struct Pair<'a> {
-    key: Key,
+struct FilterPair<'a> {
+    key: FilterKey,
     value: &'a [u8],
 }
 
@@ -70,8 +70,8 @@ fn is_blank(byte: u8) -> bool
 }
 
 /// Returns `text` without the blanks that it begins with.
-fn without_first_blanks(text: &[u8]) -> &[u8]
-    ensures { result.now ≡ without_first_blanks text.now }
+fn drop_leading_blanks(text: &[u8]) -> &[u8]
+    ensures { result.now ≡ text_without_leading_blanks text.now }
 {
     for (i, byte) in text.iter().enumerate() {
         if !is_blank(*byte) {
@@ -82,8 +82,8 @@ fn without_first_blanks(text: &[u8]) -> &[u8]
 }
 
 /// Returns `text` without the blanks that it ends with.
-fn without_last_blanks(text: &[u8]) -> &[u8]
-    ensures { result.now ≡ without_last_blanks text.now }
+fn drop_trailing_blanks(text: &[u8]) -> &[u8]
+    ensures { result.now ≡ text_without_trailing_blanks text.now }
 {
     let mut n = text.len();
     while n > 0 && is_blank(text[n - 1]) {
@@ -93,15 +93,15 @@ fn without_last_blanks(text: &[u8]) -> &[u8]
 }
 
 /// Returns `text` without the blanks around it.
-fn bare(text: &[u8]) -> &[u8]
-    ensures { result.now ≡ bare text.now }
+fn drop_surrounding_blanks(text: &[u8]) -> &[u8]
+    ensures { result.now ≡ text_without_outer_blanks text.now }
 {
-    without_last_blanks(without_first_blanks(text))
+    drop_trailing_blanks(drop_leading_blanks(text))
 }
 
 /// Returns the bytes before the first such byte, and those after it.
-fn split_at(byte: u8, text: &[u8]) -> Option<(&[u8], &[u8])>
-    ensures { parts_seen result ≡ split_at byte text.now }
+fn split_at_first_such_byte(byte: u8, text: &[u8]) -> Option<(&[u8], &[u8])>
+    ensures { text_parts_of_view result ≡ parts_around_first_byte byte text.now }
 {
     for (i, b) in text.iter().enumerate() {
         if *b == byte {
@@ -111,61 +111,67 @@ fn split_at(byte: u8, text: &[u8]) -> Option<(&[u8], &[u8])>
     None
 }
 
-fn key_of(word: &[u8]) -> Option<Key>
-    ensures { result ≡ key_of word.now }
+fn filter_key_of_word(word: &[u8]) -> Option<FilterKey>
+    ensures { result ≡ filter_key_named word.now }
 {
     if word == b"user".as_slice() {
-        Some(Key::User)
+        Some(FilterKey::User)
     } else if word == b"group".as_slice() {
-        Some(Key::Group)
+        Some(FilterKey::Group)
     } else if word == b"host".as_slice() {
-        Some(Key::Host)
+        Some(FilterKey::Host)
     } else {
         None
     }
 }
 
 /// Returns the pair that `piece` says.
-fn read_pair(piece: &[u8]) -> Result<Pair<'_>, FilterFault>
-    ensures { pair_seen result ≡ pair_of piece.now }
+fn read_filter_pair(piece: &[u8]) -> Result<FilterPair<'_>, FilterFault>
+    ensures { filter_pair_result_of_view result ≡ filter_pair_of_piece piece.now }
 {
-    let Some((word, text)) = split_at(b'=', piece) else {
+    let Some((word, text)) = split_at_first_such_byte(b'=', piece) else {
         return Err(FilterFault::BadKey);
     };
-    let Some(key) = key_of(bare(word)) else {
+    let Some(key) = filter_key_of_word(drop_surrounding_blanks(word)) else {
         return Err(FilterFault::BadKey);
     };
-    let value = bare(text);
+    let value = drop_surrounding_blanks(text);
     if value.is_empty() {
         return Err(FilterFault::Empty);
     }
-    Ok(Pair { key, value })
+    Ok(FilterPair { key, value })
 }
 
 /// Returns the pairs that stand between the commas of `text`.
-fn read_pairs(alloc: Global, text: &[u8]) -> Result<Vec<Pair<'_>>, FilterFault>
-    ensures pairs { IfOk result (λ pairs. pairs_of (slice_split (λ b. b == 44) text.now) ≡ Ok (map pair_shown pairs.items)) }
-    ensures fault { IfErr result (λ fault. (fault ≡ NoMemory) ⊎ (pairs_of (slice_split (λ b. b == 44) text.now) ≡ Err fault)) }
+fn read_filter_pairs(alloc: Global, text: &[u8]) -> Result<Vec<FilterPair<'_>>, FilterFault>
+    ensures pairs { IfOk result (λ pairs. filter_pairs_of_pieces (slice_split (λ b. b == 44) text.now) ≡ Ok (map filter_pair_of_view pairs.items)) }
+    ensures fault { IfErr result (λ fault. (fault ≡ NoMemory) ⊎ (filter_pairs_of_pieces (slice_split (λ b. b == 44) text.now) ≡ Err fault)) }
 {
     let mut pairs = Vec::new(alloc);
     for piece in text.split(|byte| *byte == b',') {
-        pairs.push(read_pair(piece)?)?;
+        pairs.push(read_filter_pair(piece)?)?;
     }
     Ok(pairs)
 }
 
-fn is_same_key(a: Key, b: Key) -> bool
+fn is_same_key(a: FilterKey, b: FilterKey) -> bool
     ensures { result ≡ is_same_key a b }
 {
     matches!(
         (a, b),
-        (Key::User, Key::User) | (Key::Group, Key::Group) | (Key::Host, Key::Host)
+        (FilterKey::User, FilterKey::User)
+            | (FilterKey::Group, FilterKey::Group)
+            | (FilterKey::Host, FilterKey::Host)
     )
 }
 
 /// Returns the values of the pairs that have this key.
-fn values_of(alloc: Global, key: Key, pairs: &[Pair<'_>]) -> Result<Items<Items<u8>>, AllocError>
-    ensures { IfOk result (λ values. values ≡ values_of key (map pair_shown pairs.now)) }
+fn filter_values_of_key(
+    alloc: Global,
+    key: FilterKey,
+    pairs: &[FilterPair<'_>],
+) -> Result<Items<Items<u8>>, AllocError>
+    ensures { IfOk result (λ values. values ≡ values_with_filter_key key (map filter_pair_of_view pairs.now)) }
 {
     let mut values = Items::new(alloc);
     for pair in pairs {
@@ -182,13 +188,13 @@ fn values_of(alloc: Global, key: Key, pairs: &[Pair<'_>]) -> Result<Items<Items<
 ///
 /// `BadKey`, `Empty`: the first bad pair is so. `NoMemory`: memory ran out.
 pub fn read_filter(alloc: Global, text: &[u8]) -> Result<Filter, FilterFault>
-    ensures filter { IfOk result (λ filter. filter_of text.now ≡ Ok filter) }
-    ensures fault { IfErr result (λ fault. (fault ≡ NoMemory) ⊎ (filter_of text.now ≡ Err fault)) }
+    ensures filter { IfOk result (λ filter. filter_read_from_text text.now ≡ Ok filter) }
+    ensures fault { IfErr result (λ fault. (fault ≡ NoMemory) ⊎ (filter_read_from_text text.now ≡ Err fault)) }
 {
-    let pairs = read_pairs(alloc, text)?;
+    let pairs = read_filter_pairs(alloc, text)?;
     Ok(Filter {
-        users: values_of(alloc, Key::User, pairs.as_slice())?,
-        groups: values_of(alloc, Key::Group, pairs.as_slice())?,
-        hosts: values_of(alloc, Key::Host, pairs.as_slice())?,
+        users: filter_values_of_key(alloc, FilterKey::User, pairs.as_slice())?,
+        groups: filter_values_of_key(alloc, FilterKey::Group, pairs.as_slice())?,
+        hosts: filter_values_of_key(alloc, FilterKey::Host, pairs.as_slice())?,
     })
 }

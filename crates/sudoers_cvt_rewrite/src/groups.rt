@@ -1,99 +1,99 @@
 //! Host groups and user specifications, written with their aliases replaced or not.
 
 ghost use Rattle.std.specs.Prelude.{◌≡◌, ◌+◌, true, map, IfOk, IfErr, OnOk};
-ghost use Rattle.sudoers_line.specs.Node.{Spec};
-ghost use Rattle.sudoers_line_rows.specs.Tables.{commands_in, group_in, groups_in, member_in, node_in};
-ghost use Rattle.sudoers_cvt_rewrite.specs.Count.{group_count, groups_count, node_count};
-ghost use Rattle.sudoers_cvt_rewrite.specs.internal.Extended.{IsLike, Extended, Stays};
-ghost use Rattle.sudoers_cvt_rewrite.specs.internal.Selected.{selected_in};
-ghost use Rattle.sudoers_cvt_rewrite.specs.internal.Written.{IsRefusal, group_if, group_of, node_if};
+ghost use Rattle.sudoers_grammar.specs.Node.{Spec};
+ghost use Rattle.sudoers_line_rows.specs.Tables.{commands_in_tables, host_group_in_tables, host_groups_in_tables, member_in_tables, node_in_tables};
+ghost use Rattle.sudoers_cvt_rewrite.specs.Count.{host_group_member_count, host_groups_member_count, node_member_count};
+ghost use Rattle.sudoers_cvt_rewrite.specs.internal.Extended.{AreTablesAlikeButLists, IsTableExtension, RowKeepsMeaning};
+ghost use Rattle.sudoers_cvt_rewrite.specs.internal.Selected.{host_group_of_filtered};
+ghost use Rattle.sudoers_cvt_rewrite.specs.internal.Written.{IsRewriteRefusal, host_group_expanded_if, host_group_of_lists, line_node_expanded_if};
 
-use crate::aliases::Expansion;
-use crate::commands::write_command_list;
-use crate::copying::write_groups;
-use crate::listing::write_list;
-use crate::selecting::Selected;
-use crate::tally::Tally;
+use crate::commands::write_rewritten_commands;
+use crate::copied_tables::append_host_group_rows;
+use crate::list_writing::write_counted_list;
+use crate::member_tally::MemberTally;
+use crate::selecting::FilteredHostGroup;
 use std::alloc::Global;
 use sudoers_cvt_rules::CvtFault;
-use sudoers_line_rows::{GroupRow, MemberRow, NodeRow, Range, Tables, rows_in};
+use sudoers_line_rows::{HostGroupRow, MemberRow, NodeRow, RowRange, Tables, rows_in};
+use sudoers_match_list::ExpansionSource;
 use sudoers_tree::Kind;
 
 /// Writes a host group, its aliases replaced if that is wanted, and counts it.
-#[tactic(auto, using(crate::proofs::Extending::extended_self, crate::proofs::Extending::extended_on, crate::proofs::Extending::like_on))]
-pub fn write_group(
+#[tactic(auto, using(crate::proofs::Extending::table_is_extension_of_itself, crate::proofs::Extending::table_extension_is_transitive, crate::proofs::Extending::table_likeness_is_transitive))]
+pub fn write_rewritten_host_group(
     alloc: Global,
-    source: &Expansion<'_, '_>,
+    source: &ExpansionSource<'_, '_>,
     tables: &mut Tables,
-    tally: &mut Tally,
+    tally: &mut MemberTally,
     hosts: &[MemberRow],
-    commands: Range,
-) -> Result<GroupRow, CvtFault>
-    requires { IsLike source.now.lines.tables.now tables.old }
-    ensures stays { IfOk result (λ row. Stays group_in tables.new row (group_if source.now.expand source.now.policy.now
-        (group_of (map (member_in source.now.lines.tables.now) hosts.now) (commands_in source.now.lines.tables.now commands)))) }
-    ensures extended { OnOk result (Extended tables.old tables.new) }
+    commands: RowRange,
+) -> Result<HostGroupRow, CvtFault>
+    requires { AreTablesAlikeButLists source.now.lines.tables.now tables.old }
+    ensures stays { IfOk result (λ row. RowKeepsMeaning host_group_in_tables tables.new row (host_group_expanded_if source.now.expand source.now.policy.now
+        (host_group_of_lists (map (member_in_tables source.now.lines.tables.now) hosts.now) (commands_in_tables source.now.lines.tables.now commands)))) }
+    ensures extended { OnOk result (IsTableExtension tables.old tables.new) }
     ensures counted { OnOk result (source.now.expand ≡ true → tally.new.count ≡ tally.old.count
-        + group_count (group_if source.now.expand source.now.policy.now
-        (group_of (map (member_in source.now.lines.tables.now) hosts.now) (commands_in source.now.lines.tables.now commands)))) }
-    ensures fault { IfErr result (IsRefusal source.now.expand (tally.old.count
-        + group_count (group_if source.now.expand source.now.policy.now
-        (group_of (map (member_in source.now.lines.tables.now) hosts.now) (commands_in source.now.lines.tables.now commands))))) }
+        + host_group_member_count (host_group_expanded_if source.now.expand source.now.policy.now
+        (host_group_of_lists (map (member_in_tables source.now.lines.tables.now) hosts.now) (commands_in_tables source.now.lines.tables.now commands)))) }
+    ensures fault { IfErr result (IsRewriteRefusal source.now.expand (tally.old.count
+        + host_group_member_count (host_group_expanded_if source.now.expand source.now.policy.now
+        (host_group_of_lists (map (member_in_tables source.now.lines.tables.now) hosts.now) (commands_in_tables source.now.lines.tables.now commands))))) }
 {
-    let hosts = write_list(alloc, source, tables, tally, Kind::Host, hosts)?;
+    let hosts = write_counted_list(alloc, source, tables, tally, Kind::Host, hosts)?;
     let rows = rows_in(source.lines.tables.commands.as_slice(), commands);
-    let commands = write_command_list(alloc, source, tables, tally, rows)?;
-    Ok(GroupRow { hosts, commands })
+    let commands = write_rewritten_commands(alloc, source, tables, tally, rows)?;
+    Ok(HostGroupRow { hosts, commands })
 }
 
 /// Writes host groups, their aliases replaced if that is wanted, and counts them.
-#[tactic(auto, using(crate::proofs::Extending::extended_self, crate::proofs::Extending::extended_on, crate::proofs::Extending::like_on))]
-fn write_group_list(
+#[tactic(auto, using(crate::proofs::Extending::table_is_extension_of_itself, crate::proofs::Extending::table_extension_is_transitive, crate::proofs::Extending::table_likeness_is_transitive))]
+fn write_rewritten_host_groups(
     alloc: Global,
-    source: &Expansion<'_, '_>,
+    source: &ExpansionSource<'_, '_>,
     tables: &mut Tables,
-    tally: &mut Tally,
-    groups: &[Selected],
-) -> Result<Range, CvtFault>
-    requires { IsLike source.now.lines.tables.now tables.old }
-    ensures stays { IfOk result (λ range. Stays groups_in tables.new range
-        (map (group_if source.now.expand source.now.policy.now) (map (selected_in source.now.lines.tables.now) groups.now))) }
-    ensures extended { OnOk result (Extended tables.old tables.new) }
-    ensures counted { OnOk result (source.now.expand ≡ true → tally.new.count ≡ tally.old.count + groups_count
-        (map (group_if source.now.expand source.now.policy.now) (map (selected_in source.now.lines.tables.now) groups.now))) }
-    ensures fault { IfErr result (IsRefusal source.now.expand (tally.old.count + groups_count
-        (map (group_if source.now.expand source.now.policy.now) (map (selected_in source.now.lines.tables.now) groups.now)))) }
+    tally: &mut MemberTally,
+    groups: &[FilteredHostGroup],
+) -> Result<RowRange, CvtFault>
+    requires { AreTablesAlikeButLists source.now.lines.tables.now tables.old }
+    ensures stays { IfOk result (λ range. RowKeepsMeaning host_groups_in_tables tables.new range
+        (map (host_group_expanded_if source.now.expand source.now.policy.now) (map (host_group_of_filtered source.now.lines.tables.now) groups.now))) }
+    ensures extended { OnOk result (IsTableExtension tables.old tables.new) }
+    ensures counted { OnOk result (source.now.expand ≡ true → tally.new.count ≡ tally.old.count + host_groups_member_count
+        (map (host_group_expanded_if source.now.expand source.now.policy.now) (map (host_group_of_filtered source.now.lines.tables.now) groups.now))) }
+    ensures fault { IfErr result (IsRewriteRefusal source.now.expand (tally.old.count + host_groups_member_count
+        (map (host_group_expanded_if source.now.expand source.now.policy.now) (map (host_group_of_filtered source.now.lines.tables.now) groups.now)))) }
 {
     let mut out = Vec::new(alloc);
     for group in groups {
         let hosts = group.hosts.as_slice();
-        out.push(write_group(alloc, source, tables, tally, hosts, group.commands)?)?;
+        out.push(write_rewritten_host_group(alloc, source, tables, tally, hosts, group.commands)?)?;
     }
-    Ok(write_groups(tables, out.as_slice())?)
+    Ok(append_host_group_rows(tables, out.as_slice())?)
 }
 
 /// Writes a user specification, its aliases replaced if that is wanted, and counts it.
-#[tactic(auto, using(crate::proofs::Extending::extended_self, crate::proofs::Extending::extended_on, crate::proofs::Extending::like_on))]
-pub fn write_spec(
+#[tactic(auto, using(crate::proofs::Extending::table_is_extension_of_itself, crate::proofs::Extending::table_extension_is_transitive, crate::proofs::Extending::table_likeness_is_transitive))]
+pub fn write_rewritten_spec(
     alloc: Global,
-    source: &Expansion<'_, '_>,
+    source: &ExpansionSource<'_, '_>,
     tables: &mut Tables,
-    tally: &mut Tally,
+    tally: &mut MemberTally,
     users: &[MemberRow],
-    groups: &[Selected],
+    groups: &[FilteredHostGroup],
 ) -> Result<NodeRow, CvtFault>
-    requires { IsLike source.now.lines.tables.now tables.old }
-    ensures stays { IfOk result (λ row. Stays node_in tables.new row (node_if source.now.expand source.now.policy.now
-        (Spec (map (member_in source.now.lines.tables.now) users.now) (map (selected_in source.now.lines.tables.now) groups.now)))) }
-    ensures extended { OnOk result (Extended tables.old tables.new) }
+    requires { AreTablesAlikeButLists source.now.lines.tables.now tables.old }
+    ensures stays { IfOk result (λ row. RowKeepsMeaning node_in_tables tables.new row (line_node_expanded_if source.now.expand source.now.policy.now
+        (Spec (map (member_in_tables source.now.lines.tables.now) users.now) (map (host_group_of_filtered source.now.lines.tables.now) groups.now)))) }
+    ensures extended { OnOk result (IsTableExtension tables.old tables.new) }
     ensures counted { OnOk result (source.now.expand ≡ true → tally.new.count ≡ tally.old.count
-        + node_count (node_if source.now.expand source.now.policy.now
-        (Spec (map (member_in source.now.lines.tables.now) users.now) (map (selected_in source.now.lines.tables.now) groups.now)))) }
-    ensures fault { IfErr result (IsRefusal source.now.expand (tally.old.count
-        + node_count (node_if source.now.expand source.now.policy.now
-        (Spec (map (member_in source.now.lines.tables.now) users.now) (map (selected_in source.now.lines.tables.now) groups.now))))) }
+        + node_member_count (line_node_expanded_if source.now.expand source.now.policy.now
+        (Spec (map (member_in_tables source.now.lines.tables.now) users.now) (map (host_group_of_filtered source.now.lines.tables.now) groups.now)))) }
+    ensures fault { IfErr result (IsRewriteRefusal source.now.expand (tally.old.count
+        + node_member_count (line_node_expanded_if source.now.expand source.now.policy.now
+        (Spec (map (member_in_tables source.now.lines.tables.now) users.now) (map (host_group_of_filtered source.now.lines.tables.now) groups.now))))) }
 {
-    let users = write_list(alloc, source, tables, tally, Kind::User, users)?;
-    let groups = write_group_list(alloc, source, tables, tally, groups)?;
+    let users = write_counted_list(alloc, source, tables, tally, Kind::User, users)?;
+    let groups = write_rewritten_host_groups(alloc, source, tables, tally, groups)?;
     Ok(NodeRow::Spec { users, groups })
 }

@@ -1,26 +1,22 @@
 //! Lines of a policy, filtered and with their aliases replaced.
 #![tactic(auto)]
 
-mod aliases;
 mod changing;
 mod commands;
-mod copying;
-mod definitions;
+mod copied_tables;
 mod filter;
 mod filter_text;
+mod filter_values;
 mod filtering;
-mod flatten;
 mod groups;
-mod listing;
+mod list_writing;
 mod matching;
+mod member_tally;
 mod nodes;
 mod pruning;
 mod rewriting;
 mod selecting;
-mod shortcuts;
-mod tally;
-mod values;
 
-pub use changing::{Changes, Rewritten, rewrite, rewrite_acyclic};
+pub use changing::{RewriteChanges, RewrittenPolicy, rewrite_acyclic_policy, rewrite_policy_lines};
 pub use filter::Filter;
 pub use filter_text::{FilterFault, read_filter};

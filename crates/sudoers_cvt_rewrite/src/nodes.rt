@@ -1,81 +1,89 @@
 //! What lines say, written with its aliases replaced or not.
 
 ghost use Rattle.std.specs.Prelude.{◌≡◌, ◌+◌, true, map, IfOk, IfErr, OnOk};
-ghost use Rattle.sudoers_line_rows.specs.Tables.{def_in, defs_in, node_in};
-ghost use Rattle.sudoers_cvt_rewrite.specs.Count.{node_count};
-ghost use Rattle.sudoers_cvt_rewrite.specs.internal.Extended.{IsLike, Extended, Stays};
-ghost use Rattle.sudoers_cvt_rewrite.specs.internal.Written.{IsRefusal, node_if};
+ghost use Rattle.sudoers_line_rows.specs.Tables.{alias_definition_in_tables, alias_definitions_in_tables, node_in_tables};
+ghost use Rattle.sudoers_cvt_rewrite.specs.Count.{node_member_count};
+ghost use Rattle.sudoers_cvt_rewrite.specs.internal.Extended.{AreTablesAlikeButLists, IsTableExtension, RowKeepsMeaning};
+ghost use Rattle.sudoers_cvt_rewrite.specs.internal.Written.{IsRewriteRefusal, line_node_expanded_if};
 
-use crate::aliases::Expansion;
-use crate::copying::{write_defs, write_members};
-use crate::groups::write_spec;
-use crate::listing::write_own_scope;
-use crate::selecting::select_all;
-use crate::tally::Tally;
+use crate::copied_tables::{append_definition_rows, append_member_rows};
+use crate::groups::write_rewritten_spec;
+use crate::list_writing::write_optional_scope;
+use crate::member_tally::MemberTally;
+use crate::selecting::select_all_host_groups;
 use std::alloc::{AllocError, Global};
 use sudoers_cvt_rules::CvtFault;
-use sudoers_line_rows::{DefRow, NodeRow, Range, Tables, rows_in};
+use sudoers_line_rows::{AliasDefinitionRow, NodeRow, RowRange, Tables, rows_in};
+use sudoers_match_list::ExpansionSource;
 
 /// Writes a definition as it stands in the tables `base`.
-fn write_def(base: &Tables, tables: &mut Tables, row: &DefRow) -> Result<DefRow, AllocError>
-    requires { IsLike base.now tables.old }
-    ensures stays { IfOk result (λ new. Stays def_in tables.new new (def_in base.now row.now)) }
-    ensures extended { Extended tables.old tables.new }
+fn write_copied_definition(
+    base: &Tables,
+    tables: &mut Tables,
+    row: &AliasDefinitionRow,
+) -> Result<AliasDefinitionRow, AllocError>
+    requires { AreTablesAlikeButLists base.now tables.old }
+    ensures stays { IfOk result (λ new. RowKeepsMeaning alias_definition_in_tables tables.new new (alias_definition_in_tables base.now row.now)) }
+    ensures extended { IsTableExtension tables.old tables.new }
 {
-    let members = write_members(tables, rows_in(base.members.as_slice(), row.members))?;
-    Ok(DefRow { members, ..*row })
+    let members = append_member_rows(tables, rows_in(base.members.as_slice(), row.members))?;
+    Ok(AliasDefinitionRow { members, ..*row })
 }
 
 /// Writes definitions as they stand in the tables `base`.
-fn write_def_list(
+fn write_copied_definitions(
     alloc: Global,
     base: &Tables,
     tables: &mut Tables,
-    rows: &[DefRow],
-) -> Result<Range, AllocError>
-    requires { IsLike base.now tables.old }
-    ensures stays { IfOk result (λ range. Stays defs_in tables.new range (map (def_in base.now) rows.now)) }
-    ensures extended { OnOk result (Extended tables.old tables.new) }
+    rows: &[AliasDefinitionRow],
+) -> Result<RowRange, AllocError>
+    requires { AreTablesAlikeButLists base.now tables.old }
+    ensures stays { IfOk result (λ range. RowKeepsMeaning alias_definitions_in_tables tables.new range (map (alias_definition_in_tables base.now) rows.now)) }
+    ensures extended { OnOk result (IsTableExtension tables.old tables.new) }
 {
     let mut out = Vec::new(alloc);
     for row in rows {
-        out.push(write_def(base, tables, row)?)?;
+        out.push(write_copied_definition(base, tables, row)?)?;
     }
-    write_defs(tables, out.as_slice())
+    append_definition_rows(tables, out.as_slice())
 }
 
 /// Writes what a line says, its aliases replaced if that is wanted, and counts its members. Definitions stay as they are.
-pub fn write_node(
+pub fn write_rewritten_node(
     alloc: Global,
-    source: &Expansion<'_, '_>,
+    source: &ExpansionSource<'_, '_>,
     tables: &mut Tables,
-    tally: &mut Tally,
+    tally: &mut MemberTally,
     row: &NodeRow,
 ) -> Result<NodeRow, CvtFault>
-    requires { IsLike source.now.lines.tables.now tables.old }
-    ensures stays { IfOk result (λ new. Stays node_in tables.new new
-        (node_if source.now.expand source.now.policy.now (node_in source.now.lines.tables.now row.now))) }
-    ensures extended { OnOk result (Extended tables.old tables.new) }
+    requires { AreTablesAlikeButLists source.now.lines.tables.now tables.old }
+    ensures stays { IfOk result (λ new. RowKeepsMeaning node_in_tables tables.new new
+        (line_node_expanded_if source.now.expand source.now.policy.now (node_in_tables source.now.lines.tables.now row.now))) }
+    ensures extended { OnOk result (IsTableExtension tables.old tables.new) }
     ensures counted { OnOk result (source.now.expand ≡ true → tally.new.count ≡ tally.old.count
-        + node_count (node_if source.now.expand source.now.policy.now (node_in source.now.lines.tables.now row.now))) }
-    ensures fault { IfErr result (IsRefusal source.now.expand (tally.old.count
-        + node_count (node_if source.now.expand source.now.policy.now (node_in source.now.lines.tables.now row.now)))) }
+        + node_member_count (line_node_expanded_if source.now.expand source.now.policy.now (node_in_tables source.now.lines.tables.now row.now))) }
+    ensures fault { IfErr result (IsRewriteRefusal source.now.expand (tally.old.count
+        + node_member_count (line_node_expanded_if source.now.expand source.now.policy.now (node_in_tables source.now.lines.tables.now row.now)))) }
 {
     let base = source.lines.tables;
     match *row {
         NodeRow::Defaults { scope, params } => {
-            let scope = write_own_scope(alloc, source, tables, tally, scope)?;
+            let scope = write_optional_scope(alloc, source, tables, tally, scope)?;
             Ok(NodeRow::Defaults { scope, params })
         }
         NodeRow::Alias { kind, defs } => {
             let defs = rows_in(base.defs.as_slice(), defs);
-            let defs = write_def_list(alloc, base, tables, defs)?;
+            let defs = write_copied_definitions(alloc, base, tables, defs)?;
             Ok(NodeRow::Alias { kind, defs })
         }
         NodeRow::Spec { users, groups } => {
             let users = rows_in(base.members.as_slice(), users);
-            let groups = select_all(alloc, base, rows_in(base.groups.as_slice(), groups))?;
-            write_spec(alloc, source, tables, tally, users, groups.as_slice())
+            let groups = select_all_host_groups(
+                alloc,
+                base,
+                rows_in(base.groups.as_slice(), groups),
+            )?;
+            write_rewritten_spec(alloc, source, tables, tally, users, groups.as_slice())
         }
         NodeRow::Blank | NodeRow::Comment | NodeRow::Include { .. } => Ok(*row),
     }

@@ -2,36 +2,36 @@
 
 ghost use Rattle.std.specs.Prelude.{◌≡◌, map, IfOk};
 ghost use Rattle.std.specs.List.{filter as passing};
-ghost use Rattle.sudoers_line_rows.specs.Tables.{member_in};
-ghost use Rattle.sudoers_line_rows.specs.View.{members_shown};
-ghost use Rattle.sudoers_match.specs.internal.Straight.{IsStraight};
-ghost use Rattle.sudoers_cvt_rewrite.specs.internal.Matcher.{IsMatcher};
-ghost use Rattle.sudoers_cvt_rewrite.specs.internal.Pruned.{keeps, keeps_member};
+ghost use Rattle.sudoers_line_rows.specs.Tables.{member_in_tables};
+ghost use Rattle.sudoers_line_rows.specs.View.{members_of_view};
+ghost use Rattle.sudoers_match.specs.internal.Straight.{LeadsToNoCyclicAlias};
+ghost use Rattle.sudoers_cvt_rewrite.specs.internal.Matcher.{IsValidFilterMatcher};
+ghost use Rattle.sudoers_cvt_rewrite.specs.internal.Pruned.{is_list_kept_by_filter, is_member_kept_by_filter};
 
-use crate::matching::{Asked, Matcher};
+use crate::matching::{FilterContext, FilterMatcher};
 use std::alloc::{AllocError, Global};
 use std::slice;
-use sudoers_tree::{Kind, MemberRow, Rows};
+use sudoers_tree::{Kind, MemberRow, RowsOfTable};
 
-impl<'a> Matcher<'a> {
+impl<'a> FilterMatcher<'a> {
     /// Returns whether a list of this kind names what the filter asks for. It leads to no cyclic alias.
-    fn keeps(
+    fn keeps_members_for_filter(
         &mut self,
-        asked: &Asked<'a, '_>,
+        asked: &FilterContext<'a, '_>,
         kind: Kind,
-        members: &Rows<'_, MemberRow>,
+        members: &RowsOfTable<'_, MemberRow>,
     ) -> Result<bool, AllocError>
-        requires matcher { IsMatcher asked.now.policy.now asked.now.filter.now self.old }
-        requires straight { IsStraight kind asked.now.policy.now (members_shown members.now) }
-        ensures kept { IfOk result (λ _. IsMatcher asked.now.policy.now asked.now.filter.now self.new) }
-        ensures keeps { IfOk result (λ keeps_it. keeps_it ≡ keeps kind asked.now.policy.now asked.now.filter.now (members_shown members.now)) }
+        requires matcher { IsValidFilterMatcher asked.now.policy.now asked.now.filter.now self.old }
+        requires straight { LeadsToNoCyclicAlias kind asked.now.policy.now (members_of_view members.now) }
+        ensures kept { IfOk result (λ _. IsValidFilterMatcher asked.now.policy.now asked.now.filter.now self.new) }
+        ensures keeps { IfOk result (λ keeps_it. keeps_it ≡ is_list_kept_by_filter kind asked.now.policy.now asked.now.filter.now (members_of_view members.now)) }
     {
         match kind {
-            Kind::User if !asked.filter.names_no_user() => {
-                self.says_of_users(asked, members, false)
+            Kind::User if !asked.filter.has_no_user_or_group() => {
+                self.has_wanted_hit_of_users(asked, members, false)
             }
-            Kind::Host if !asked.filter.names_no_host() => {
-                self.says_of_hosts(asked, members, false)
+            Kind::Host if !asked.filter.has_no_filter_host() => {
+                self.has_wanted_hit_of_hosts(asked, members, false)
             }
             _ => Ok(true),
         }
@@ -43,24 +43,24 @@ impl<'a> Matcher<'a> {
     /// # Errors
     ///
     /// Memory ran out. The matcher is of no use then.
-    pub fn prune(
+    pub fn prune_members(
         &mut self,
         alloc: Global,
-        asked: &Asked<'a, '_>,
+        asked: &FilterContext<'a, '_>,
         kind: Kind,
-        members: &Rows<'_, MemberRow>,
+        members: &RowsOfTable<'_, MemberRow>,
     ) -> Result<Vec<MemberRow>, AllocError>
-        requires matcher { IsMatcher asked.now.policy.now asked.now.filter.now self.old }
-        requires straight { IsStraight kind asked.now.policy.now (members_shown members.now) }
-        ensures kept { IfOk result (λ _. IsMatcher asked.now.policy.now asked.now.filter.now self.new) }
-        ensures left { IfOk result (λ left. map (member_in members.now.tables.now) left.items
-            ≡ passing (keeps_member kind asked.now.policy.now asked.now.filter.now) (members_shown members.now)) }
+        requires matcher { IsValidFilterMatcher asked.now.policy.now asked.now.filter.now self.old }
+        requires straight { LeadsToNoCyclicAlias kind asked.now.policy.now (members_of_view members.now) }
+        ensures kept { IfOk result (λ _. IsValidFilterMatcher asked.now.policy.now asked.now.filter.now self.new) }
+        ensures left { IfOk result (λ left. map (member_in_tables members.now.tables.now) left.items
+            ≡ passing (is_member_kept_by_filter kind asked.now.policy.now asked.now.filter.now) (members_of_view members.now)) }
     {
         let mut left = Vec::new(alloc);
         let tables = members.tables;
         for row in members.rows {
             let rows = slice::from_ref(row);
-            if self.keeps(asked, kind, &Rows { tables, rows })? {
+            if self.keeps_members_for_filter(asked, kind, &RowsOfTable { tables, rows })? {
                 left.push(*row)?;
             }
         }

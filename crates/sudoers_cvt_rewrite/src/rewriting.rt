@@ -1,51 +1,50 @@
 //! Policies whose lines are written anew.
 
 ghost use Rattle.std.specs.Prelude.{◌≡◌, true, IfOk, IfErr, IfSome};
-ghost use Rattle.sudoers_line_rows.specs.Tables.{node_in};
-ghost use Rattle.sudoers_tree.specs.Line.{lines_shown};
-ghost use Rattle.sudoers_cvt_rewrite.specs.Changed.{changes_shown};
-ghost use Rattle.sudoers_cvt_rewrite.specs.Count.{lines_count};
-ghost use Rattle.sudoers_cvt_rewrite.specs.internal.Matcher.{IsMatcher};
-ghost use Rattle.sudoers_cvt_rewrite.specs.Rewrite.{filtered_by};
-ghost use Rattle.sudoers_cvt_rewrite.specs.internal.Selected.{chosen_in, NodeIsStraight};
-ghost use Rattle.sudoers_cvt_rewrite.specs.internal.Written.{IsRefusal, node_if, written_lines};
+ghost use Rattle.sudoers_line_rows.specs.Tables.{node_in_tables};
+ghost use Rattle.sudoers_tree.specs.Line.{lines_of_rows};
+ghost use Rattle.sudoers_cvt_rewrite.specs.Changed.{changes_of_view};
+ghost use Rattle.sudoers_cvt_rewrite.specs.Count.{lines_member_count};
+ghost use Rattle.sudoers_cvt_rewrite.specs.internal.Matcher.{IsValidFilterMatcher};
+ghost use Rattle.sudoers_cvt_rewrite.specs.Rewrite.{node_filtered_if_any};
+ghost use Rattle.sudoers_cvt_rewrite.specs.internal.Selected.{node_of_filtered_line, FilterListsLeadToNoCycle};
+ghost use Rattle.sudoers_cvt_rewrite.specs.internal.Written.{IsRewriteRefusal, line_node_expanded_if, lines_with_nodes_mapped};
 
-use crate::aliases::Expansion;
-use crate::changing::Changes;
-use crate::copying::copy_texts;
-use crate::filtering::write_choice;
-use crate::matching::{Asked, Matcher};
-use crate::selecting::{Choice, select_node};
-use crate::tally::Tally;
+use crate::changing::RewriteChanges;
+use crate::copied_tables::copy_tables_without_lists;
+use crate::filtering::write_filtered_line;
+use crate::matching::{FilterContext, FilterMatcher};
+use crate::member_tally::MemberTally;
+use crate::selecting::{FilteredLine, select_filtered_node};
 use std::alloc::{AllocError, Global};
 use std::marker::Model;
 use sudoers_cvt_rules::CvtFault;
-use sudoers_line_rows::{NodeRow, Rows, Tables, Text};
-use sudoers_match_list::Acyclic;
+use sudoers_line_rows::{ByteRange, NodeRow, RowsOfTable, Tables};
+use sudoers_match_list::{AcyclicWalk, ExpansionSource};
 use sudoers_tree::{ALL_NAME_BITS, LineRow};
 
 /// Lines that are written anew. Contracts see the list of the lines with what they say; they have no text.
 #[derive(Drop)]
-pub struct NewLines {
+pub struct RewrittenLines {
     tables: Tables,
     rows: Vec<LineRow>,
 }
 
-impl Model for NewLines {
+impl Model for RewrittenLines {
     ghost use Rattle.std.specs.Prelude.{List, map};
-    ghost use Rattle.sudoers_tree.specs.Line.{Line, line_in};
+    ghost use Rattle.sudoers_tree.specs.Line.{Line, line_of_row};
 
     ghost Value = { List Line };
 
-    ghost view = { λ new. map (line_in new.tables) new.rows.items };
+    ghost view = { λ new. map (line_of_row new.tables) new.rows.items };
 }
 
-impl NewLines {
+impl RewrittenLines {
     /// Returns the lines, as rows.
-    pub fn as_rows(&self) -> Rows<'_, LineRow>
-        ensures { lines_shown result ≡ self.now }
+    pub fn as_rows(&self) -> RowsOfTable<'_, LineRow>
+        ensures { lines_of_rows result ≡ self.now }
     {
-        Rows {
+        RowsOfTable {
             tables: &self.tables,
             rows: self.rows.as_slice(),
         }
@@ -53,61 +52,61 @@ impl NewLines {
 }
 
 /// Returns what is left of a line that says `row`: all of it if there is no filter.
-fn choose<'a>(
+fn choose_filtered_line<'a>(
     alloc: Global,
-    policy: &Acyclic<'a>,
-    changes: &Changes<'_>,
-    matcher: &mut Matcher<'a>,
+    policy: &AcyclicWalk<'a>,
+    changes: &RewriteChanges<'_>,
+    matcher: &mut FilterMatcher<'a>,
     base: &Tables,
     row: &NodeRow,
-) -> Result<Choice, AllocError>
-    requires matcher { IfSome changes.now.filter (λ filter. IsMatcher policy.now filter.now matcher.old) }
-    requires straight { NodeIsStraight policy.now (node_in base.now row.now) }
-    ensures kept { IfOk result (λ _. IfSome changes.now.filter (λ filter. IsMatcher policy.now filter.now matcher.new)) }
-    ensures left { IfOk result (λ left. chosen_in base.now row.now left
-        ≡ filtered_by policy.now (changes_shown changes.now).filter changes.now.prune (node_in base.now row.now)) }
+) -> Result<FilteredLine, AllocError>
+    requires matcher { IfSome changes.now.filter (λ filter. IsValidFilterMatcher policy.now filter.now matcher.old) }
+    requires straight { FilterListsLeadToNoCycle policy.now (node_in_tables base.now row.now) }
+    ensures kept { IfOk result (λ _. IfSome changes.now.filter (λ filter. IsValidFilterMatcher policy.now filter.now matcher.new)) }
+    ensures left { IfOk result (λ left. node_of_filtered_line base.now row.now left
+        ≡ node_filtered_if_any policy.now (changes_of_view changes.now).filter changes.now.prune (node_in_tables base.now row.now)) }
 {
     let Some(filter) = changes.filter else {
-        return Ok(Choice::Stays);
+        return Ok(FilteredLine::Stays);
     };
     let prune = changes.prune;
-    let asked = Asked {
+    let asked = FilterContext {
         policy,
         filter,
         prune,
     };
-    select_node(alloc, &asked, matcher, base, row)
+    select_filtered_node(alloc, &asked, matcher, base, row)
 }
 
 /// Returns the lines of a policy, filtered and with their aliases replaced, and how many members they have if aliases are replaced.
-#[tactic(auto, using(crate::proofs::Extending::extended_self, crate::proofs::Extending::like_on))]
-pub fn write_lines(
+#[tactic(auto, using(crate::proofs::Extending::table_is_extension_of_itself, crate::proofs::Extending::table_likeness_is_transitive))]
+pub fn write_rewritten_lines(
     alloc: Global,
-    source: &Expansion<'_, '_>,
-    changes: &Changes<'_>,
-) -> Result<(NewLines, Tally), CvtFault>
-    ensures lines { IfOk result (λ new. new.0 ≡ written_lines (λ n. node_if source.now.expand source.now.policy.now
-        (filtered_by source.now.policy.now (changes_shown changes.now).filter changes.now.prune n)) source.now.policy.now) }
-    ensures counted { IfOk result (λ new. source.now.expand ≡ true → new.1.count ≡ lines_count new.0) }
-    ensures fault { IfErr result (IsRefusal source.now.expand
-        (lines_count (written_lines (λ n. node_if source.now.expand source.now.policy.now
-        (filtered_by source.now.policy.now (changes_shown changes.now).filter changes.now.prune n)) source.now.policy.now))) }
+    source: &ExpansionSource<'_, '_>,
+    changes: &RewriteChanges<'_>,
+) -> Result<(RewrittenLines, MemberTally), CvtFault>
+    ensures lines { IfOk result (λ new. new.0 ≡ lines_with_nodes_mapped (λ n. line_node_expanded_if source.now.expand source.now.policy.now
+        (node_filtered_if_any source.now.policy.now (changes_of_view changes.now).filter changes.now.prune n)) source.now.policy.now) }
+    ensures counted { IfOk result (λ new. source.now.expand ≡ true → new.1.count ≡ lines_member_count new.0) }
+    ensures fault { IfErr result (IsRewriteRefusal source.now.expand
+        (lines_member_count (lines_with_nodes_mapped (λ n. line_node_expanded_if source.now.expand source.now.policy.now
+        (node_filtered_if_any source.now.policy.now (changes_of_view changes.now).filter changes.now.prune n)) source.now.policy.now))) }
 {
     let policy = source.policy;
     // laws
     policy.is_acyclic();
     let base = source.lines.tables;
-    let mut matcher = Matcher::new(alloc, policy, changes.filter)?;
-    let mut tables = copy_texts(alloc, base)?;
-    let mut tally = Tally {
+    let mut matcher = FilterMatcher::new(alloc, policy, changes.filter)?;
+    let mut tables = copy_tables_without_lists(alloc, base)?;
+    let mut tally = MemberTally {
         count: 0,
         inherited: 0,
     };
     let mut rows = Vec::new(alloc);
     for row in source.lines.rows {
-        let choice = choose(alloc, policy, changes, &mut matcher, base, &row.node)?;
-        let node = write_choice(alloc, source, &mut tables, &mut tally, &row.node, &choice)?;
-        let text = Text { from: 0, to: 0 };
+        let choice = choose_filtered_line(alloc, policy, changes, &mut matcher, base, &row.node)?;
+        let node = write_filtered_line(alloc, source, &mut tables, &mut tally, &row.node, &choice)?;
+        let text = ByteRange { from: 0, to: 0 };
         rows.push(LineRow {
             text,
             node,
@@ -115,5 +114,5 @@ pub fn write_lines(
             lfs: 0,
         })?;
     }
-    Ok((NewLines { tables, rows }, tally))
+    Ok((RewrittenLines { tables, rows }, tally))
 }

@@ -1,104 +1,106 @@
 //! What a filter leaves of lines.
 
 ghost use Rattle.std.specs.Prelude.{◌≡◌, map, IfOk, Some, None, if◌then◌else◌};
-ghost use Rattle.sudoers_line.specs.declared.node.Kind.TheVariants.{User as OfUsers, Host as OfHosts};
-ghost use Rattle.sudoers_line.specs.Node.{Spec as SpecOf};
+ghost use Rattle.sudoers_grammar.specs.declared.node.Kind.TheVariants.{User as OfUsers, Host as OfHosts};
+ghost use Rattle.sudoers_grammar.specs.Node.{Spec as SpecOf};
 ghost use Rattle.sudoers_line_rows.specs.declared.rows.NodeRow.{NodeRow as RowOf};
-ghost use Rattle.sudoers_line_rows.specs.Tables.{group_in, member_in, node_in};
-ghost use Rattle.sudoers_line_rows.specs.View.{members_shown};
-ghost use Rattle.sudoers_match.specs.internal.Straight.{GroupsAreStraight, IsStraight, ScopeIsStraight};
-ghost use Rattle.sudoers_cvt_rewrite.specs.Filter.{filtered_node, group_left, groups_left, list_matches, matches_hosts, scope_matches};
-ghost use Rattle.sudoers_cvt_rewrite.specs.internal.Matcher.{IsMatcher};
-ghost use Rattle.sudoers_cvt_rewrite.specs.internal.Pruned.{members_left};
-ghost use Rattle.sudoers_cvt_rewrite.specs.internal.Selected.{chosen_in, perhaps_selected_in, selected_in, NodeIsStraight};
-ghost use Rattle.sudoers_cvt_rewrite.specs.internal.Written.{perhaps_scope_in};
+ghost use Rattle.sudoers_line_rows.specs.Tables.{host_group_in_tables, member_in_tables, node_in_tables};
+ghost use Rattle.sudoers_line_rows.specs.View.{members_of_view};
+ghost use Rattle.sudoers_match.specs.internal.Straight.{HostGroupsLeadToNoCycle, LeadsToNoCyclicAlias, ScopeLeadsToNoCycle};
+ghost use Rattle.sudoers_cvt_rewrite.specs.Filter.{filtered_node, host_group_left_by_filter, host_groups_left_by_filter, is_list_in_filter, is_host_list_in_filter, is_scope_in_filter};
+ghost use Rattle.sudoers_cvt_rewrite.specs.internal.Matcher.{IsValidFilterMatcher};
+ghost use Rattle.sudoers_cvt_rewrite.specs.internal.Pruned.{members_left_by_filter};
+ghost use Rattle.sudoers_cvt_rewrite.specs.internal.Selected.{node_of_filtered_line, optional_host_group_of_filtered, host_group_of_filtered, FilterListsLeadToNoCycle};
+ghost use Rattle.sudoers_cvt_rewrite.specs.internal.Written.{optional_scope_of_row};
 
-use crate::matching::{Asked, Matcher};
+use crate::matching::{FilterContext, FilterMatcher};
 use std::alloc::{AllocError, Global};
-use sudoers_line_rows::{GroupRow, MemberRow, NodeRow, Range, Rows, ScopeRow, Tables, rows_in};
+use sudoers_line_rows::{
+    HostGroupRow, MemberRow, NodeRow, RowRange, RowsOfTable, ScopeRow, Tables, rows_in,
+};
 use sudoers_tree::Kind;
 
 /// The hosts of a host group that are left, and its commands.
 #[derive(Drop)]
-pub struct Selected {
+pub struct FilteredHostGroup {
     pub hosts: Vec<MemberRow>,
-    pub commands: Range,
+    pub commands: RowRange,
 }
 
 /// What is left of a line: nothing, all of it, or some members and host groups.
 #[derive(Drop)]
-pub enum Choice {
+pub enum FilteredLine {
     Falls,
     Stays,
     Spec {
         users: Vec<MemberRow>,
-        groups: Vec<Selected>,
+        groups: Vec<FilteredHostGroup>,
     },
 }
 
 /// Returns the members of a list of this kind that are left, or all if none is to fall. The list leads to no cyclic alias.
-fn select_members<'a>(
+fn select_matching_members<'a>(
     alloc: Global,
-    asked: &Asked<'a, '_>,
-    matcher: &mut Matcher<'a>,
+    asked: &FilterContext<'a, '_>,
+    matcher: &mut FilterMatcher<'a>,
     kind: Kind,
-    members: &Rows<'_, MemberRow>,
+    members: &RowsOfTable<'_, MemberRow>,
 ) -> Result<Vec<MemberRow>, AllocError>
-    requires matcher { IsMatcher asked.now.policy.now asked.now.filter.now matcher.old }
-    requires straight { IsStraight kind asked.now.policy.now (members_shown members.now) }
-    ensures kept { IfOk result (λ _. IsMatcher asked.now.policy.now asked.now.filter.now matcher.new) }
-    ensures left { IfOk result (λ left. map (member_in members.now.tables.now) left.items
-        ≡ members_left kind asked.now.policy.now asked.now.filter.now asked.now.prune (members_shown members.now)) }
+    requires matcher { IsValidFilterMatcher asked.now.policy.now asked.now.filter.now matcher.old }
+    requires straight { LeadsToNoCyclicAlias kind asked.now.policy.now (members_of_view members.now) }
+    ensures kept { IfOk result (λ _. IsValidFilterMatcher asked.now.policy.now asked.now.filter.now matcher.new) }
+    ensures left { IfOk result (λ left. map (member_in_tables members.now.tables.now) left.items
+        ≡ members_left_by_filter kind asked.now.policy.now asked.now.filter.now asked.now.prune (members_of_view members.now)) }
 {
     if asked.prune {
-        matcher.prune(alloc, asked, kind, members)
+        matcher.prune_members(alloc, asked, kind, members)
     } else {
         Vec::from_slice(alloc, members.rows)
     }
 }
 
 /// Returns what is left of a host group, if it matches. Its hosts lead to no cyclic alias.
-fn select_group<'a>(
+fn select_matching_host_group<'a>(
     alloc: Global,
-    asked: &Asked<'a, '_>,
-    matcher: &mut Matcher<'a>,
+    asked: &FilterContext<'a, '_>,
+    matcher: &mut FilterMatcher<'a>,
     base: &Tables,
-    row: &GroupRow,
-) -> Result<Option<Selected>, AllocError>
-    requires matcher { IsMatcher asked.now.policy.now asked.now.filter.now matcher.old }
-    requires straight { IsStraight OfHosts asked.now.policy.now (group_in base.now row.now).hosts }
-    ensures kept { IfOk result (λ _. IsMatcher asked.now.policy.now asked.now.filter.now matcher.new) }
-    ensures left { IfOk result (λ left. perhaps_selected_in base.now left
-        ≡ (if matches_hosts asked.now.policy.now asked.now.filter.now (group_in base.now row.now).hosts
-        then Some (group_left asked.now.policy.now asked.now.filter.now asked.now.prune (group_in base.now row.now)) else None)) }
+    row: &HostGroupRow,
+) -> Result<Option<FilteredHostGroup>, AllocError>
+    requires matcher { IsValidFilterMatcher asked.now.policy.now asked.now.filter.now matcher.old }
+    requires straight { LeadsToNoCyclicAlias OfHosts asked.now.policy.now (host_group_in_tables base.now row.now).hosts }
+    ensures kept { IfOk result (λ _. IsValidFilterMatcher asked.now.policy.now asked.now.filter.now matcher.new) }
+    ensures left { IfOk result (λ left. optional_host_group_of_filtered base.now left
+        ≡ (if is_host_list_in_filter asked.now.policy.now asked.now.filter.now (host_group_in_tables base.now row.now).hosts
+        then Some (host_group_left_by_filter asked.now.policy.now asked.now.filter.now asked.now.prune (host_group_in_tables base.now row.now)) else None)) }
 {
     let rows = rows_in(base.members.as_slice(), row.hosts);
-    let members = Rows { tables: base, rows };
-    if !matcher.matches_hosts(asked, &members)? {
+    let members = RowsOfTable { tables: base, rows };
+    if !matcher.matches_host_filter(asked, &members)? {
         return Ok(None);
     }
-    let hosts = select_members(alloc, asked, matcher, Kind::Host, &members)?;
+    let hosts = select_matching_members(alloc, asked, matcher, Kind::Host, &members)?;
     let commands = row.commands;
-    Ok(Some(Selected { hosts, commands }))
+    Ok(Some(FilteredHostGroup { hosts, commands }))
 }
 
 /// Returns what is left of host groups. Their hosts lead to no cyclic alias.
-fn select_groups<'a>(
+fn select_matching_host_groups<'a>(
     alloc: Global,
-    asked: &Asked<'a, '_>,
-    matcher: &mut Matcher<'a>,
+    asked: &FilterContext<'a, '_>,
+    matcher: &mut FilterMatcher<'a>,
     base: &Tables,
-    rows: &[GroupRow],
-) -> Result<Vec<Selected>, AllocError>
-    requires matcher { IsMatcher asked.now.policy.now asked.now.filter.now matcher.old }
-    requires straight { GroupsAreStraight asked.now.policy.now (map (group_in base.now) rows.now) }
-    ensures kept { IfOk result (λ _. IsMatcher asked.now.policy.now asked.now.filter.now matcher.new) }
-    ensures left { IfOk result (λ left. map (selected_in base.now) left.items
-        ≡ groups_left asked.now.policy.now asked.now.filter.now asked.now.prune (map (group_in base.now) rows.now)) }
+    rows: &[HostGroupRow],
+) -> Result<Vec<FilteredHostGroup>, AllocError>
+    requires matcher { IsValidFilterMatcher asked.now.policy.now asked.now.filter.now matcher.old }
+    requires straight { HostGroupsLeadToNoCycle asked.now.policy.now (map (host_group_in_tables base.now) rows.now) }
+    ensures kept { IfOk result (λ _. IsValidFilterMatcher asked.now.policy.now asked.now.filter.now matcher.new) }
+    ensures left { IfOk result (λ left. map (host_group_of_filtered base.now) left.items
+        ≡ host_groups_left_by_filter asked.now.policy.now asked.now.filter.now asked.now.prune (map (host_group_in_tables base.now) rows.now)) }
 {
     let mut out = Vec::new(alloc);
     for row in rows {
-        if let Some(group) = select_group(alloc, asked, matcher, base, row)? {
+        if let Some(group) = select_matching_host_group(alloc, asked, matcher, base, row)? {
             out.push(group)?;
         }
     }
@@ -106,12 +108,16 @@ fn select_groups<'a>(
 }
 
 /// Returns a host group of which all is left.
-fn select_whole(alloc: Global, base: &Tables, row: &GroupRow) -> Result<Selected, AllocError>
-    ensures { IfOk result (λ whole. selected_in base.now whole ≡ group_in base.now row.now) }
+fn select_whole_host_group(
+    alloc: Global,
+    base: &Tables,
+    row: &HostGroupRow,
+) -> Result<FilteredHostGroup, AllocError>
+    ensures { IfOk result (λ whole. host_group_of_filtered base.now whole ≡ host_group_in_tables base.now row.now) }
 {
     let hosts = Vec::from_slice(alloc, rows_in(base.members.as_slice(), row.hosts))?;
     let commands = row.commands;
-    Ok(Selected { hosts, commands })
+    Ok(FilteredHostGroup { hosts, commands })
 }
 
 /// Returns host groups of which all is left.
@@ -119,113 +125,118 @@ fn select_whole(alloc: Global, base: &Tables, row: &GroupRow) -> Result<Selected
 /// # Errors
 ///
 /// Memory ran out.
-pub fn select_all(
+pub fn select_all_host_groups(
     alloc: Global,
     base: &Tables,
-    rows: &[GroupRow],
-) -> Result<Vec<Selected>, AllocError>
-    ensures { IfOk result (λ all. map (selected_in base.now) all.items ≡ map (group_in base.now) rows.now) }
+    rows: &[HostGroupRow],
+) -> Result<Vec<FilteredHostGroup>, AllocError>
+    ensures { IfOk result (λ all. map (host_group_of_filtered base.now) all.items ≡ map (host_group_in_tables base.now) rows.now) }
 {
     let mut all = Vec::new(alloc);
     for row in rows {
-        all.push(select_whole(alloc, base, row)?)?;
+        all.push(select_whole_host_group(alloc, base, row)?)?;
     }
     Ok(all)
 }
 
 /// Returns what is left of a user specification. Its users and hosts lead to no cyclic alias.
-fn select_spec<'a>(
+fn select_filtered_spec<'a>(
     alloc: Global,
-    asked: &Asked<'a, '_>,
-    matcher: &mut Matcher<'a>,
-    users: &Rows<'_, MemberRow>,
-    groups: &[GroupRow],
-) -> Result<Choice, AllocError>
-    requires matcher { IsMatcher asked.now.policy.now asked.now.filter.now matcher.old }
-    requires users { IsStraight OfUsers asked.now.policy.now (members_shown users.now) }
-    requires hosts { GroupsAreStraight asked.now.policy.now (map (group_in users.now.tables.now) groups.now) }
-    ensures kept { IfOk result (λ _. IsMatcher asked.now.policy.now asked.now.filter.now matcher.new) }
-    ensures left { IfOk result (λ left. (row : RowOf) → chosen_in users.now.tables.now row left ≡ filtered_node asked.now.policy.now asked.now.filter.now asked.now.prune
-        (SpecOf (members_shown users.now) (map (group_in users.now.tables.now) groups.now))) }
+    asked: &FilterContext<'a, '_>,
+    matcher: &mut FilterMatcher<'a>,
+    users: &RowsOfTable<'_, MemberRow>,
+    groups: &[HostGroupRow],
+) -> Result<FilteredLine, AllocError>
+    requires matcher { IsValidFilterMatcher asked.now.policy.now asked.now.filter.now matcher.old }
+    requires users { LeadsToNoCyclicAlias OfUsers asked.now.policy.now (members_of_view users.now) }
+    requires hosts { HostGroupsLeadToNoCycle asked.now.policy.now (map (host_group_in_tables users.now.tables.now) groups.now) }
+    ensures kept { IfOk result (λ _. IsValidFilterMatcher asked.now.policy.now asked.now.filter.now matcher.new) }
+    ensures left { IfOk result (λ left. (row : RowOf) → node_of_filtered_line users.now.tables.now row left ≡ filtered_node asked.now.policy.now asked.now.filter.now asked.now.prune
+        (SpecOf (members_of_view users.now) (map (host_group_in_tables users.now.tables.now) groups.now))) }
 {
-    if !matcher.matches_users(asked, users)? {
-        return Ok(Choice::Falls);
+    if !matcher.matches_user_filter(asked, users)? {
+        return Ok(FilteredLine::Falls);
     }
-    let groups = select_groups(alloc, asked, matcher, users.tables, groups)?;
+    let groups = select_matching_host_groups(alloc, asked, matcher, users.tables, groups)?;
     if groups.is_empty() {
-        return Ok(Choice::Falls);
+        return Ok(FilteredLine::Falls);
     }
-    let users = select_members(alloc, asked, matcher, Kind::User, users)?;
-    Ok(Choice::Spec { users, groups })
+    let users = select_matching_members(alloc, asked, matcher, Kind::User, users)?;
+    Ok(FilteredLine::Spec { users, groups })
 }
 
 /// Returns whether the scope of a Defaults line matches. Its list leads to no cyclic alias.
-fn matches_scope<'a>(
-    asked: &Asked<'a, '_>,
-    matcher: &mut Matcher<'a>,
+fn matches_scope_filter<'a>(
+    asked: &FilterContext<'a, '_>,
+    matcher: &mut FilterMatcher<'a>,
     base: &Tables,
     scope: Option<ScopeRow>,
 ) -> Result<bool, AllocError>
-    requires matcher { IsMatcher asked.now.policy.now asked.now.filter.now matcher.old }
-    requires straight { ScopeIsStraight asked.now.policy.now (perhaps_scope_in base.now scope) }
-    ensures kept { IfOk result (λ _. IsMatcher asked.now.policy.now asked.now.filter.now matcher.new) }
-    ensures matches { IfOk result (λ matches. matches ≡ scope_matches asked.now.policy.now asked.now.filter.now (perhaps_scope_in base.now scope)) }
+    requires matcher { IsValidFilterMatcher asked.now.policy.now asked.now.filter.now matcher.old }
+    requires straight { ScopeLeadsToNoCycle asked.now.policy.now (optional_scope_of_row base.now scope) }
+    ensures kept { IfOk result (λ _. IsValidFilterMatcher asked.now.policy.now asked.now.filter.now matcher.new) }
+    ensures matches { IfOk result (λ matches. matches ≡ is_scope_in_filter asked.now.policy.now asked.now.filter.now (optional_scope_of_row base.now scope)) }
 {
     let Some(scope) = scope else {
         return Ok(true);
     };
     let rows = rows_in(base.members.as_slice(), scope.members);
-    matches_list(asked, matcher, scope.kind, &Rows { tables: base, rows })
+    matches_list_filter(
+        asked,
+        matcher,
+        scope.kind,
+        &RowsOfTable { tables: base, rows },
+    )
 }
 
 /// Returns whether a list of this kind matches. It leads to no cyclic alias.
-fn matches_list<'a>(
-    asked: &Asked<'a, '_>,
-    matcher: &mut Matcher<'a>,
+fn matches_list_filter<'a>(
+    asked: &FilterContext<'a, '_>,
+    matcher: &mut FilterMatcher<'a>,
     kind: Kind,
-    members: &Rows<'_, MemberRow>,
+    members: &RowsOfTable<'_, MemberRow>,
 ) -> Result<bool, AllocError>
-    requires matcher { IsMatcher asked.now.policy.now asked.now.filter.now matcher.old }
-    requires straight { IsStraight kind asked.now.policy.now (members_shown members.now) }
-    ensures kept { IfOk result (λ _. IsMatcher asked.now.policy.now asked.now.filter.now matcher.new) }
-    ensures matches { IfOk result (λ matches. matches ≡ list_matches asked.now.policy.now asked.now.filter.now kind (members_shown members.now)) }
+    requires matcher { IsValidFilterMatcher asked.now.policy.now asked.now.filter.now matcher.old }
+    requires straight { LeadsToNoCyclicAlias kind asked.now.policy.now (members_of_view members.now) }
+    ensures kept { IfOk result (λ _. IsValidFilterMatcher asked.now.policy.now asked.now.filter.now matcher.new) }
+    ensures matches { IfOk result (λ matches. matches ≡ is_list_in_filter asked.now.policy.now asked.now.filter.now kind (members_of_view members.now)) }
 {
     match kind {
-        Kind::User => matcher.matches_users(asked, members),
-        Kind::Host => matcher.matches_hosts(asked, members),
+        Kind::User => matcher.matches_user_filter(asked, members),
+        Kind::Host => matcher.matches_host_filter(asked, members),
         Kind::Runas | Kind::Cmnd => Ok(true),
     }
 }
 
 /// Returns what the filter leaves of a line. `row` is what the line says. No list that the filter reads leads to a cyclic alias.
-pub fn select_node<'a>(
+pub fn select_filtered_node<'a>(
     alloc: Global,
-    asked: &Asked<'a, '_>,
-    matcher: &mut Matcher<'a>,
+    asked: &FilterContext<'a, '_>,
+    matcher: &mut FilterMatcher<'a>,
     base: &Tables,
     row: &NodeRow,
-) -> Result<Choice, AllocError>
-    requires matcher { IsMatcher asked.now.policy.now asked.now.filter.now matcher.old }
-    requires straight { NodeIsStraight asked.now.policy.now (node_in base.now row.now) }
-    ensures kept { IfOk result (λ _. IsMatcher asked.now.policy.now asked.now.filter.now matcher.new) }
-    ensures left { IfOk result (λ left. chosen_in base.now row.now left ≡ filtered_node asked.now.policy.now asked.now.filter.now asked.now.prune (node_in base.now row.now)) }
+) -> Result<FilteredLine, AllocError>
+    requires matcher { IsValidFilterMatcher asked.now.policy.now asked.now.filter.now matcher.old }
+    requires straight { FilterListsLeadToNoCycle asked.now.policy.now (node_in_tables base.now row.now) }
+    ensures kept { IfOk result (λ _. IsValidFilterMatcher asked.now.policy.now asked.now.filter.now matcher.new) }
+    ensures left { IfOk result (λ left. node_of_filtered_line base.now row.now left ≡ filtered_node asked.now.policy.now asked.now.filter.now asked.now.prune (node_in_tables base.now row.now)) }
 {
     match *row {
         NodeRow::Spec { users, groups } => {
             let rows = rows_in(base.members.as_slice(), users);
-            let users = Rows { tables: base, rows };
+            let users = RowsOfTable { tables: base, rows };
             let groups = rows_in(base.groups.as_slice(), groups);
-            select_spec(alloc, asked, matcher, &users, groups)
+            select_filtered_spec(alloc, asked, matcher, &users, groups)
         }
         NodeRow::Defaults { scope, .. } => {
-            if matches_scope(asked, matcher, base, scope)? {
-                Ok(Choice::Stays)
+            if matches_scope_filter(asked, matcher, base, scope)? {
+                Ok(FilteredLine::Stays)
             } else {
-                Ok(Choice::Falls)
+                Ok(FilteredLine::Falls)
             }
         }
         NodeRow::Alias { .. } | NodeRow::Blank | NodeRow::Comment | NodeRow::Include { .. } => {
-            Ok(Choice::Stays)
+            Ok(FilteredLine::Stays)
         }
     }
 }

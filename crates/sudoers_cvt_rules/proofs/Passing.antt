@@ -1,52 +1,44 @@
 -- Commands as they are printed one after another, each with what it inherits.
-use Rattle.std.proofs.Common.{◌≡◌, ℕ, ◌≤◌, List, [], ◌∷◌, ◌++◌, length, map, flat_map, codes, refl, sym, ap, subst, ◌∙◌, append_assoc, append-nil, arith}
+use Rattle.std.proofs.Common.{◌≡◌, ℕ, List, ◌∷◌, ◌++◌, map, flat_map, codes, ap, ◌∙◌, append_assoc}
 use Rattle.std.specs.List.{join_by}
-use Rattle.std.proofs.lemmas.List.{length-append}
-use Rattle.sudoers_line.specs.Node.{CmdSpec}
-use Rattle.sudoers_match.specs.declared.head.Head.{Head as HeadHeld}
-use Rattle.sudoers_match.specs.Heads.{Head, no_head, inherit, filled}
-use Rattle.sudoers_match.specs.IsHead.{IsHead}
+use Rattle.sudoers_grammar.specs.Node.{CmdSpec}
+use Rattle.sudoers_match.specs.declared.command_settings.CommandSettings.{CommandSettings as HeadHeld}
+use Rattle.sudoers_match.specs.Heads.{SettingsOfCommand, empty_command_settings, settings_after_command, commands_with_settings}
+use Rattle.sudoers_match.specs.IsHead.{HoldsCommandSettings}
 use Rattle.sudoers_cvt_spell.specs.Commands.{printed_command}
 use Rattle.sudoers_cvt_rules.specs.Effective.{effective_command, effective_commands}
 
 -- commands behind others that leave this to be inherited
-abbrev pub more_printed : Head → List CmdSpec → List ℕ
-more_printed h cs = flat_map (λ (c : CmdSpec). codes ", " ++ printed_command c) (map effective_command (filled h cs))
+abbrev pub text_of_commands_after_settings : SettingsOfCommand → List CmdSpec → List ℕ
+text_of_commands_after_settings h cs = flat_map (λ (c : CmdSpec). codes ", " ++ printed_command c) (map effective_command (commands_with_settings h cs))
 
 -- With these commands, what is printed becomes the whole.
-pub record IsSoFar (held : HeadHeld) (out : List ℕ) (rest : List CmdSpec) (whole : List ℕ) : Type 0 where
-  pub head : Head
-  pub is_head : IsHead held head
-  pub so_far : out ++ more_printed head rest ≡ whole
+pub record AreCommandsPrintedSoFar (held : HeadHeld) (out : List ℕ) (rest : List CmdSpec) (whole : List ℕ) : Type 0 where
+  pub head : SettingsOfCommand
+  pub is_head : HoldsCommandSettings held head
+  pub so_far : out ++ text_of_commands_after_settings head rest ≡ whole
 
-pub first_passed : (held : HeadHeld) (out out' : List ℕ) (c : CmdSpec) (cs : List CmdSpec) → IsHead held (inherit no_head c)
-    → out' ≡ out ++ printed_command (effective_command (inherit no_head c, c.member))
-    → IsSoFar held out' cs (out ++ join_by printed_command (codes ", ") (effective_commands (c ∷ cs)))
-first_passed held out out' c cs is e = record {
-  head = inherit no_head c;
+pub first_printed_command_begins_so_far : (held : HeadHeld) (out out' : List ℕ) (c : CmdSpec) (cs : List CmdSpec) → HoldsCommandSettings held (settings_after_command empty_command_settings c)
+    → out' ≡ out ++ printed_command (effective_command (settings_after_command empty_command_settings c, c.member))
+    → AreCommandsPrintedSoFar held out' cs (out ++ join_by printed_command (codes ", ") (effective_commands (c ∷ cs)))
+first_printed_command_begins_so_far held out out' c cs is e = record {
+  head = settings_after_command empty_command_settings c;
   is_head = is;
-  so_far = ap (λ o. o ++ more_printed (inherit no_head c) cs) e
-      ∙ append_assoc out (printed_command (effective_command (inherit no_head c, c.member))) (more_printed (inherit no_head c) cs);
+  so_far = ap (λ o. o ++ text_of_commands_after_settings (settings_after_command empty_command_settings c) cs) e
+      ∙ append_assoc out (printed_command (effective_command (settings_after_command empty_command_settings c, c.member))) (text_of_commands_after_settings (settings_after_command empty_command_settings c) cs);
 }
 
-regrouped : (a b c d : List ℕ) → ((a ++ b) ++ c) ++ d ≡ a ++ ((b ++ c) ++ d)
-regrouped a b c d = simp append_assoc
+four_appended_texts_are_regrouped : (a b c d : List ℕ) → ((a ++ b) ++ c) ++ d ≡ a ++ ((b ++ c) ++ d)
+four_appended_texts_are_regrouped a b c d = simp append_assoc
 
-pub more_passed : (held held' : HeadHeld) (out out' : List ℕ) (c : CmdSpec) (cs : List CmdSpec) (whole : List ℕ) → (s : IsSoFar held out (c ∷ cs) whole)
-    → IsHead held' (inherit s.head c) → out' ≡ (out ++ codes ", ") ++ printed_command (effective_command (inherit s.head c, c.member))
-    → IsSoFar held' out' cs whole
-more_passed held held' out out' c cs whole s is e =
-    let h = inherit s.head c in
+pub printing_next_command_keeps_so_far : (held held' : HeadHeld) (out out' : List ℕ) (c : CmdSpec) (cs : List CmdSpec) (whole : List ℕ) → (s : AreCommandsPrintedSoFar held out (c ∷ cs) whole)
+    → HoldsCommandSettings held' (settings_after_command s.head c) → out' ≡ (out ++ codes ", ") ++ printed_command (effective_command (settings_after_command s.head c, c.member))
+    → AreCommandsPrintedSoFar held' out' cs whole
+printing_next_command_keeps_so_far held held' out out' c cs whole s is e =
+    let h = settings_after_command s.head c in
     let p = printed_command (effective_command (h, c.member)) in
     record {
       head = h;
       is_head = is;
-      so_far = ap (λ o. o ++ more_printed h cs) e ∙ regrouped out (codes ", ") p (more_printed h cs) ∙ s.so_far;
+      so_far = ap (λ o. o ++ text_of_commands_after_settings h cs) e ∙ four_appended_texts_are_regrouped out (codes ", ") p (text_of_commands_after_settings h cs) ∙ s.so_far;
     }
-
-pub all_passed : (held : HeadHeld) (out whole : List ℕ) → IsSoFar held out [] whole → out ≡ whole
-all_passed held out whole s = sym (append-nil out) ∙ s.so_far
-
--- What is printed so far is no longer than the whole.
-pub within_whole : (held : HeadHeld) (out : List ℕ) (rest : List CmdSpec) (whole : List ℕ) → IsSoFar held out rest whole → length out ≤ length whole
-within_whole held out rest whole s = omega (arith, length-append out (more_printed s.head rest), ap length s.so_far)

@@ -1,4 +1,5 @@
 pub mod Effective
 pub mod Rules
 pub mod Rule
+pub mod Fault
 pub mod internal

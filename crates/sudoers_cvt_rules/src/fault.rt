@@ -1,6 +1,7 @@
 //! Why rules are not converted.
 
 use std::alloc::{AllocError, AllocFailed};
+use sudoers_match_list::FlattenFault;
 use thiserror::Error;
 
 /// Why rules are not converted.
@@ -39,5 +40,19 @@ impl<T: Drop> From<AllocFailed<T>> for CvtFault {
 
     fn from(_: AllocFailed<T>) -> CvtFault {
         CvtFault::NoMemory
+    }
+}
+
+impl From<FlattenFault> for CvtFault {
+    ghost use Rattle.std.specs.Prelude.{◌≡◌};
+    ghost use Rattle.sudoers_cvt_rules.specs.Fault.{cvt_fault_of_flatten_fault};
+
+    ghost from_gives = { λ fault e. e ≡ cvt_fault_of_flatten_fault fault };
+
+    fn from(fault: FlattenFault) -> CvtFault {
+        match fault {
+            FlattenFault::TooLarge => CvtFault::TooLarge,
+            FlattenFault::NoMemory => CvtFault::NoMemory,
+        }
     }
 }

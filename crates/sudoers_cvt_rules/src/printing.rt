@@ -3,36 +3,36 @@
 ghost use Rattle.std.specs.Prelude.{◌≡◌, ◌⊎◌, true, false, ◌≤◌, ◌<◌, ◌++◌, length, map, IfOk, OnOk, IfErr};
 ghost use Rattle.std.specs.List.{AllByRecursion};
 ghost use Rattle.sudoers_text.specs.Fault.{text_limit, line_limit};
-ghost use Rattle.sudoers_line_rows.specs.View.{member_shown};
-ghost use Rattle.sudoers_match.specs.Heads.{Head as HeadOf};
-ghost use Rattle.sudoers_match.specs.IsHead.{IsHead};
+ghost use Rattle.sudoers_line_rows.specs.View.{member_of_view};
+ghost use Rattle.sudoers_match.specs.Heads.{SettingsOfCommand as HeadOf};
+ghost use Rattle.sudoers_match.specs.IsHead.{HoldsCommandSettings};
 ghost use Rattle.sudoers_cvt_spell.specs.Commands.{printed_command};
 ghost use Rattle.sudoers_cvt_spell.specs.Lines.{printed_line, printed_lines};
 ghost use Rattle.sudoers_cvt_rules.specs.declared.fault.CvtFault.TheVariants.{TooLarge, NoMemory};
 ghost use Rattle.sudoers_cvt_rules.specs.Effective.{effective_command};
-ghost use Rattle.sudoers_cvt_rules.specs.Rules.{fits, printed};
-ghost use Rattle.sudoers_cvt_rules.specs.Rule.{rule_shown};
-ghost use Rattle.sudoers_cvt_rules.specs.internal.Long.{Fits, IsPrintFault, PassesLimit};
+ghost use Rattle.sudoers_cvt_rules.specs.Rules.{is_printed_within_limits, printed_rules};
+ghost use Rattle.sudoers_cvt_rules.specs.Rule.{node_of_rule_view};
+ghost use Rattle.sudoers_cvt_rules.specs.internal.Long.{PrintedRulesFitLimits, IsPrintFault, IsTextOrLineLimitFault};
 
 use crate::fault::CvtFault;
-use crate::heads::append_command;
-use crate::lines::rule_line;
+use crate::printed_lines::make_rule_line_within_limit;
 use crate::rule::Rule;
 use crate::rules::Rules;
+use crate::settings_printing::append_effective_command;
 use std::alloc::{AllocError, Global};
 use sudoers_line_rows::Member;
-use sudoers_match::Head;
+use sudoers_match::CommandSettings;
 use sudoers_text::TEXT_LIMIT;
 
 /// Appends rules, a line each.
-fn append_rules(alloc: Global, text: &mut Vec<u8>, rules: &[Rule<'_>]) -> Result<(), CvtFault>
-    ensures appended { OnOk result (text.new.items ≡ text.old.items ++ printed_lines (map rule_shown rules.now)) }
+fn append_rule_lines(alloc: Global, text: &mut Vec<u8>, rules: &[Rule<'_>]) -> Result<(), CvtFault>
+    ensures appended { OnOk result (text.new.items ≡ text.old.items ++ printed_lines (map node_of_rule_view rules.now)) }
     ensures fits { OnOk result (length text.old.items ≤ text_limit → length text.new.items ≤ text_limit) }
-    ensures lines { OnOk result (AllByRecursion (λ n. length (printed_line n) ≤ line_limit) (map rule_shown rules.now)) }
-    ensures fault { IfErr result (PassesLimit text.old.items (map rule_shown rules.now)) }
+    ensures lines { OnOk result (AllByRecursion (λ n. length (printed_line n) ≤ line_limit) (map node_of_rule_view rules.now)) }
+    ensures fault { IfErr result (IsTextOrLineLimitFault text.old.items (map node_of_rule_view rules.now)) }
 {
     for rule in rules {
-        let line = rule_line(alloc, rule)?;
+        let line = make_rule_line_within_limit(alloc, rule)?;
         text.extend_from_slice(line.as_slice())?;
         if text.len() > TEXT_LIMIT {
             return Err(CvtFault::TooLarge);
@@ -47,26 +47,26 @@ fn append_rules(alloc: Global, text: &mut Vec<u8>, rules: &[Rule<'_>]) -> Result
 ///
 /// `TooLarge`: the text passes 1,048,576 bytes, or one of its lines 65,536. `NoMemory`: memory ran out.
 pub fn print(alloc: Global, rules: &Rules<'_>) -> Result<Vec<u8>, CvtFault>
-    ensures text { IfOk result (λ text. text.items ≡ printed rules.now) }
-    ensures fits { OnOk result (fits rules.now ≡ true) }
-    ensures fault { IfErr result (λ fault. (fault ≡ NoMemory) ⊎ ((fault ≡ TooLarge) × (fits rules.now ≡ false))) }
+    ensures text { IfOk result (λ text. text.items ≡ printed_rules rules.now) }
+    ensures fits { OnOk result (is_printed_within_limits rules.now ≡ true) }
+    ensures fault { IfErr result (λ fault. (fault ≡ NoMemory) ⊎ ((fault ≡ TooLarge) × (is_printed_within_limits rules.now ≡ false))) }
 {
-    match print_lines(alloc, rules) {
+    match print_rule_lines(alloc, rules) {
         Ok(text) => Ok(text),
         Err(fault) => Err(fault),
     }
 }
 
 /// Returns the lines of `rules`, one after another.
-fn print_lines(alloc: Global, rules: &Rules<'_>) -> Result<Vec<u8>, CvtFault>
-    ensures text { IfOk result (λ text. text.items ≡ printed rules.now) }
-    ensures fits { OnOk result (Fits rules.now) }
+fn print_rule_lines(alloc: Global, rules: &Rules<'_>) -> Result<Vec<u8>, CvtFault>
+    ensures text { IfOk result (λ text. text.items ≡ printed_rules rules.now) }
+    ensures fits { OnOk result (PrintedRulesFitLimits rules.now) }
     ensures fault { IfErr result (IsPrintFault rules.now) }
 {
     let mut text = Vec::new(alloc);
-    append_rules(alloc, &mut text, rules.defaults())?;
-    append_rules(alloc, &mut text, rules.defs())?;
-    append_rules(alloc, &mut text, rules.specs())?;
+    append_rule_lines(alloc, &mut text, rules.defaults())?;
+    append_rule_lines(alloc, &mut text, rules.alias_definitions())?;
+    append_rule_lines(alloc, &mut text, rules.user_specs())?;
     Ok(text)
 }
 
@@ -77,13 +77,13 @@ fn print_lines(alloc: Global, rules: &Rules<'_>) -> Result<Vec<u8>, CvtFault>
 /// Memory ran out.
 pub fn print_command(
     alloc: Global,
-    head: &Head<'_>,
+    head: &CommandSettings<'_>,
     command: &Member<'_>,
 ) -> Result<Vec<u8>, AllocError>
-    ensures { IfOk result (λ text. (h : HeadOf) → IsHead head.now h
-        → text.items ≡ printed_command (effective_command (h, member_shown command.now))) }
+    ensures { IfOk result (λ text. (h : HeadOf) → HoldsCommandSettings head.now h
+        → text.items ≡ printed_command (effective_command (h, member_of_view command.now))) }
 {
     let mut out = Vec::new(alloc);
-    append_command(alloc, &mut out, head, command)?;
+    append_effective_command(alloc, &mut out, head, command)?;
     Ok(out)
 }

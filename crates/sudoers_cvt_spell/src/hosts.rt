@@ -1,26 +1,26 @@
 //! Hosts as they are printed (sudoers(5), Host_List).
 
 ghost use Rattle.std.specs.Prelude.{◌≡◌, ◌++◌, IfOk, OnOk};
-ghost use Rattle.sudoers_cvt_spell.specs.Hosts.{reads_as_host, printed_host};
+ghost use Rattle.sudoers_cvt_spell.specs.Hosts.{is_read_as_host_name, printed_host};
 
-use crate::spelling::{append_escaped, guard};
+use crate::words_and_patterns::{append_escaped_pattern, guard_with_backslash};
 use std::alloc::{AllocError, Global};
-use sudoers_line::{Atom, Kind, Part, Spelling, atom_of};
+use sudoers_grammar::{Atom, Kind, PatternSpelling, TokenWithText, parse_single_token_atom};
 use sudoers_text::TokenKind;
 
 /// Returns whether the word `text` is read as the name of a host.
-#[tactic(auto, unfolding(sudoers_line::specs::Atom::atom_of))]
-fn reads_as_host(alloc: Global, text: &[u8]) -> Result<bool, AllocError>
-    ensures { IfOk result (λ reads. reads ≡ reads_as_host text.now) }
+#[tactic(auto, unfolding(sudoers_grammar::specs::Atom::atom_of_token))]
+fn reads_as_host_name(alloc: Global, text: &[u8]) -> Result<bool, AllocError>
+    ensures { IfOk result (λ reads. reads ≡ is_read_as_host_name text.now) }
 {
-    let word = Part {
+    let word = TokenWithText {
         kind: TokenKind::Word,
         text,
         start: 0,
         stop: text.len(),
         last: true,
     };
-    match atom_of(alloc, Kind::Host, &word)? {
+    match parse_single_token_atom(alloc, Kind::Host, &word)? {
         Some(Atom::Host(_)) => Ok(true),
         _ => Ok(false),
     }
@@ -35,7 +35,7 @@ pub fn append_host(alloc: Global, out: &mut Vec<u8>, pattern: &[u8]) -> Result<(
     ensures { OnOk result (out.new.items ≡ out.old.items ++ printed_host pattern.now) }
 {
     let start = out.len();
-    append_escaped(out, Spelling::Host, pattern)?;
-    let reads_else = !reads_as_host(alloc, &out[start..])?;
-    guard(out, start, reads_else)
+    append_escaped_pattern(out, PatternSpelling::Host, pattern)?;
+    let reads_else = !reads_as_host_name(alloc, &out[start..])?;
+    guard_with_backslash(out, start, reads_else)
 }

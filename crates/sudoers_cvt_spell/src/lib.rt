@@ -1,18 +1,19 @@
 //! How the parts of a sudoers policy are printed.
 #![tactic(auto)]
 
-mod appending;
+mod addresses;
+mod appended_parts;
 mod hosts;
 mod lists;
 mod members;
-mod numbers;
+mod options_and_tags;
 mod parameters;
 mod runas;
-mod spelling;
-mod words;
+mod words_and_patterns;
 
-pub use appending::{
-    append_defaults, append_list, append_member, append_option, append_param, append_runas,
+pub use appended_parts::{
+    append_defaults, append_member, append_option, append_param, append_printed_member_list,
+    append_runas,
 };
-pub use parameters::scope_mark;
-pub use words::append_tag;
+pub use options_and_tags::append_tag;
+pub use parameters::mark_of_defaults_scope;

@@ -1,23 +1,25 @@
 //! Members of lists as they are printed (sudoers(5), Aliases).
 
 ghost use Rattle.std.specs.Prelude.{◌≡◌, ◌++◌, codes, false, OnOk};
-ghost use Rattle.sudoers_line_rows.specs.View.{args_shown, atom_shown, digest_shown, digests_shown, member_shown};
+ghost use Rattle.sudoers_line_rows.specs.View.{args_of_view, atom_of_view, digest_of_view, digests_of_view, member_of_view};
 ghost use Rattle.sudoers_text.specs.Word.{is_among};
-ghost use Rattle.sudoers_cvt_spell.specs.Members.{other_words, begins_other, reads_else, printed_name, spelled_args, printed_args, printed_netgroup, printed_atom, digest_word, printed_digest, printed_digests, sign, printed_member};
+ghost use Rattle.sudoers_cvt_spell.specs.Members.{non_spec_line_keywords, is_start_of_non_spec_line, is_read_as_special_word, printed_user_name, spelled_command_args, printed_args, printed_netgroup, printed_atom, digest_kind_keyword, printed_digest, printed_digests, negation_sign, printed_member};
 ghost use Rattle.std.specs.Fmt.{decimal};
-ghost use Rattle.sudoers_cvt_spell.specs.Spelling.{spelled};
+ghost use Rattle.sudoers_cvt_spell.specs.Spelling.{spelled_word};
 
+use crate::addresses::{append_address, append_mask};
 use crate::hosts::append_host;
-use crate::numbers::{append_address, append_mask};
-use crate::spelling::{append_escaped, append_escaped_byte, append_spelled, guard};
+use crate::words_and_patterns::{
+    append_escaped_pattern, append_pattern_byte, append_spelled_word, guard_with_backslash,
+};
 use std::alloc::{AllocError, Global};
-use sudoers_line::{DigestKind, Kind, Spelling, begins_with};
-use sudoers_line_rows::{Args, Atom, Digest, DigestRow, Member, Rows};
-use sudoers_text::{append_number, is_name};
+use sudoers_grammar::{DigestKind, Kind, PatternSpelling, begins_with_byte};
+use sudoers_line_rows::{BorrowedArgs, BorrowedAtom, Digest, DigestRow, Member, RowsOfTable};
+use sudoers_text::{append_decimal_number, is_name};
 
 /// Returns whether `text` is a word with which a line begins that is no user specification.
-fn is_other_word(text: &[u8]) -> bool
-    ensures { result ≡ is_among other_words text.now }
+fn is_line_keyword(text: &[u8]) -> bool
+    ensures { result ≡ is_among non_spec_line_keywords text.now }
 {
     text == b"Defaults".as_slice()
         || text == b"User_Alias".as_slice()
@@ -30,42 +32,42 @@ fn is_other_word(text: &[u8]) -> bool
 }
 
 /// Returns whether a line that begins with the word `text` is no user specification.
-fn begins_other(text: &[u8]) -> bool
-    ensures { result ≡ begins_other text.now }
+fn begins_non_spec_line(text: &[u8]) -> bool
+    ensures { result ≡ is_start_of_non_spec_line text.now }
 {
-    is_other_word(text) || text.starts_with(b"Defaults@") || text.starts_with(b"Defaults>")
+    is_line_keyword(text) || text.starts_with(b"Defaults@") || text.starts_with(b"Defaults>")
 }
 
 /// Returns whether the word `text` would be read as no plain name. With `first`, it stands at the beginning of its line.
-fn reads_else(first: bool, text: &[u8]) -> bool
-    ensures { result ≡ reads_else first text.now }
+fn reads_as_special_word(first: bool, text: &[u8]) -> bool
+    ensures { result ≡ is_read_as_special_word first text.now }
 {
     is_name(text)
-        || begins_with(b'%', text)
-        || begins_with(b'+', text)
-        || (first && begins_other(text))
+        || begins_with_byte(b'%', text)
+        || begins_with_byte(b'+', text)
+        || (first && begins_non_spec_line(text))
 }
 
 /// Appends the name of a user.
-fn append_name(out: &mut Vec<u8>, first: bool, name: &[u8]) -> Result<(), AllocError>
-    ensures { OnOk result (out.new.items ≡ out.old.items ++ printed_name first name.now) }
+fn append_user_name(out: &mut Vec<u8>, first: bool, name: &[u8]) -> Result<(), AllocError>
+    ensures { OnOk result (out.new.items ≡ out.old.items ++ printed_user_name first name.now) }
 {
     let start = out.len();
-    append_spelled(out, name)?;
-    let reads_else = reads_else(first, &out[start..]);
-    guard(out, start, reads_else)
+    append_spelled_word(out, name)?;
+    let reads_else = reads_as_special_word(first, &out[start..]);
+    guard_with_backslash(out, start, reads_else)
 }
 
 /// Appends the pattern of arguments.
-fn append_pattern(out: &mut Vec<u8>, pattern: &[u8]) -> Result<(), AllocError>
-    ensures { OnOk result (out.new.items ≡ out.old.items ++ spelled_args false pattern.now) }
+fn append_args_pattern(out: &mut Vec<u8>, pattern: &[u8]) -> Result<(), AllocError>
+    ensures { OnOk result (out.new.items ≡ out.old.items ++ spelled_command_args false pattern.now) }
 {
     let mut behind = false;
     for (at, byte) in pattern.iter().enumerate() {
         if *byte == b' ' && behind && !matches!(pattern.get(at + 1), Some(b' ') | None) {
             out.extend_from_slice(b" ")?;
         } else {
-            append_escaped_byte(out, Spelling::Command, *byte)?;
+            append_pattern_byte(out, PatternSpelling::Command, *byte)?;
         }
         behind = *byte != b' ';
     }
@@ -73,15 +75,15 @@ fn append_pattern(out: &mut Vec<u8>, pattern: &[u8]) -> Result<(), AllocError>
 }
 
 /// Appends the arguments of a command, with the blank before them.
-fn append_args(out: &mut Vec<u8>, args: &Args<'_>) -> Result<(), AllocError>
-    ensures { OnOk result (out.new.items ≡ out.old.items ++ printed_args (args_shown args.now)) }
+fn append_args(out: &mut Vec<u8>, args: &BorrowedArgs<'_>) -> Result<(), AllocError>
+    ensures { OnOk result (out.new.items ≡ out.old.items ++ printed_args (args_of_view args.now)) }
 {
     match args {
-        Args::Any => Ok(()),
-        Args::Nothing => out.extend_from_slice(b" \"\""),
-        Args::Pattern(pattern) => {
+        BorrowedArgs::Any => Ok(()),
+        BorrowedArgs::Nothing => out.extend_from_slice(b" \"\""),
+        BorrowedArgs::Pattern(pattern) => {
             out.extend_from_slice(b" ")?;
-            append_pattern(out, pattern)
+            append_args_pattern(out, pattern)
         }
     }
 }
@@ -93,24 +95,29 @@ fn append_netgroup(out: &mut Vec<u8>, kind: Kind, name: &[u8]) -> Result<(), All
     out.extend_from_slice(b"+")?;
     match kind {
         Kind::Host => out.extend_from_slice(name),
-        Kind::User | Kind::Runas | Kind::Cmnd => append_spelled(out, name),
+        Kind::User | Kind::Runas | Kind::Cmnd => append_spelled_word(out, name),
     }
 }
 
 /// Appends what stands behind a mark, spelled as a word.
-fn append_marked(out: &mut Vec<u8>, mark: &[u8], name: &[u8]) -> Result<(), AllocError>
-    ensures { OnOk result (out.new.items ≡ out.old.items ++ mark.now ++ spelled name.now) }
+fn append_word_after_mark(out: &mut Vec<u8>, mark: &[u8], name: &[u8]) -> Result<(), AllocError>
+    ensures { OnOk result (out.new.items ≡ out.old.items ++ mark.now ++ spelled_word name.now) }
 {
     out.extend_from_slice(mark)?;
-    append_spelled(out, name)
+    append_spelled_word(out, name)
 }
 
 /// Appends a number behind a mark.
-fn append_id(alloc: Global, out: &mut Vec<u8>, mark: &[u8], id: u32) -> Result<(), AllocError>
+fn append_number_after_mark(
+    alloc: Global,
+    out: &mut Vec<u8>,
+    mark: &[u8],
+    id: u32,
+) -> Result<(), AllocError>
     ensures { OnOk result (out.new.items ≡ out.old.items ++ mark.now ++ decimal id) }
 {
     out.extend_from_slice(mark)?;
-    append_number(alloc, out, id as usize)
+    append_decimal_number(alloc, out, id as usize)
 }
 
 /// Appends what a member of a list of `kind` is. With `first`, the line begins with it.
@@ -119,32 +126,32 @@ fn append_atom(
     out: &mut Vec<u8>,
     first: bool,
     kind: Kind,
-    atom: &Atom<'_>,
+    atom: &BorrowedAtom<'_>,
 ) -> Result<(), AllocError>
-    ensures { OnOk result (out.new.items ≡ out.old.items ++ printed_atom first kind (atom_shown atom.now)) }
+    ensures { OnOk result (out.new.items ≡ out.old.items ++ printed_atom first kind (atom_of_view atom.now)) }
 {
     match atom {
-        Atom::All => out.extend_from_slice(b"ALL"),
-        Atom::Alias(name) => out.extend_from_slice(name),
-        Atom::Name(name) => append_name(out, first, name),
-        Atom::Id(id) => append_id(alloc, out, b"#", *id),
-        Atom::Group(name) => append_marked(out, b"%", name),
-        Atom::GroupId(id) => append_id(alloc, out, b"%#", *id),
-        Atom::NonUnix(name) => append_marked(out, b"%:", name),
-        Atom::Netgroup(name) => append_netgroup(out, kind, name),
-        Atom::Host(pattern) => append_host(alloc, out, pattern),
-        Atom::Address(address) => append_address(alloc, out, *address),
-        Atom::Network(address, mask) => {
+        BorrowedAtom::All => out.extend_from_slice(b"ALL"),
+        BorrowedAtom::Alias(name) => out.extend_from_slice(name),
+        BorrowedAtom::Name(name) => append_user_name(out, first, name),
+        BorrowedAtom::Id(id) => append_number_after_mark(alloc, out, b"#", *id),
+        BorrowedAtom::Group(name) => append_word_after_mark(out, b"%", name),
+        BorrowedAtom::GroupId(id) => append_number_after_mark(alloc, out, b"%#", *id),
+        BorrowedAtom::NonUnix(name) => append_word_after_mark(out, b"%:", name),
+        BorrowedAtom::Netgroup(name) => append_netgroup(out, kind, name),
+        BorrowedAtom::Host(pattern) => append_host(alloc, out, pattern),
+        BorrowedAtom::Address(address) => append_address(alloc, out, *address),
+        BorrowedAtom::Network(address, mask) => {
             append_address(alloc, out, *address)?;
             out.extend_from_slice(b"/")?;
             append_mask(alloc, out, *mask)
         }
-        Atom::Listing => out.extend_from_slice(b"list"),
-        Atom::Path { path, args } => {
-            append_escaped(out, Spelling::Command, path)?;
+        BorrowedAtom::Listing => out.extend_from_slice(b"list"),
+        BorrowedAtom::Path { path, args } => {
+            append_escaped_pattern(out, PatternSpelling::Command, path)?;
             append_args(out, args)
         }
-        Atom::Sudoedit { args } => {
+        BorrowedAtom::Sudoedit { args } => {
             out.extend_from_slice(b"sudoedit")?;
             append_args(out, args)
         }
@@ -152,8 +159,8 @@ fn append_atom(
 }
 
 /// Returns the word for a kind of digests.
-fn digest_word(kind: DigestKind) -> &'static [u8]
-    ensures { result.now ≡ digest_word kind }
+fn keyword_of_digest_kind(kind: DigestKind) -> &'static [u8]
+    ensures { result.now ≡ digest_kind_keyword kind }
 {
     match kind {
         DigestKind::Sha224 => b"sha224",
@@ -165,25 +172,25 @@ fn digest_word(kind: DigestKind) -> &'static [u8]
 
 /// Appends a digest.
 fn append_digest(out: &mut Vec<u8>, digest: &Digest<'_>) -> Result<(), AllocError>
-    ensures { OnOk result (out.new.items ≡ out.old.items ++ printed_digest (digest_shown digest.now)) }
+    ensures { OnOk result (out.new.items ≡ out.old.items ++ printed_digest (digest_of_view digest.now)) }
 {
-    out.extend_from_slice(digest_word(digest.kind))?;
+    out.extend_from_slice(keyword_of_digest_kind(digest.kind))?;
     out.extend_from_slice(b":")?;
     out.extend_from_slice(digest.text)
 }
 
 /// Appends the digests before a command.
-fn append_digests(out: &mut Vec<u8>, digests: &Rows<'_, DigestRow>) -> Result<(), AllocError>
-    ensures { OnOk result (out.new.items ≡ out.old.items ++ printed_digests (digests_shown digests.now)) }
+fn append_digests(out: &mut Vec<u8>, digests: &RowsOfTable<'_, DigestRow>) -> Result<(), AllocError>
+    ensures { OnOk result (out.new.items ≡ out.old.items ++ printed_digests (digests_of_view digests.now)) }
 {
     let tables = digests.tables;
     let Some((first, rest)) = digests.rows.split_first() else {
         return Ok(());
     };
-    append_digest(out, &tables.digest(*first))?;
+    append_digest(out, &tables.digest_of_row(*first))?;
     for row in rest {
         out.extend_from_slice(b", ")?;
-        append_digest(out, &tables.digest(*row))?;
+        append_digest(out, &tables.digest_of_row(*row))?;
     }
     out.extend_from_slice(b" ")
 }
@@ -193,14 +200,14 @@ fn append_digests(out: &mut Vec<u8>, digests: &Rows<'_, DigestRow>) -> Result<()
 /// # Errors
 ///
 /// Memory ran out.
-pub fn add_member(
+pub fn append_list_member_text(
     alloc: Global,
     out: &mut Vec<u8>,
     first: bool,
     kind: Kind,
     member: &Member<'_>,
 ) -> Result<(), AllocError>
-    ensures { OnOk result (out.new.items ≡ out.old.items ++ printed_member first kind (member_shown member.now)) }
+    ensures { OnOk result (out.new.items ≡ out.old.items ++ printed_member first kind (member_of_view member.now)) }
 {
     append_digests(out, &member.digests)?;
     if member.negated {

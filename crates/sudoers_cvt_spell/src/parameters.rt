@@ -1,19 +1,19 @@
 //! Defaults lines as they are printed (sudoers(5), Defaults).
 
 ghost use Rattle.std.specs.Prelude.{◌≡◌, ◌++◌, codes, OnOk, option_map};
-ghost use Rattle.sudoers_line_rows.specs.View.{param_shown, params_shown, scope_shown, setting_shown};
+ghost use Rattle.sudoers_line_rows.specs.View.{parameter_of_view, parameters_of_view, scope_of_view, setting_of_view};
 ghost use Rattle.std.specs.List.{list_all};
-ghost use Rattle.sudoers_cvt_spell.specs.Parameters.{operator_mark, is_plain, is_plain_value, fits_quotes, printed_value, printed_setting, printed_param, printed_params, scope_mark, printed_scope, printed_defaults};
+ghost use Rattle.sudoers_cvt_spell.specs.Parameters.{defaults_operator_mark, is_byte_without_quotes, is_value_without_quotes, is_quotable_value, printed_param_value, printed_param_setting, printed_param, printed_params, defaults_scope_mark, printed_scope, printed_defaults};
 
-use crate::lists::add_list;
-use crate::spelling::{append_spelled, is_control};
+use crate::lists::append_member_list_text;
+use crate::words_and_patterns::{append_spelled_word, is_control};
 use std::alloc::{AllocError, Global};
-use sudoers_line::{Kind, Operator};
-use sudoers_line_rows::{Param, ParamRow, Rows, Scope};
+use sudoers_grammar::{Kind, Operator};
+use sudoers_line_rows::{Param, ParamRow, RowsOfTable, Scope};
 
 /// Returns the mark of an operator.
-fn operator_mark(operator: Operator) -> &'static [u8]
-    ensures { result.now ≡ operator_mark operator }
+fn mark_of_operator(operator: Operator) -> &'static [u8]
+    ensures { result.now ≡ defaults_operator_mark operator }
 {
     match operator {
         Operator::Set => b"=",
@@ -23,45 +23,45 @@ fn operator_mark(operator: Operator) -> &'static [u8]
 }
 
 /// Returns whether `byte` needs no quotes.
-fn is_plain(byte: u8) -> bool
-    ensures { result ≡ is_plain byte }
+fn is_unquoted_byte(byte: u8) -> bool
+    ensures { result ≡ is_byte_without_quotes byte }
 {
     byte.is_ascii_alphanumeric() || matches!(byte, b'_' | b'-' | b'.' | b'/' | b':' | b'+')
 }
 
 /// Returns whether no byte of the value needs quotes.
-fn are_plain(value: &[u8]) -> bool
-    ensures { result ≡ list_all is_plain value.now }
+fn are_unquoted_bytes(value: &[u8]) -> bool
+    ensures { result ≡ list_all is_byte_without_quotes value.now }
 {
-    value.iter().all(|byte| is_plain(*byte))
+    value.iter().all(|byte| is_unquoted_byte(*byte))
 }
 
 /// Returns whether the value is printed as it is.
-fn is_plain_value(value: &[u8]) -> bool
-    ensures { result ≡ is_plain_value value.now }
+fn is_unquoted_value(value: &[u8]) -> bool
+    ensures { result ≡ is_value_without_quotes value.now }
 {
-    0 < value.len() && are_plain(value)
+    0 < value.len() && are_unquoted_bytes(value)
 }
 
 /// Returns whether the value stands for itself in double quotes.
-fn fits_quotes(value: &[u8]) -> bool
-    ensures { result ≡ fits_quotes value.now }
+fn fits_double_quotes(value: &[u8]) -> bool
+    ensures { result ≡ is_quotable_value value.now }
 {
     value.iter().all(|byte| !(*byte == b'\\' || *byte == b'"' || is_control(*byte)))
 }
 
 /// Appends the value of a parameter.
-fn append_value(out: &mut Vec<u8>, value: &[u8]) -> Result<(), AllocError>
-    ensures { OnOk result (out.new.items ≡ out.old.items ++ printed_value value.now) }
+fn append_param_value(out: &mut Vec<u8>, value: &[u8]) -> Result<(), AllocError>
+    ensures { OnOk result (out.new.items ≡ out.old.items ++ printed_param_value value.now) }
 {
-    if is_plain_value(value) {
+    if is_unquoted_value(value) {
         out.extend_from_slice(value)
-    } else if fits_quotes(value) {
+    } else if fits_double_quotes(value) {
         out.extend_from_slice(b"\"")?;
         out.extend_from_slice(value)?;
         out.extend_from_slice(b"\"")
     } else {
-        append_spelled(out, value)
+        append_spelled_word(out, value)
     }
 }
 
@@ -70,8 +70,8 @@ fn append_value(out: &mut Vec<u8>, value: &[u8]) -> Result<(), AllocError>
 /// # Errors
 ///
 /// Memory ran out.
-pub fn add_param(out: &mut Vec<u8>, param: &Param<'_>) -> Result<(), AllocError>
-    ensures { OnOk result (out.new.items ≡ out.old.items ++ printed_param (param_shown param.now)) }
+pub fn append_param_text(out: &mut Vec<u8>, param: &Param<'_>) -> Result<(), AllocError>
+    ensures { OnOk result (out.new.items ≡ out.old.items ++ printed_param (parameter_of_view param.now)) }
 {
     if param.negated {
         out.extend_from_slice(b"!")?;
@@ -80,31 +80,31 @@ pub fn add_param(out: &mut Vec<u8>, param: &Param<'_>) -> Result<(), AllocError>
     match &param.setting {
         None => Ok(()),
         Some(setting) => {
-            out.extend_from_slice(operator_mark(setting.operator))?;
-            append_value(out, setting.value)
+            out.extend_from_slice(mark_of_operator(setting.operator))?;
+            append_param_value(out, setting.value)
         }
     }
 }
 
 /// Appends the parameters of a Defaults line.
-fn append_params(out: &mut Vec<u8>, params: &Rows<'_, ParamRow>) -> Result<(), AllocError>
-    ensures { OnOk result (out.new.items ≡ out.old.items ++ printed_params (params_shown params.now)) }
+fn append_params(out: &mut Vec<u8>, params: &RowsOfTable<'_, ParamRow>) -> Result<(), AllocError>
+    ensures { OnOk result (out.new.items ≡ out.old.items ++ printed_params (parameters_of_view params.now)) }
 {
     let tables = params.tables;
     let Some((first, rest)) = params.rows.split_first() else {
         return Ok(());
     };
-    add_param(out, &tables.param(first))?;
+    append_param_text(out, &tables.parameter_of_row(first))?;
     for row in rest {
         out.extend_from_slice(b", ")?;
-        add_param(out, &tables.param(row))?;
+        append_param_text(out, &tables.parameter_of_row(row))?;
     }
     Ok(())
 }
 
 /// Returns the sign of a scope.
-pub fn scope_mark(kind: Kind) -> &'static [u8]
-    ensures { result.now ≡ scope_mark kind }
+pub fn mark_of_defaults_scope(kind: Kind) -> &'static [u8]
+    ensures { result.now ≡ defaults_scope_mark kind }
 {
     match kind {
         Kind::Host => b"@",
@@ -119,18 +119,18 @@ pub fn scope_mark(kind: Kind) -> &'static [u8]
 /// # Errors
 ///
 /// Memory ran out.
-pub fn add_defaults(
+pub fn append_defaults_text(
     alloc: Global,
     out: &mut Vec<u8>,
     scope: &Option<Scope<'_>>,
-    params: &Rows<'_, ParamRow>,
+    params: &RowsOfTable<'_, ParamRow>,
 ) -> Result<(), AllocError>
-    ensures { OnOk result (out.new.items ≡ out.old.items ++ printed_defaults (option_map scope_shown scope.now) (params_shown params.now)) }
+    ensures { OnOk result (out.new.items ≡ out.old.items ++ printed_defaults (option_map scope_of_view scope.now) (parameters_of_view params.now)) }
 {
     out.extend_from_slice(b"Defaults")?;
     if let Some(scope) = scope {
-        out.extend_from_slice(scope_mark(scope.kind))?;
-        add_list(alloc, out, false, scope.kind, &scope.members)?;
+        out.extend_from_slice(mark_of_defaults_scope(scope.kind))?;
+        append_member_list_text(alloc, out, false, scope.kind, &scope.members)?;
     }
     out.extend_from_slice(b" ")?;
     append_params(out, params)

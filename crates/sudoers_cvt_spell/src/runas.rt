@@ -1,19 +1,23 @@
 //! Runas_Specs as they are printed (sudoers(5), Runas_Spec).
 
 ghost use Rattle.std.specs.Prelude.{◌≡◌, ◌++◌, codes, OnOk};
-ghost use Rattle.sudoers_line_rows.specs.View.{runas_shown, members_shown};
-ghost use Rattle.sudoers_cvt_spell.specs.Commands.{printed_inside, printed_runas};
+ghost use Rattle.sudoers_line_rows.specs.View.{runas_of_view, members_of_view};
+ghost use Rattle.sudoers_cvt_spell.specs.Commands.{printed_runas_lists, printed_runas};
 
-use crate::lists::add_list;
+use crate::lists::append_member_list_text;
 use std::alloc::{AllocError, Global};
-use sudoers_line::Kind;
+use sudoers_grammar::Kind;
 use sudoers_line_rows::RunasSpec;
 
 /// Appends what stands in the parentheses.
-fn append_inside(alloc: Global, out: &mut Vec<u8>, runas: &RunasSpec<'_>) -> Result<(), AllocError>
-    ensures { OnOk result (out.new.items ≡ out.old.items ++ printed_inside (members_shown runas.now.users) (members_shown runas.now.groups)) }
+fn append_runas_lists(
+    alloc: Global,
+    out: &mut Vec<u8>,
+    runas: &RunasSpec<'_>,
+) -> Result<(), AllocError>
+    ensures { OnOk result (out.new.items ≡ out.old.items ++ printed_runas_lists (members_of_view runas.now.users) (members_of_view runas.now.groups)) }
 {
-    add_list(alloc, out, false, Kind::Runas, &runas.users)?;
+    append_member_list_text(alloc, out, false, Kind::Runas, &runas.users)?;
     if runas.groups.rows.is_empty() {
         return Ok(());
     }
@@ -22,7 +26,7 @@ fn append_inside(alloc: Global, out: &mut Vec<u8>, runas: &RunasSpec<'_>) -> Res
     } else {
         out.extend_from_slice(b" : ")?;
     }
-    add_list(alloc, out, false, Kind::Runas, &runas.groups)
+    append_member_list_text(alloc, out, false, Kind::Runas, &runas.groups)
 }
 
 /// Appends a Runas_Spec.
@@ -30,10 +34,14 @@ fn append_inside(alloc: Global, out: &mut Vec<u8>, runas: &RunasSpec<'_>) -> Res
 /// # Errors
 ///
 /// Memory ran out.
-pub fn add_runas(alloc: Global, out: &mut Vec<u8>, runas: &RunasSpec<'_>) -> Result<(), AllocError>
-    ensures { OnOk result (out.new.items ≡ out.old.items ++ printed_runas (runas_shown runas.now)) }
+pub fn append_runas_spec_text(
+    alloc: Global,
+    out: &mut Vec<u8>,
+    runas: &RunasSpec<'_>,
+) -> Result<(), AllocError>
+    ensures { OnOk result (out.new.items ≡ out.old.items ++ printed_runas (runas_of_view runas.now)) }
 {
     out.extend_from_slice(b"(")?;
-    append_inside(alloc, out, runas)?;
+    append_runas_lists(alloc, out, runas)?;
     out.extend_from_slice(b")")
 }

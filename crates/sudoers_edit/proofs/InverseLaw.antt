@@ -1,162 +1,152 @@
 -- Edits that are accepted lead to a policy, and what takes them back leads back.
-use Rattle.std.proofs.Common.{◌≡◌, ◌∙◌, ℕ, ◌+◌, List, [], ◌∷◌, ◌++◌, length, map, Some, Result, Ok, Err, refl, sym, ap, subst, arith, option_and_then}
-use Rattle.std.proofs.lemmas.List.{length-append}
-use Rattle.std.specs.List.{AllByRecursion}
-use Rattle.std.specs.Result.{result_unwrap_or}
-use Rattle.sudoers_line.specs.declared.node.Kind.{Kind}
-use Rattle.sudoers_tree.specs.Load.{Loaded, files_of, load_of}
-use Rattle.sudoers_edit_script.specs.Script.{AreNumbered}
-use Rattle.sudoers_edit_script.specs.declared.edit.Edit.{Edit}
-use Rattle.sudoers_edit_script.specs.declared.edit.Edit.TheVariants.{Insert, Delete, Move, AddMember, DropMember, AddDef, DropDef, Rename, EndLine, OpenEnd, Prune}
-use Rattle.sudoers_edit.specs.declared.fault.EditFault.{EditFault}
-use Rattle.sudoers_edit.specs.declared.pruning.Removal.{Removal}
-use Rattle.sudoers_edit.specs.declared.pruning.Removal.TheVariants as removal
-use Rattle.sudoers_edit.specs.Pruning.{edit_of, removals}
-use Rattle.sudoers_edit.specs.Editing.{removed, put_back, put_all_back, step, after, inv, run, then_or, run_all, inv_run, prune_list, without_place}
-use Rattle.sudoers_edit.specs.WayBack.{IsTakenBack}
-use Rattle.sudoers_edit.proofs.AcceptedLines.{Laws, Steps, Takes, insert_takes, delete_takes, move_takes, end_takes, open_takes, rename_loads}
-use Rattle.sudoers_edit.proofs.AcceptedSplices.{add_def_takes, drop_def_takes, add_member_takes, drop_member_takes}
-use Rattle.sudoers_edit.proofs.HistoryLemmas.{run-append, run_accepted}
-use Rattle.sudoers_edit.proofs.LandLemmas.{run_one}
-use Rattle.sudoers_edit.proofs.PruneList.{prune_step, prune_inverse}
-use Rattle.sudoers_edit.proofs.PrunePlaces.{file_fits, line_fits}
-use Rattle.sudoers_edit.proofs.RemovalNumbers.{numbered_append, removals_numbered}
+use Rattle.sudoers_edit.proofs.Common.{AddDef, AddMember, AllByRecursion, Delete, DropDef, DropMember, Edit, EditFault, EndLine, Err, HasRestoringInverse, HaveFittingNumbers, Insert, Kind, List, LoadedPolicy, Move}
+use Rattle.sudoers_edit.proofs.Common.{Ok, OpenEnd, Prune, PruneRemoval, Rename, Result, Some, [], ap, arith, edit_of_removal, edit_undoing_removal, edits_of_prune, edits_undoing_removals, inv, inv_run, length}
+use Rattle.sudoers_edit.proofs.Common.{length-append, map, named_files_of_policy, next_or_placed_refusal, option_and_then, policy_after_edit_if_accepted, policy_after_removal, policy_or_first_refusal}
+use Rattle.sudoers_edit.proofs.Common.{policy_or_load_fault, prune_removals_of_walk, refl, result_unwrap_or, run, run_result_without_place, step, subst, sym, ℕ, ◌++◌, ◌+◌, ◌∙◌, ◌∷◌, ◌≡◌}
+use Rattle.sudoers_edit.specs.declared.pruning.PruneRemoval.TheVariants as removal
+use Rattle.sudoers_edit.proofs.AcceptedLines.{AcceptedEditLaws, IsReversibleStep, IsReversibleWhereAccepted, accepted_insert_is_reversible, accepted_delete_is_reversible, accepted_move_is_reversible, accepted_end_line_is_reversible, accepted_open_end_is_reversible, accepted_rename_makes_files_that_load}
+use Rattle.sudoers_edit.proofs.AcceptedSplices.{accepted_add_def_is_reversible, accepted_drop_def_is_reversible, accepted_add_member_is_reversible, accepted_drop_member_is_reversible}
+use Rattle.sudoers_edit.proofs.HistoryLemmas.{run_of_joined_edits_is_sequenced, run_without_refusal_is_accepted}
+use Rattle.sudoers_edit.proofs.LandLemmas.{accepted_edit_is_accepted_run}
+use Rattle.sudoers_edit.proofs.PruneList.{prune_step_is_run_of_its_edits, prune_inverse_is_inverse_of_its_edits}
+use Rattle.sudoers_edit.proofs.PrunePlaces.{file_number_of_spot_fits_u32, line_number_of_spot_fits_u32}
+use Rattle.sudoers_edit.proofs.RemovalNumbers.{joined_edits_have_fitting_numbers, prune_removals_have_fitting_numbers}
 
 -- RUNS
 
 -- The edits lead from a policy to another, and what takes them back leads back.
-pub record Runs (edits : List Edit) (policy new : Loaded) : Type 0 where
-  pub loaded : load_of (files_of new) ≡ Ok new
+pub record IsReversibleRun (edits : List Edit) (policy new : LoadedPolicy) : Type 0 where
+  pub loaded : policy_or_load_fault (named_files_of_policy new) ≡ Ok new
   pub back : run (inv_run edits policy) new ≡ Some policy
-  pub numbered : AreNumbered edits → AreNumbered (inv_run edits policy)
+  pub numbered : HaveFittingNumbers edits → HaveFittingNumbers (inv_run edits policy)
 
 -- a step that a run begins with
-pub first_ok : (next : Loaded → Result Loaded (ℕ × EditFault)) (place : ℕ) (r : Result Loaded EditFault) (new : Loaded) → then_or next place r ≡ Ok new
-    → (mid : Loaded) × (r ≡ Ok mid) × (next mid ≡ Ok new)
-first_ok next place (Ok mid) new e = (mid, refl, e)
-first_ok next place (Err f) new e = absurd cc
+pub accepted_run_begins_with_accepted_step : (next : LoadedPolicy → Result LoadedPolicy (ℕ × EditFault)) (place : ℕ) (r : Result LoadedPolicy EditFault) (new : LoadedPolicy) → next_or_placed_refusal next place r ≡ Ok new
+    → (mid : LoadedPolicy) × (r ≡ Ok mid) × (next mid ≡ Ok new)
+accepted_run_begins_with_accepted_step next place (Ok mid) new e = (mid, refl, e)
+accepted_run_begins_with_accepted_step next place (Err f) new e = absurd cc
 
-runs : (edits : List Edit) → AllByRecursion Takes edits → (place : ℕ) (policy new : Loaded) → load_of (files_of policy) ≡ Ok policy
-    → run_all place edits policy ≡ Ok new → Runs edits policy new
-runs [] all place policy new loaded is =
+run_of_reversible_edits_is_reversible : (edits : List Edit) → AllByRecursion IsReversibleWhereAccepted edits → (place : ℕ) (policy new : LoadedPolicy) → policy_or_load_fault (named_files_of_policy policy) ≡ Ok policy
+    → policy_or_first_refusal place edits policy ≡ Ok new → IsReversibleRun edits policy new
+run_of_reversible_edits_is_reversible [] all place policy new loaded is =
     let same : policy ≡ new = cc in
-    record { loaded = subst (λ (p : Loaded). load_of (files_of p) ≡ Ok p) same loaded; back = ap (λ z. Some z) (sym same); numbered = λ n. tt }
-runs (edit ∷ edits) all place policy new loaded is =
-    let first = first_ok (run_all (place + 1) edits) place (step edit policy) new is in
-    let one : Steps edit policy first.0 = all.0 policy first.0 loaded first.1 in
-    let more : Runs edits first.0 new = runs edits all.1 (place + 1) first.0 new one.loaded first.2 in
-    let to : after edit policy ≡ first.0 = ap (λ (r : Result Loaded EditFault). result_unwrap_or r policy) first.1 in
+    record { loaded = subst (λ (p : LoadedPolicy). policy_or_load_fault (named_files_of_policy p) ≡ Ok p) same loaded; back = ap (λ z. Some z) (sym same); numbered = λ n. tt }
+run_of_reversible_edits_is_reversible (edit ∷ edits) all place policy new loaded is =
+    let first = accepted_run_begins_with_accepted_step (policy_or_first_refusal (place + 1) edits) place (step edit policy) new is in
+    let one : IsReversibleStep edit policy first.0 = all.0 policy first.0 loaded first.1 in
+    let more : IsReversibleRun edits first.0 new = run_of_reversible_edits_is_reversible edits all.1 (place + 1) first.0 new one.loaded first.2 in
+    let to : policy_after_edit_if_accepted edit policy ≡ first.0 = ap (λ (r : Result LoadedPolicy EditFault). result_unwrap_or r policy) first.1 in
     record {
       loaded = more.loaded;
-      back = run-append (inv_run edits (after edit policy)) (inv edit policy) new
-          ∙ ap (λ (z : Loaded). option_and_then (run (inv edit policy)) (run (inv_run edits z) new)) to
+      back = run_of_joined_edits_is_sequenced (inv_run edits (policy_after_edit_if_accepted edit policy)) (inv edit policy) new
+          ∙ ap (λ (z : LoadedPolicy). option_and_then (run (inv edit policy)) (run (inv_run edits z) new)) to
           ∙ ap (option_and_then (run (inv edit policy))) more.back ∙ one.back;
-      numbered = λ n. numbered_append (inv_run edits (after edit policy)) (inv edit policy)
-          (subst (λ (z : Loaded). AreNumbered (inv_run edits z)) (sym to) (more.numbered n.1)) (one.numbered n.0);
+      numbered = λ n. joined_edits_have_fitting_numbers (inv_run edits (policy_after_edit_if_accepted edit policy)) (inv edit policy)
+          (subst (λ (z : LoadedPolicy). HaveFittingNumbers (inv_run edits z)) (sym to) (more.numbered n.1)) (one.numbered n.0);
     }
 
 -- PRUNE
 
-placed : (r : Result Loaded (ℕ × EditFault)) (new : Loaded) → without_place r ≡ Ok new → r ≡ Ok new
-placed (Ok policy) new e = let same : policy ≡ new = cc in ap (λ z. Ok z) same
-placed (Err refused) new e = absurd cc
+accepted_without_place_is_accepted : (r : Result LoadedPolicy (ℕ × EditFault)) (new : LoadedPolicy) → run_result_without_place r ≡ Ok new → r ≡ Ok new
+accepted_without_place_is_accepted (Ok policy) new e = let same : policy ≡ new = cc in ap (λ z. Ok z) same
+accepted_without_place_is_accepted (Err refused) new e = absurd cc
 
-removals_take : Laws → (all : List Removal) → AllByRecursion Takes (map edit_of all)
-removals_take l [] = tt
-removals_take l (removal.Line f at ∷ all) = (delete_takes l f at, removals_take l all)
-removals_take l (removal.Def f line at ∷ all) = (drop_def_takes l f line at, removals_take l all)
+accepted_removals_are_reversible : AcceptedEditLaws → (all : List PruneRemoval) → AllByRecursion IsReversibleWhereAccepted (map edit_of_removal all)
+accepted_removals_are_reversible l [] = tt
+accepted_removals_are_reversible l (removal.Line f at ∷ all) = (accepted_delete_is_reversible l f at, accepted_removals_are_reversible l all)
+accepted_removals_are_reversible l (removal.Def f line at ∷ all) = (accepted_drop_def_is_reversible l f line at, accepted_removals_are_reversible l all)
 
-prune_takes : Laws → Takes Prune
-prune_takes l policy new loaded is =
-    let told : Runs (prune_list policy) policy new =
-    runs (prune_list policy) (removals_take l (removals policy.walk)) 0 policy new loaded
-    (placed (run_all 0 (prune_list policy) policy) new (sym (prune_step policy) ∙ is)) in
-    let fit : AreNumbered (prune_list policy) =
-    removals_numbered policy.walk (l.walk (files_of policy) policy loaded)
-    (λ n. (file_fits policy n loaded l.walks.stand, line_fits policy n loaded l.walks.stand l.land.cut l.land.alone l.ends.size)) in
+accepted_prune_is_reversible : AcceptedEditLaws → IsReversibleWhereAccepted Prune
+accepted_prune_is_reversible l policy new loaded is =
+    let told : IsReversibleRun (edits_of_prune policy) policy new =
+    run_of_reversible_edits_is_reversible (edits_of_prune policy) (accepted_removals_are_reversible l (prune_removals_of_walk policy.walk)) 0 policy new loaded
+    (accepted_without_place_is_accepted (policy_or_first_refusal 0 (edits_of_prune policy) policy) new (sym (prune_step_is_run_of_its_edits policy) ∙ is)) in
+    let fit : HaveFittingNumbers (edits_of_prune policy) =
+    prune_removals_have_fitting_numbers policy.walk (l.walk (named_files_of_policy policy) policy loaded)
+    (λ n. (file_number_of_spot_fits_u32 policy n loaded l.walks.stand, line_number_of_spot_fits_u32 policy n loaded l.walks.stand l.land.cut l.land.alone l.ends.size)) in
     record {
       loaded = told.loaded;
-      back = ap (λ (es : List Edit). run es new) (prune_inverse policy) ∙ told.back;
-      numbered = λ n. subst AreNumbered (sym (prune_inverse policy)) (told.numbered fit);
+      back = ap (λ (es : List Edit). run es new) (prune_inverse_is_inverse_of_its_edits policy) ∙ told.back;
+      numbered = λ n. subst HaveFittingNumbers (sym (prune_inverse_is_inverse_of_its_edits policy)) (told.numbered fit);
     }
 
 -- RENAMES
 
-rename_takes : Laws → (k : Kind) (name fresh : List ℕ) → Takes (Rename k name fresh)
-rename_takes l k name fresh policy new loaded is = record {
-  loaded = rename_loads l k name fresh policy new is;
-  back = run_one (Rename k fresh name) new policy (l.renames k name fresh policy new loaded is);
+accepted_rename_is_reversible : AcceptedEditLaws → (k : Kind) (name fresh : List ℕ) → IsReversibleWhereAccepted (Rename k name fresh)
+accepted_rename_is_reversible l k name fresh policy new loaded is = record {
+  loaded = accepted_rename_makes_files_that_load l k name fresh policy new is;
+  back = accepted_edit_is_accepted_run (Rename k fresh name) new policy (l.renames k name fresh policy new loaded is);
   numbered = λ n. (tt, tt);
 }
 
 -- EDITS
 
-takes : Laws → (edit : Edit) → Takes edit
-takes l (Insert f at text) = insert_takes l f at text
-takes l (Delete f at) = delete_takes l f at
-takes l (Move f from to) = move_takes l f from to
-takes l (AddMember kind name at splice) = add_member_takes l kind name at splice
-takes l (DropMember kind name at) = drop_member_takes l kind name at
-takes l (AddDef f line at splice) = add_def_takes l f line at splice
-takes l (DropDef f line at) = drop_def_takes l f line at
-takes l (Rename kind name fresh) = rename_takes l kind name fresh
-takes l (EndLine f) = end_takes l f
-takes l (OpenEnd f) = open_takes l f
-takes l Prune = prune_takes l
+every_accepted_edit_is_reversible : AcceptedEditLaws → (edit : Edit) → IsReversibleWhereAccepted edit
+every_accepted_edit_is_reversible l (Insert f at text) = accepted_insert_is_reversible l f at text
+every_accepted_edit_is_reversible l (Delete f at) = accepted_delete_is_reversible l f at
+every_accepted_edit_is_reversible l (Move f from to) = accepted_move_is_reversible l f from to
+every_accepted_edit_is_reversible l (AddMember kind name at splice) = accepted_add_member_is_reversible l kind name at splice
+every_accepted_edit_is_reversible l (DropMember kind name at) = accepted_drop_member_is_reversible l kind name at
+every_accepted_edit_is_reversible l (AddDef f line at splice) = accepted_add_def_is_reversible l f line at splice
+every_accepted_edit_is_reversible l (DropDef f line at) = accepted_drop_def_is_reversible l f line at
+every_accepted_edit_is_reversible l (Rename kind name fresh) = accepted_rename_is_reversible l kind name fresh
+every_accepted_edit_is_reversible l (EndLine f) = accepted_end_line_is_reversible l f
+every_accepted_edit_is_reversible l (OpenEnd f) = accepted_open_end_is_reversible l f
+every_accepted_edit_is_reversible l Prune = accepted_prune_is_reversible l
 
-all_take : Laws → (edits : List Edit) → AllByRecursion Takes edits
-all_take l [] = tt
-all_take l (edit ∷ edits) = (takes l edit, all_take l edits)
+all_accepted_edits_are_reversible : AcceptedEditLaws → (edits : List Edit) → AllByRecursion IsReversibleWhereAccepted edits
+all_accepted_edits_are_reversible l [] = tt
+all_accepted_edits_are_reversible l (edit ∷ edits) = (every_accepted_edit_is_reversible l edit, all_accepted_edits_are_reversible l edits)
 
 -- HOW MANY
 
 -- One edit takes it back, wherever it was made.
-abbrev IsOnce : Edit → Type 0
-IsOnce edit = (policy : Loaded) → length (inv edit policy) ≡ 1
+abbrev HasInverseOfOneEdit : Edit → Type 0
+HasInverseOfOneEdit edit = (policy : LoadedPolicy) → length (inv edit policy) ≡ 1
 
-all_append : (edits others : List Edit) → AllByRecursion IsOnce edits → AllByRecursion IsOnce others → AllByRecursion IsOnce (edits ++ others)
-all_append [] others a b = b
-all_append (edit ∷ edits) others a b = (a.0, all_append edits others a.1 b)
+joined_edits_have_single_edit_inverses : (edits others : List Edit) → AllByRecursion HasInverseOfOneEdit edits → AllByRecursion HasInverseOfOneEdit others → AllByRecursion HasInverseOfOneEdit (edits ++ others)
+joined_edits_have_single_edit_inverses [] others a b = b
+joined_edits_have_single_edit_inverses (edit ∷ edits) others a b = (a.0, joined_edits_have_single_edit_inverses edits others a.1 b)
 
-put_once : (one : Removal) (policy : Loaded) → IsOnce (put_back one policy)
-put_once (removal.Line f at) policy = λ other. refl
-put_once (removal.Def f line at) policy = λ other. refl
+undoing_removal_has_single_edit_inverse : (one : PruneRemoval) (policy : LoadedPolicy) → HasInverseOfOneEdit (edit_undoing_removal one policy)
+undoing_removal_has_single_edit_inverse (removal.Line f at) policy = λ other. refl
+undoing_removal_has_single_edit_inverse (removal.Def f line at) policy = λ other. refl
 
-removals_once : (all : List Removal) (policy : Loaded) → AllByRecursion IsOnce (put_all_back all policy)
-removals_once [] policy = tt
-removals_once (one ∷ more) policy =
-    let next : Loaded = result_unwrap_or (removed one policy) policy in
-    all_append (put_all_back more next) (put_back one policy ∷ []) (removals_once more next) (put_once one policy, tt)
+undoing_removals_have_single_edit_inverses : (all : List PruneRemoval) (policy : LoadedPolicy) → AllByRecursion HasInverseOfOneEdit (edits_undoing_removals all policy)
+undoing_removals_have_single_edit_inverses [] policy = tt
+undoing_removals_have_single_edit_inverses (one ∷ more) policy =
+    let next : LoadedPolicy = result_unwrap_or (policy_after_removal one policy) policy in
+    joined_edits_have_single_edit_inverses (edits_undoing_removals more next) (edit_undoing_removal one policy ∷ []) (undoing_removals_have_single_edit_inverses more next) (undoing_removal_has_single_edit_inverse one policy, tt)
 
-inverse_once : (edit : Edit) (policy : Loaded) → AllByRecursion IsOnce (inv edit policy)
-inverse_once (Insert f at text) policy = (λ other. refl, tt)
-inverse_once (Delete f at) policy = (λ other. refl, tt)
-inverse_once (Move f from to) policy = (λ other. refl, tt)
-inverse_once (AddMember kind name at splice) policy = (λ other. refl, tt)
-inverse_once (DropMember kind name at) policy = (λ other. refl, tt)
-inverse_once (AddDef f line at splice) policy = (λ other. refl, tt)
-inverse_once (DropDef f line at) policy = (λ other. refl, tt)
-inverse_once (Rename kind name fresh) policy = (λ other. refl, tt)
-inverse_once (EndLine f) policy = (λ other. refl, tt)
-inverse_once (OpenEnd f) policy = (λ other. refl, tt)
-inverse_once Prune policy = removals_once (removals policy.walk) policy
+inverse_edits_have_single_edit_inverses : (edit : Edit) (policy : LoadedPolicy) → AllByRecursion HasInverseOfOneEdit (inv edit policy)
+inverse_edits_have_single_edit_inverses (Insert f at text) policy = (λ other. refl, tt)
+inverse_edits_have_single_edit_inverses (Delete f at) policy = (λ other. refl, tt)
+inverse_edits_have_single_edit_inverses (Move f from to) policy = (λ other. refl, tt)
+inverse_edits_have_single_edit_inverses (AddMember kind name at splice) policy = (λ other. refl, tt)
+inverse_edits_have_single_edit_inverses (DropMember kind name at) policy = (λ other. refl, tt)
+inverse_edits_have_single_edit_inverses (AddDef f line at splice) policy = (λ other. refl, tt)
+inverse_edits_have_single_edit_inverses (DropDef f line at) policy = (λ other. refl, tt)
+inverse_edits_have_single_edit_inverses (Rename kind name fresh) policy = (λ other. refl, tt)
+inverse_edits_have_single_edit_inverses (EndLine f) policy = (λ other. refl, tt)
+inverse_edits_have_single_edit_inverses (OpenEnd f) policy = (λ other. refl, tt)
+inverse_edits_have_single_edit_inverses Prune policy = undoing_removals_have_single_edit_inverses (prune_removals_of_walk policy.walk) policy
 
-inverses_once : (edits : List Edit) (policy : Loaded) → AllByRecursion IsOnce (inv_run edits policy)
-inverses_once [] policy = tt
-inverses_once (edit ∷ edits) policy =
-    all_append (inv_run edits (after edit policy)) (inv edit policy) (inverses_once edits (after edit policy)) (inverse_once edit policy)
+run_inverses_have_single_edit_inverses : (edits : List Edit) (policy : LoadedPolicy) → AllByRecursion HasInverseOfOneEdit (inv_run edits policy)
+run_inverses_have_single_edit_inverses [] policy = tt
+run_inverses_have_single_edit_inverses (edit ∷ edits) policy =
+    joined_edits_have_single_edit_inverses (inv_run edits (policy_after_edit_if_accepted edit policy)) (inv edit policy) (run_inverses_have_single_edit_inverses edits (policy_after_edit_if_accepted edit policy)) (inverse_edits_have_single_edit_inverses edit policy)
 
-as_many : (edits : List Edit) → AllByRecursion IsOnce edits → (policy : Loaded) → length (inv_run edits policy) ≡ length edits
-as_many [] once policy = refl
-as_many (edit ∷ edits) once policy =
-    omega (arith, length-append (inv_run edits (after edit policy)) (inv edit policy), as_many edits once.1 (after edit policy), once.0 policy)
+inverse_of_single_edit_inverses_is_as_long : (edits : List Edit) → AllByRecursion HasInverseOfOneEdit edits → (policy : LoadedPolicy) → length (inv_run edits policy) ≡ length edits
+inverse_of_single_edit_inverses_is_as_long [] once policy = refl
+inverse_of_single_edit_inverses_is_as_long (edit ∷ edits) once policy =
+    omega (arith, length-append (inv_run edits (policy_after_edit_if_accepted edit policy)) (inv edit policy), inverse_of_single_edit_inverses_is_as_long edits once.1 (policy_after_edit_if_accepted edit policy), once.0 policy)
 
 -- THE LAWS
-pub taken_back : Laws → (edits : List Edit) (policy new : Loaded) → load_of (files_of policy) ≡ Ok policy → run_all 0 edits policy ≡ Ok new
-    → IsTakenBack edits policy new
-taken_back l edits policy new loaded is =
-    let told : Runs edits policy new = runs edits (all_take l edits) 0 policy new loaded is in
-    record { loaded = told.loaded; back = run_accepted 0 (inv_run edits policy) new policy told.back; numbered = told.numbered }
+pub accepted_edits_have_restoring_inverse : AcceptedEditLaws → (edits : List Edit) (policy new : LoadedPolicy) → policy_or_load_fault (named_files_of_policy policy) ≡ Ok policy → policy_or_first_refusal 0 edits policy ≡ Ok new
+    → HasRestoringInverse edits policy new
+accepted_edits_have_restoring_inverse l edits policy new loaded is =
+    let told : IsReversibleRun edits policy new = run_of_reversible_edits_is_reversible edits (all_accepted_edits_are_reversible l edits) 0 policy new loaded is in
+    record { loaded = told.loaded; back = run_without_refusal_is_accepted 0 (inv_run edits policy) new policy told.back; numbered = told.numbered }
 
-pub inverses_as_many : (edits : List Edit) (policy other : Loaded) → length (inv_run (inv_run edits policy) other) ≡ length (inv_run edits policy)
-inverses_as_many edits policy other = as_many (inv_run edits policy) (inverses_once edits policy) other
+pub inverse_of_inverse_run_is_as_long : (edits : List Edit) (policy other : LoadedPolicy) → length (inv_run (inv_run edits policy) other) ≡ length (inv_run edits policy)
+inverse_of_inverse_run_is_as_long edits policy other = inverse_of_single_edit_inverses_is_as_long (inv_run edits policy) (run_inverses_have_single_edit_inverses edits policy) other

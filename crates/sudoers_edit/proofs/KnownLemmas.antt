@@ -1,24 +1,16 @@
 -- What the lines of a loaded file say.
-use Rattle.std.proofs.Common.{ℕ, ◌<◌, ◌≤◌, List, length, subst}
-use Rattle.std.specs.List.{AllByRecursion}
-use Rattle.sudoers_text.specs.Cut.{StandAlone}
-use Rattle.sudoers_text.specs.Fault.{line_limit}
-use Rattle.sudoers_line.specs.Line.{ReadsLine}
-use Rattle.sudoers_tree.specs.Line.{Line}
-use Rattle.sudoers_tree.specs.Policy.{SaysSo, texts}
-use Rattle.sudoers_tree.proofs.OneOutcome.{OneReading, NoFault}
-use Rattle.sudoers_tree.proofs.SaidLines.{LinesLaw, WholeLaw, all_said}
-use Rattle.sudoers_edit.specs.OneLine.{IsAlone}
-use Rattle.sudoers_edit.specs.internal.Splicing.{AreKnown}
-use Rattle.sudoers_edit.proofs.WayBackLemmas.{alone_at}
-use Rattle.sudoers_edit.proofs.WithinLemmas.{AscendLaw, makes_alias, says_at}
+use Rattle.sudoers_edit.proofs.Common.{AllByRecursion, AreSoundParsedLines, EachIsOneLineWhenCut, IsCorrectlyParsed, IsSingleLineCut, Line, LineReadsAsNode, EachLineHasComputedOutcome, List, LineCutAsItselfIsLogical, parsed_lines_are_read_as_single_lines, length, line_limit}
+use Rattle.sudoers_edit.proofs.Common.{subst, texts_of_lines, ℕ, ◌<◌, ◌≤◌}
+use Rattle.sudoers_tree.proofs.OneOutcome.{LineHasUniqueNode, ParsedLineHasNoSyntaxFault}
+use Rattle.sudoers_edit.proofs.WayBackLemmas.{numbered_line_of_cut_lines_is_single}
+use Rattle.sudoers_edit.proofs.WithinLemmas.{DefinitionsOfLineAreOrdered, line_with_definitions_is_alias_line, numbered_line_is_correctly_parsed}
 
-pub are_known : WholeLaw → LinesLaw → OneReading → NoFault → AscendLaw → ((line : List ℕ) → IsAlone line → (0 < length line) × (length line ≤ line_limit))
-    → (lines : List Line) → StandAlone (texts lines) → AllByRecursion SaysSo lines → AreKnown lines
-are_known whole outcomes reading faultless ascend size lines alone says = record {
-  says = all_said whole outcomes reading faultless lines alone says;
+pub parsed_lines_cut_alone_are_sound : LineCutAsItselfIsLogical → EachLineHasComputedOutcome → LineHasUniqueNode → ParsedLineHasNoSyntaxFault → DefinitionsOfLineAreOrdered → ((line : List ℕ) → IsSingleLineCut line → (0 < length line) × (length line ≤ line_limit))
+    → (lines : List Line) → EachIsOneLineWhenCut (texts_of_lines lines) → AllByRecursion IsCorrectlyParsed lines → AreSoundParsedLines lines
+parsed_lines_cut_alone_are_sound whole outcomes reading faultless ascend size lines alone says = record {
+  says = parsed_lines_are_read_as_single_lines whole outcomes reading faultless lines alone says;
   ascend = λ n line defs here makes.
-      let alias = makes_alias line.node defs makes in
-      ascend line.text alias.0 defs (subst (ReadsLine line.text) alias.1 (says_at lines n line says here));
-  short = λ n line here. (size line.text (alone_at lines n line alone here)).1;
+      let alias = line_with_definitions_is_alias_line line.node defs makes in
+      ascend line.text alias.0 defs (subst (LineReadsAsNode line.text) alias.1 (numbered_line_is_correctly_parsed lines n line says here));
+  short = λ n line here. (size line.text (numbered_line_of_cut_lines_is_single lines n line alone here)).1;
 }

@@ -1,3 +1,4 @@
+mod Common
 mod AlikeLemmas
 mod ChangedLemmas
 mod ExtentLemmas

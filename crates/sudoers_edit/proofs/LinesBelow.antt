@@ -1,99 +1,71 @@
 -- The laws of lines of the crates below, on which edits rest.
-use Rattle.std.proofs.Common.{◌≡◌, ℕ, ◌≤◌, true, false, List, [], ◌∷◌, length, Ok, subst}
-use Rattle.std.specs.List.{AllByRecursion}
-use Rattle.sudoers_text.specs.Cut.{cut_of}
-use Rattle.sudoers_text.specs.Ended.{ends_in_lf, has_unended_inside}
-use Rattle.sudoers_text.specs.Fault.{IsOutcome, line_limit}
-use Rattle.sudoers_text.specs.Line.{Cuts, join}
-use Rattle.sudoers_text.specs.Renamed.{IsDefinableName}
-use Rattle.sudoers_text.specs.Whole.{IsLogicalLine, is_logical_line}
-use Rattle.sudoers_text.proofs.Ascending.{tokens_ascend}
-use Rattle.sudoers_text.proofs.Closed.{closed_line}
-use Rattle.sudoers_text.proofs.Found.{cut_is}
-use Rattle.sudoers_text.proofs.LogicalLine.{logical_tells}
-use Rattle.sudoers_text.proofs.Outcomes.{one_outcome}
-use Rattle.sudoers_text.proofs.Renamed.{renamed_tokens}
-use Rattle.sudoers_text.proofs.RenamedLine.{renamed_end, renamed_line}
-use Rattle.sudoers_text.proofs.RenamedMode.{renamed_mode}
-use Rattle.sudoers_text.proofs.TokenLists.{one_token_list, tokens_are}
-use Rattle.sudoers_text.proofs.Unique.{one_cut}
-use Rattle.sudoers_text.proofs.WholeAlone.{alone, whole, whole_lines}
-use Rattle.sudoers_line.specs.Ascend.{DefsAscend, NamesAscend}
-use Rattle.sudoers_line.specs.Line.{IsFault, ReadsLine}
-use Rattle.sudoers_line.specs.Node.{Def, Node}
-use Rattle.sudoers_line.specs.Node as node
-use Rattle.sudoers_line.specs.Renamed.{NamedAlias, node_starts, renamed_alias, renamed_node, renamed_text, renaming_of}
-use Rattle.sudoers_line.specs.declared.fault.Why.{Why}
-use Rattle.sudoers_line.specs.declared.node.Kind.{Kind}
-use Rattle.sudoers_line.proofs.Ascending.{definitions_ascend}
-use Rattle.sudoers_line.proofs.Lines.{one_first, reading_or_fault}
-use Rattle.sudoers_line.proofs.NamesStand.{names_ascend}
-use Rattle.sudoers_line.proofs.RenamedBack.{renamed_back}
-use Rattle.sudoers_line.proofs.RenamedText.{ends_same, reads_line, stays_logical}
-use Rattle.sudoers_line_reader.specs.Outcome.{IsOutcome as IsLineOutcome, outcome_of}
-use Rattle.sudoers_line_reader.proofs.Contract.{one_reading, outcome_is}
+use Rattle.sudoers_edit.proofs.Common.{AllByRecursion, AreLinesOfText, AreOrderedAliasDefinitions, AreOrderedNameOffsets, Def, IsDefinableName, IsLineSyntaxFault, IsLogicalLine, IsOutcomeOfCut, Kind, LineReadsAsNode}
+use Rattle.sudoers_edit.proofs.Common.{List, NamedAlias, Node, Ok, [], alias_offsets_in_node, cut_outcome_of_text, ends_in_lf, false, has_inner_line_without_lf, join, length, line_text_after_rename}
+use Rattle.sudoers_edit.proofs.Common.{node_with_alias_renamed, renamed_alias, renaming_of_alias_in_node, subst, ℕ, ◌≡◌}
+use Rattle.sudoers_text.proofs.Ascending.{tokens_of_line_are_ordered}
+use Rattle.sudoers_text.proofs.Closed.{closed_line_is_line_anywhere}
+use Rattle.sudoers_text.proofs.Found.{computed_outcome_is_outcome_of_cut}
+use Rattle.sudoers_text.proofs.Renamed.{renamed_line_has_moved_tokens}
+use Rattle.sudoers_text.proofs.RenamedLine.{renaming_keeps_lf_end_of_line, renamed_line_is_logical_line}
+use Rattle.sudoers_text.proofs.RenamedMode.{renaming_keeps_line_mode}
+use Rattle.sudoers_text.proofs.TokenLists.{tokens_of_line_are_unique}
+use Rattle.sudoers_text.proofs.Unique.{lines_of_text_are_unique}
+use Rattle.sudoers_text.proofs.WholeAlone.{logical_lines_are_lines_of_their_join as lines_of_join_by_closed_line}
+use Rattle.sudoers_grammar.specs.Node as node
+use Rattle.sudoers_grammar.specs.declared.fault.Why.{Why}
+use Rattle.sudoers_grammar.proofs.Ascending.{alias_definitions_of_line_are_ordered}
+use Rattle.sudoers_grammar.proofs.Lines.{syntax_fault_of_line_is_unique as unique_fault_by_tokens, line_read_as_node_has_no_fault}
+use Rattle.sudoers_grammar.proofs.NamesStand.{alias_name_offsets_are_ordered}
+use Rattle.sudoers_grammar.proofs.RenamedBack.{renaming_back_gives_old_line}
+use Rattle.sudoers_grammar.proofs.RenamedText.{ends_same, reads_line, stays_logical}
+use Rattle.sudoers_line_reader.proofs.Contract.{node_of_line_is_unique}
 
 -- ONE LOGICAL LINE
 
 -- what is computed tells that a text is one
-pub line_tells : (text : List ℕ) → is_logical_line text ≡ true → IsLogicalLine text
-line_tells text = (logical_tells text).0
-
-pub line_told : (text : List ℕ) → IsLogicalLine text → is_logical_line text ≡ true
-line_told text = (logical_tells text).1
-
 -- the one line of a text is one
-pub alone_whole : (line : List ℕ) → cut_of line ≡ Ok (line ∷ []) → is_logical_line line ≡ true
-alone_whole line is = line_told line (whole line (subst (IsOutcome line) is (cut_is line)))
-
 -- one that is not too long is the one line of a text
-pub short_alone : (line : List ℕ) → is_logical_line line ≡ true → length line ≤ line_limit → cut_of line ≡ Ok (line ∷ [])
-short_alone line is short = one_outcome line (cut_of line) (Ok (line ∷ [])) (cut_is line) (alone line (line_tells line is) short)
-
 -- several, all but the last ending in LF, are those of their join
-pub whole_joined : (lines : List (List ℕ)) → AllByRecursion IsLogicalLine lines → has_unended_inside lines ≡ false → Cuts (join lines) lines
-whole_joined = whole_lines closed_line
+pub logical_lines_are_lines_of_their_join : (lines : List (List ℕ)) → AllByRecursion IsLogicalLine lines → has_inner_line_without_lf lines ≡ false → AreLinesOfText (join lines) lines
+logical_lines_are_lines_of_their_join = lines_of_join_by_closed_line closed_line_is_line_anywhere
 
-pub cut_joined : (lines others : List (List ℕ)) → AllByRecursion IsLogicalLine lines → has_unended_inside lines ≡ false → cut_of (join lines) ≡ Ok others
+pub lines_cut_from_join_are_joined_lines : (lines others : List (List ℕ)) → AllByRecursion IsLogicalLine lines → has_inner_line_without_lf lines ≡ false → cut_outcome_of_text (join lines) ≡ Ok others
     → others ≡ lines
-cut_joined lines others all ended is =
-    one_cut (join lines) others lines (subst (IsOutcome (join lines)) is (cut_is (join lines))).cuts (whole_joined lines all ended)
+lines_cut_from_join_are_joined_lines lines others all ended is =
+    lines_of_text_are_unique (join lines) others lines (subst (IsOutcomeOfCut (join lines)) is (computed_outcome_is_outcome_of_cut (join lines))).cuts (logical_lines_are_lines_of_their_join lines all ended)
 
 -- WHAT A LINE SAYS
 
-pub line_outcome : (line : List ℕ) → IsLineOutcome line (outcome_of line)
-line_outcome = outcome_is tokens_are
+pub reading_of_line_is_unique : (line : List ℕ) (says other : Node) → LineReadsAsNode line says → LineReadsAsNode line other → says ≡ other
+reading_of_line_is_unique = node_of_line_is_unique tokens_of_line_are_unique
 
-pub line_reading : (line : List ℕ) (says other : Node) → ReadsLine line says → ReadsLine line other → says ≡ other
-line_reading = one_reading one_token_list
+pub line_with_reading_has_no_syntax_fault : (line : List ℕ) (says : Node) (at : ℕ) (why : Why) → LineReadsAsNode line says → IsLineSyntaxFault line at why → ⊥
+line_with_reading_has_no_syntax_fault = line_read_as_node_has_no_fault tokens_of_line_are_unique
 
-pub line_faultless : (line : List ℕ) (says : Node) (at : ℕ) (why : Why) → ReadsLine line says → IsFault line at why → ⊥
-line_faultless = reading_or_fault one_token_list
+pub syntax_fault_of_line_is_unique : (line : List ℕ) (at other : ℕ) (why because : Why) → IsLineSyntaxFault line at why → IsLineSyntaxFault line other because → (at ≡ other) × (why ≡ because)
+syntax_fault_of_line_is_unique = unique_fault_by_tokens tokens_of_line_are_unique
 
-pub line_fault : (line : List ℕ) (at other : ℕ) (why because : Why) → IsFault line at why → IsFault line other because → (at ≡ other) × (why ≡ because)
-line_fault = one_first one_token_list
-
-pub line_defs : (line : List ℕ) (kind : Kind) (defs : List Def) → ReadsLine line (node.Alias kind defs) → DefsAscend 0 (length line) defs
-line_defs = definitions_ascend tokens_ascend
+pub definitions_of_alias_line_are_ordered : (line : List ℕ) (kind : Kind) (defs : List Def) → LineReadsAsNode line (node.Alias kind defs) → AreOrderedAliasDefinitions 0 (length line) defs
+definitions_of_alias_line_are_ordered = alias_definitions_of_line_are_ordered tokens_of_line_are_ordered
 
 -- A LINE WITH ANOTHER NAME
 
-pub line_names : (alias : NamedAlias) (line : List ℕ) (says : Node) → ReadsLine line says
-    → NamesAscend (length alias.name) 0 (length line) (node_starts alias says)
-line_names = names_ascend tokens_ascend
+pub alias_offsets_of_line_are_ordered : (alias : NamedAlias) (line : List ℕ) (says : Node) → LineReadsAsNode line says
+    → AreOrderedNameOffsets (length alias.name) 0 (length line) (alias_offsets_in_node alias says)
+alias_offsets_of_line_are_ordered = alias_name_offsets_are_ordered tokens_of_line_are_ordered
 
-pub renamed_reads : (alias : NamedAlias) (fresh line : List ℕ) (says : Node) → IsDefinableName alias.name → IsDefinableName fresh → ReadsLine line says
-    → ReadsLine (renamed_text alias fresh says line) (renamed_node (renaming_of alias fresh says) says)
-renamed_reads = reads_line tokens_ascend renamed_tokens renamed_mode renamed_line renamed_end
+pub renamed_line_reads_as_renamed_node : (alias : NamedAlias) (fresh line : List ℕ) (says : Node) → IsDefinableName alias.name → IsDefinableName fresh → LineReadsAsNode line says
+    → LineReadsAsNode (line_text_after_rename alias fresh says line) (node_with_alias_renamed (renaming_of_alias_in_node alias fresh says) says)
+renamed_line_reads_as_renamed_node = reads_line tokens_of_line_are_ordered renamed_line_has_moved_tokens renaming_keeps_line_mode renamed_line_is_logical_line renaming_keeps_lf_end_of_line
 
-pub renamed_whole : (alias : NamedAlias) (fresh line : List ℕ) (says : Node) → IsDefinableName alias.name → IsDefinableName fresh → ReadsLine line says
-    → IsLogicalLine line → IsLogicalLine (renamed_text alias fresh says line)
-renamed_whole = stays_logical tokens_ascend renamed_tokens renamed_mode renamed_line renamed_end
+pub renamed_logical_line_is_logical : (alias : NamedAlias) (fresh line : List ℕ) (says : Node) → IsDefinableName alias.name → IsDefinableName fresh → LineReadsAsNode line says
+    → IsLogicalLine line → IsLogicalLine (line_text_after_rename alias fresh says line)
+renamed_logical_line_is_logical = stays_logical tokens_of_line_are_ordered renamed_line_has_moved_tokens renaming_keeps_line_mode renamed_line_is_logical_line renaming_keeps_lf_end_of_line
 
-pub renamed_ends : (alias : NamedAlias) (fresh line : List ℕ) (says : Node) → IsDefinableName alias.name → IsDefinableName fresh → ReadsLine line says
-    → ends_in_lf line ≡ ends_in_lf (renamed_text alias fresh says line)
-renamed_ends = ends_same tokens_ascend renamed_tokens renamed_mode renamed_line renamed_end
+pub renamed_line_keeps_final_lf : (alias : NamedAlias) (fresh line : List ℕ) (says : Node) → IsDefinableName alias.name → IsDefinableName fresh → LineReadsAsNode line says
+    → ends_in_lf line ≡ ends_in_lf (line_text_after_rename alias fresh says line)
+renamed_line_keeps_final_lf = ends_same tokens_of_line_are_ordered renamed_line_has_moved_tokens renaming_keeps_line_mode renamed_line_is_logical_line renaming_keeps_lf_end_of_line
 
-pub renamed_undone : (alias : NamedAlias) (fresh line : List ℕ) (says : Node) → ReadsLine line says → node_starts (renamed_alias alias fresh) says ≡ []
-    → renamed_text (renamed_alias alias fresh) alias.name (renamed_node (renaming_of alias fresh says) says) (renamed_text alias fresh says line) ≡ line
-renamed_undone = renamed_back tokens_ascend
+pub reverse_rename_restores_line : (alias : NamedAlias) (fresh line : List ℕ) (says : Node) → LineReadsAsNode line says → alias_offsets_in_node (renamed_alias alias fresh) says ≡ []
+    → line_text_after_rename (renamed_alias alias fresh) alias.name (node_with_alias_renamed (renaming_of_alias_in_node alias fresh says) says) (line_text_after_rename alias fresh says line) ≡ line
+reverse_rename_restores_line = renaming_back_gives_old_line tokens_of_line_are_ordered

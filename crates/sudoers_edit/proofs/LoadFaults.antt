@@ -1,213 +1,203 @@
 -- No fault that the definition of loading gives holds want of memory.
-use Rattle.std.proofs.Common.{ℕ, zero, suc, ◌+◌, Bool, true, false, List, [], ◌∷◌, ◌++◌, length, option_map, Option, Some, None, Result, Ok, Err, IfErr, if◌then◌else◌}
-use Rattle.std.specs.Prelude.{nat_lt, nat_le}
-use Rattle.std.specs.Option.{option_map_or}
-use Rattle.sudoers_text.specs.Cut.{cut_of, fault_from, fault_in, is_open_line, lines_of, option_or}
-use Rattle.sudoers_text.specs.Fault.{line_limit, lf_count, text_limit}
-use Rattle.sudoers_text.specs.Word.{is_reserved}
-use Rattle.sudoers_text.specs.declared.fault.TextFault.{TextFault}
+use Rattle.sudoers_edit.proofs.Common.{Bool, Err, FileVisit, IfErr, IncludeSite, Line, List, LoadFault, LoadedPolicy, NamedFile, None, Ok, Option, ParsedFile, PlacedDefinition, ReadFault, Result, Some, TextFault}
+use Rattle.sudoers_edit.proofs.Common.{WalkLineSpot, WalkState, [], alias_limit, cut_outcome_of_text, definition_count_of_kind, definitions_in_line, definitions_of_lines, empty_walk, false, fault_of_definition_name}
+use Rattle.sudoers_edit.proofs.Common.{fault_of_logical_line, fault_of_numbered_file, file_limit, file_lines_of, files_opened_by_lead, files_unless_missing, files_unless_on_walk, first_definition_fault}
+use Rattle.sudoers_edit.proofs.Common.{first_definition_of, first_fault_of_lines, first_fault_of_unreached_file, first_file_on_walk, first_of_two_faults, first_present_fault, first_repeated_file_name, if◌then◌else◌}
+use Rattle.sudoers_edit.proofs.Common.{include_depth_limit, include_site_of_line, is_file_on_walk, is_reserved, is_some, is_unfinished_line, lead_of_file_line, length, lf_count, line_limit, load_result_and_then}
+use Rattle.sudoers_edit.proofs.Common.{logical_lines_of_text, name_of_numbered_file, nat_le, nat_lt, option_map, option_map_or, parsed_file_or_cut_fault, parsed_files_or_cut_fault, policy_of_parsed_files}
+use Rattle.sudoers_edit.proofs.Common.{policy_or_load_fault, repeated_include_fault, reserved_name_fault, reserved_name_fault_in_lines, result_unless_repeated_name, spot_of_file_line, suc, syntax_fault_as_read_fault}
+use Rattle.sudoers_edit.proofs.Common.{text_limit, true, value_unless_file_fault, walk_after_file_lines, walk_after_file_visit, walk_after_file_visits, walk_or_fault_of_files, walk_or_first_fault}
+use Rattle.sudoers_edit.proofs.Common.{walk_or_unreached_file_fault, walk_with_file_entered, walk_with_line_appended, zero, ℕ, ◌++◌, ◌+◌, ◌∷◌}
 use Rattle.sudoers_text.specs.declared.fault.TextFault.TheVariants as text
-use Rattle.sudoers_tree.specs.Definition.{Definition, defined, definitions, definitions_in}
-use Rattle.sudoers_tree.specs.Fault.{is_some, name_fault, syntax_fault}
-use Rattle.sudoers_tree.specs.Files.{FileReading, fault_of, lines_of as file_lines_of, name_of}
-use Rattle.sudoers_tree.specs.Line.{Line}
-use Rattle.sudoers_tree.specs.Load.{Loaded, cut_file, fault_off, file_limit, first_repeated, first_reserved, load_of, loaded_over, readings, reserved_in, unless_off, unless_same, walked_over}
-use Rattle.sudoers_tree.specs.Policy.{alias_limit, count_of}
-use Rattle.sudoers_tree.specs.Reading.{first_name_fault, or_later}
-use Rattle.sudoers_tree.specs.Targets.{targets}
-use Rattle.sudoers_tree.specs.Walk.{Site, Visit, Walked, and_then, depth_limit, enter, first_on, is_on, leads_to, nothing, opened, site, spot_of, taken, twice, unless_in, unless_missing, unless_on, visit, visit_each, walk_lines, walk_of}
-use Rattle.sudoers_tree.specs.declared.fault.ReadFault.{ReadFault}
+use Rattle.sudoers_tree.specs.Targets.{targets_of_lead}
 use Rattle.sudoers_tree.specs.declared.fault.ReadFault.TheVariants as read
 use Rattle.sudoers_tree.specs.declared.fault.SyntaxFault.{SyntaxFault}
-use Rattle.sudoers_tree.specs.declared.lead.Lead.{Lead}
-use Rattle.sudoers_tree.specs.declared.load.NamedFile.{NamedFile}
-use Rattle.sudoers_tree.specs.declared.load_fault.LoadFault.{LoadFault}
+use Rattle.sudoers_tree.specs.declared.include_leads.Lead.{Lead}
 use Rattle.sudoers_tree.specs.declared.load_fault.LoadFault.TheVariants.{TooManyFiles}
-use Rattle.sudoers_tree.specs.declared.place.Spot.{Spot}
-use Rattle.sudoers_edit.specs.Memory.{IsOfFiles, IsOfText}
+use Rattle.sudoers_edit.specs.Memory.{IsMemoryFreeLoadFault, IsMemoryFreeReadFault}
 
 -- a fault of files, if it is one, does not hold want of memory; nor does one of a text
-abbrev pub IsOfFilesIn : {X : Type 0} → Result X LoadFault → Type 0
-IsOfFilesIn r = IfErr r IsOfFiles
+abbrev pub HasNoMemoryLoadFault : {X : Type 0} → Result X LoadFault → Type 0
+HasNoMemoryLoadFault r = IfErr r IsMemoryFreeLoadFault
 
-abbrev IsOfTextIn : Option ReadFault → Type 0
-IsOfTextIn None = Unit {0}
-IsOfTextIn (Some fault) = IsOfText fault
+abbrev HasNoMemoryReadFault : Option ReadFault → Type 0
+HasNoMemoryReadFault None = Unit {0}
+HasNoMemoryReadFault (Some fault) = IsMemoryFreeReadFault fault
 
 -- CHOICES
 
-if_either : {X : Type 0} (b : Bool) (r s : Result X LoadFault) → IsOfFilesIn r → IsOfFilesIn s → IsOfFilesIn (if b then r else s)
-if_either true r s p q = p
-if_either false r s p q = q
+choice_gives_no_memory_fault : {X : Type 0} (b : Bool) (r s : Result X LoadFault) → HasNoMemoryLoadFault r → HasNoMemoryLoadFault s → HasNoMemoryLoadFault (if b then r else s)
+choice_gives_no_memory_fault true r s p q = p
+choice_gives_no_memory_fault false r s p q = q
 
-then_of : {A B : Type 0} (r : Result A LoadFault) (next : A → Result B LoadFault) → IsOfFilesIn r → ((x : A) → IsOfFilesIn (next x)) → IsOfFilesIn (and_then r next)
-then_of (Ok x) next p all = all x
-then_of (Err fault) next p all = p
+sequence_gives_no_memory_fault : {A B : Type 0} (r : Result A LoadFault) (next : A → Result B LoadFault) → HasNoMemoryLoadFault r → ((x : A) → HasNoMemoryLoadFault (next x)) → HasNoMemoryLoadFault (load_result_and_then r next)
+sequence_gives_no_memory_fault (Ok x) next p all = all x
+sequence_gives_no_memory_fault (Err fault) next p all = p
 
-later_of : (o later : Option ReadFault) → IsOfTextIn o → IsOfTextIn later → IsOfTextIn (or_later o later)
-later_of (Some fault) later p q = p
-later_of None later p q = q
+first_of_two_gives_no_memory_fault : (o later : Option ReadFault) → HasNoMemoryReadFault o → HasNoMemoryReadFault later → HasNoMemoryReadFault (first_of_two_faults o later)
+first_of_two_gives_no_memory_fault (Some fault) later p q = p
+first_of_two_gives_no_memory_fault None later p q = q
 
-unless_of : {A : Type 0} (name : List ℕ) (x : A) (o : Option ReadFault) → IsOfTextIn o → IsOfFilesIn (unless_in name x o)
-unless_of name x None p = tt
-unless_of name x (Some fault) p = p
+file_value_gives_no_memory_fault : {A : Type 0} (name : List ℕ) (x : A) (o : Option ReadFault) → HasNoMemoryReadFault o → HasNoMemoryLoadFault (value_unless_file_fault name x o)
+file_value_gives_no_memory_fault name x None p = tt
+file_value_gives_no_memory_fault name x (Some fault) p = p
 
 -- NAMES AND SYNTAX
 
-if_text : (b : Bool) (o : Option ReadFault) (fault : ReadFault) → IsOfText fault → IsOfTextIn o → IsOfTextIn (if b then Some fault else o)
-if_text true o fault p q = p
-if_text false o fault p q = q
+guarded_fault_gives_no_memory_fault : (b : Bool) (o : Option ReadFault) (fault : ReadFault) → IsMemoryFreeReadFault fault → HasNoMemoryReadFault o → HasNoMemoryReadFault (if b then Some fault else o)
+guarded_fault_gives_no_memory_fault true o fault p q = p
+guarded_fault_gives_no_memory_fault false o fault p q = q
 
-name_of_text : (before : List Definition) (d : Definition) → IsOfTextIn (name_fault before d)
-unfolding name_fault
-name_of_text before d =
-    let many : Option ReadFault = if nat_le alias_limit (count_of d.kind before) then Some (read.TooMany d.kind) else None in
-    let twice_or : Option ReadFault = if is_some (defined d.kind d.def.name before) then Some (read.Duplicate d.kind d.def.name) else many in
-    if_text (is_reserved d.def.name) twice_or (read.Reserved d.kind d.def.name) tt
-    (if_text (is_some (defined d.kind d.def.name before)) many (read.Duplicate d.kind d.def.name) tt
-    (if_text (nat_le alias_limit (count_of d.kind before)) None (read.TooMany d.kind) tt tt))
+definition_name_gives_no_memory_fault : (before : List PlacedDefinition) (d : PlacedDefinition) → HasNoMemoryReadFault (fault_of_definition_name before d)
+unfolding fault_of_definition_name
+definition_name_gives_no_memory_fault before d =
+    let many : Option ReadFault = if nat_le alias_limit (definition_count_of_kind d.kind before) then Some (read.TooMany d.kind) else None in
+    let twice_or : Option ReadFault = if is_some (first_definition_of d.kind d.def.name before) then Some (read.Duplicate d.kind d.def.name) else many in
+    guarded_fault_gives_no_memory_fault (is_reserved d.def.name) twice_or (read.Reserved d.kind d.def.name) tt
+    (guarded_fault_gives_no_memory_fault (is_some (first_definition_of d.kind d.def.name before)) many (read.Duplicate d.kind d.def.name) tt
+    (guarded_fault_gives_no_memory_fault (nat_le alias_limit (definition_count_of_kind d.kind before)) None (read.TooMany d.kind) tt tt))
 
-names_of_text : (before ds : List Definition) → IsOfTextIn (first_name_fault before ds)
-names_of_text before [] = tt
-names_of_text before (d ∷ ds) =
-    later_of (name_fault before d) (first_name_fault (before ++ d ∷ []) ds) (name_of_text before d) (names_of_text (before ++ d ∷ []) ds)
+definition_names_give_no_memory_fault : (before ds : List PlacedDefinition) → HasNoMemoryReadFault (first_definition_fault before ds)
+definition_names_give_no_memory_fault before [] = tt
+definition_names_give_no_memory_fault before (d ∷ ds) =
+    first_of_two_gives_no_memory_fault (fault_of_definition_name before d) (first_definition_fault (before ++ d ∷ []) ds) (definition_name_gives_no_memory_fault before d) (definition_names_give_no_memory_fault (before ++ d ∷ []) ds)
 
-syntax_of_text : (o : Option SyntaxFault) → IsOfTextIn (option_map syntax_fault o)
-syntax_of_text None = tt
-syntax_of_text (Some fault) = tt
+syntax_fault_gives_no_memory_fault : (o : Option SyntaxFault) → HasNoMemoryReadFault (option_map syntax_fault_as_read_fault o)
+syntax_fault_gives_no_memory_fault None = tt
+syntax_fault_gives_no_memory_fault (Some fault) = tt
 
-reserved_of_text : (ds : List Definition) → IsOfTextIn (first_reserved ds)
-reserved_of_text [] = tt
-reserved_of_text (d ∷ ds) = if_text (is_reserved d.def.name) (first_reserved ds) (read.Reserved d.kind d.def.name) tt (reserved_of_text ds)
+reserved_name_gives_no_memory_fault : (ds : List PlacedDefinition) → HasNoMemoryReadFault (reserved_name_fault ds)
+reserved_name_gives_no_memory_fault [] = tt
+reserved_name_gives_no_memory_fault (d ∷ ds) = guarded_fault_gives_no_memory_fault (is_reserved d.def.name) (reserved_name_fault ds) (read.Reserved d.kind d.def.name) tt (reserved_name_gives_no_memory_fault ds)
 
-all_reserved_of_text : (lines : List Line) → IsOfTextIn (reserved_in lines)
-all_reserved_of_text [] = tt
-all_reserved_of_text (line ∷ lines) =
-    later_of (first_reserved (definitions_in 0 line.node)) (reserved_in lines) (reserved_of_text (definitions_in 0 line.node)) (all_reserved_of_text lines)
+reserved_line_names_give_no_memory_fault : (lines : List Line) → HasNoMemoryReadFault (reserved_name_fault_in_lines lines)
+reserved_line_names_give_no_memory_fault [] = tt
+reserved_line_names_give_no_memory_fault (line ∷ lines) =
+    first_of_two_gives_no_memory_fault (reserved_name_fault (definitions_in_line 0 line.node)) (reserved_name_fault_in_lines lines) (reserved_name_gives_no_memory_fault (definitions_in_line 0 line.node)) (reserved_line_names_give_no_memory_fault lines)
 
 -- THE WALK
 
-taken_of : (name : List ℕ) (at : Spot) (line : Line) (w : Walked) → IsOfFilesIn (taken name at line w)
-taken_of name at line w =
-    unless_of name (record { lines = w.lines ++ line ∷ []; spots = w.spots ++ at ∷ []; on = w.on })
-    (first_name_fault (definitions w.lines) (definitions_in (length w.lines) line.node))
-    (names_of_text (definitions w.lines) (definitions_in (length w.lines) line.node))
+appended_walk_line_gives_no_memory_fault : (name : List ℕ) (at : WalkLineSpot) (line : Line) (w : WalkState) → HasNoMemoryLoadFault (walk_with_line_appended name at line w)
+appended_walk_line_gives_no_memory_fault name at line w =
+    file_value_gives_no_memory_fault name (record { lines = w.lines ++ line ∷ []; spots = w.spots ++ at ∷ []; on = w.on })
+    (first_definition_fault (definitions_of_lines w.lines) (definitions_in_line (length w.lines) line.node))
+    (definition_names_give_no_memory_fault (definitions_of_lines w.lines) (definitions_in_line (length w.lines) line.node))
 
-on_of : (files : List FileReading) (at : Site) (inner : List ℕ) (o : Option ℕ) → IsOfFilesIn (unless_on files at inner o)
-on_of files at inner None = tt
-on_of files at inner (Some f) = tt
+files_on_walk_give_no_memory_fault : (files : List ParsedFile) (at : IncludeSite) (inner : List ℕ) (o : Option ℕ) → HasNoMemoryLoadFault (files_unless_on_walk files at inner o)
+files_on_walk_give_no_memory_fault files at inner None = tt
+files_on_walk_give_no_memory_fault files at inner (Some f) = tt
 
-missing_of : (files : List FileReading) (at : Site) (lead : Lead) (w : Walked) (o : Option (List ℕ)) → IsOfFilesIn (unless_missing files at lead w o)
-missing_of files at lead w None = tt
-missing_of files at lead w (Some inner) = on_of files at inner (first_on w inner)
+missing_files_give_no_memory_fault : (files : List ParsedFile) (at : IncludeSite) (lead : Lead) (w : WalkState) (o : Option (List ℕ)) → HasNoMemoryLoadFault (files_unless_missing files at lead w o)
+missing_files_give_no_memory_fault files at lead w None = tt
+missing_files_give_no_memory_fault files at lead w (Some inner) = files_on_walk_give_no_memory_fault files at inner (first_file_on_walk w inner)
 
-opened_of : (files : List FileReading) (at : Site) (w : Walked) (o : Option Lead) → IsOfFilesIn (opened files at w o)
-opened_of files at w None = tt
-opened_of files at w (Some lead) = missing_of files at lead w (targets files lead)
+files_of_lead_give_no_memory_fault : (files : List ParsedFile) (at : IncludeSite) (w : WalkState) (o : Option Lead) → HasNoMemoryLoadFault (files_opened_by_lead files at w o)
+files_of_lead_give_no_memory_fault files at w None = tt
+files_of_lead_give_no_memory_fault files at w (Some lead) = missing_files_give_no_memory_fault files at lead w (targets_of_lead files lead)
 
 -- visits that give no other faults
-abbrev AreOfFiles : Visit → Type 0
-AreOfFiles go = (at : Site) (f : ℕ) (w : Walked) → IsOfFilesIn (go at f w)
+abbrev VisitsGiveNoMemoryFault : FileVisit → Type 0
+VisitsGiveNoMemoryFault go = (at : IncludeSite) (f : ℕ) (w : WalkState) → HasNoMemoryLoadFault (go at f w)
 
-each_of : (go : Visit) → AreOfFiles go → (files : List FileReading) (at : Site) (inner : List ℕ) (w : Walked) → IsOfFilesIn (visit_each go files at inner w)
-each_of go all files at [] w = tt
-each_of go all files at (f ∷ more) w =
-    if_either (is_on w f) (Err (twice files at f)) (and_then (go at f w) (visit_each go files at more)) tt
-    (then_of (go at f w) (visit_each go files at more) (all at f w) (each_of go all files at more))
+file_visits_give_no_memory_fault : (go : FileVisit) → VisitsGiveNoMemoryFault go → (files : List ParsedFile) (at : IncludeSite) (inner : List ℕ) (w : WalkState) → HasNoMemoryLoadFault (walk_after_file_visits go files at inner w)
+file_visits_give_no_memory_fault go all files at [] w = tt
+file_visits_give_no_memory_fault go all files at (f ∷ more) w =
+    choice_gives_no_memory_fault (is_file_on_walk w f) (Err (repeated_include_fault files at f)) (load_result_and_then (go at f w) (walk_after_file_visits go files at more)) tt
+    (sequence_gives_no_memory_fault (go at f w) (walk_after_file_visits go files at more) (all at f w) (file_visits_give_no_memory_fault go all files at more))
 
-lines_of_files : (go : Visit) → AreOfFiles go → (files : List FileReading) (f n : ℕ) (lines : List Line) (w : Walked) → IsOfFilesIn (walk_lines go files f n lines w)
-lines_of_files go all files f n [] w = unless_of (name_of files f) w (option_map syntax_fault (fault_of files f)) (syntax_of_text (fault_of files f))
-lines_of_files go all files f n (line ∷ lines) w =
-    let inside : Walked → List ℕ → Result Walked LoadFault = λ now inner.
-    and_then (visit_each go files (site files f n) inner now) (walk_lines go files f (n + 1) lines) in
-    then_of (taken (name_of files f) (spot_of files f n) line w) (λ now. and_then (opened files (site files f n) now (leads_to files f line)) (inside now))
-    (taken_of (name_of files f) (spot_of files f n) line w)
-    (λ now. then_of (opened files (site files f n) now (leads_to files f line)) (inside now) (opened_of files (site files f n) now (leads_to files f line))
-    (λ inner. then_of (visit_each go files (site files f n) inner now) (walk_lines go files f (n + 1) lines) (each_of go all files (site files f n) inner now)
-    (lines_of_files go all files f (n + 1) lines)))
+file_lines_give_no_memory_fault : (go : FileVisit) → VisitsGiveNoMemoryFault go → (files : List ParsedFile) (f n : ℕ) (lines : List Line) (w : WalkState) → HasNoMemoryLoadFault (walk_after_file_lines go files f n lines w)
+file_lines_give_no_memory_fault go all files f n [] w = file_value_gives_no_memory_fault (name_of_numbered_file files f) w (option_map syntax_fault_as_read_fault (fault_of_numbered_file files f)) (syntax_fault_gives_no_memory_fault (fault_of_numbered_file files f))
+file_lines_give_no_memory_fault go all files f n (line ∷ lines) w =
+    let inside : WalkState → List ℕ → Result WalkState LoadFault = λ now inner.
+    load_result_and_then (walk_after_file_visits go files (include_site_of_line files f n) inner now) (walk_after_file_lines go files f (n + 1) lines) in
+    sequence_gives_no_memory_fault (walk_with_line_appended (name_of_numbered_file files f) (spot_of_file_line files f n) line w) (λ now. load_result_and_then (files_opened_by_lead files (include_site_of_line files f n) now (lead_of_file_line files f line)) (inside now))
+    (appended_walk_line_gives_no_memory_fault (name_of_numbered_file files f) (spot_of_file_line files f n) line w)
+    (λ now. sequence_gives_no_memory_fault (files_opened_by_lead files (include_site_of_line files f n) now (lead_of_file_line files f line)) (inside now) (files_of_lead_give_no_memory_fault files (include_site_of_line files f n) now (lead_of_file_line files f line))
+    (λ inner. sequence_gives_no_memory_fault (walk_after_file_visits go files (include_site_of_line files f n) inner now) (walk_after_file_lines go files f (n + 1) lines) (file_visits_give_no_memory_fault go all files (include_site_of_line files f n) inner now)
+    (file_lines_give_no_memory_fault go all files f (n + 1) lines)))
 
-visit_of : (left : ℕ) (files : List FileReading) → AreOfFiles (visit left files)
-visit_of zero files at f w = tt
-visit_of (suc left) files at f w = lines_of_files (visit left files) (visit_of left files) files f 0 (file_lines_of files f) (enter f w)
+file_visit_gives_no_memory_fault : (left : ℕ) (files : List ParsedFile) → VisitsGiveNoMemoryFault (walk_after_file_visit left files)
+file_visit_gives_no_memory_fault zero files at f w = tt
+file_visit_gives_no_memory_fault (suc left) files at f w = file_lines_give_no_memory_fault (walk_after_file_visit left files) (file_visit_gives_no_memory_fault left files) files f 0 (file_lines_of files f) (walk_with_file_entered f w)
 
-walk_of_files : (files : List FileReading) → IsOfFilesIn (walk_of files)
-unfolding walk_of
-walk_of_files files = lines_of_files (visit depth_limit files) (visit_of depth_limit files) files 0 0 (file_lines_of files 0) (enter 0 nothing)
+walk_of_files_gives_no_memory_fault : (files : List ParsedFile) → HasNoMemoryLoadFault (walk_or_fault_of_files files)
+unfolding walk_or_fault_of_files
+walk_of_files_gives_no_memory_fault files = file_lines_give_no_memory_fault (walk_after_file_visit include_depth_limit files) (file_visit_gives_no_memory_fault include_depth_limit files) files 0 0 (file_lines_of files 0) (walk_with_file_entered 0 empty_walk)
 
 -- ALL FILES
 
-off_of : (w : Walked) (n : ℕ) (files : List FileReading) → IsOfFilesIn (unless_off w n files)
-off_of w n [] = tt
-off_of w n (file ∷ files) =
-    then_of (if is_on w n then Ok w else unless_in file.name w (fault_off file)) (λ same. unless_off w (n + 1) files)
-    (if_either (is_on w n) (Ok w) (unless_in file.name w (fault_off file)) tt
-    (unless_of file.name w (fault_off file)
-    (later_of (reserved_in file.lines) (option_map syntax_fault file.fault) (all_reserved_of_text file.lines) (syntax_of_text file.fault))))
-    (λ same. off_of w (n + 1) files)
+unreached_file_gives_no_memory_fault : (w : WalkState) (n : ℕ) (files : List ParsedFile) → HasNoMemoryLoadFault (walk_or_unreached_file_fault w n files)
+unreached_file_gives_no_memory_fault w n [] = tt
+unreached_file_gives_no_memory_fault w n (file ∷ files) =
+    sequence_gives_no_memory_fault (if is_file_on_walk w n then Ok w else value_unless_file_fault file.name w (first_fault_of_unreached_file file)) (λ same. walk_or_unreached_file_fault w (n + 1) files)
+    (choice_gives_no_memory_fault (is_file_on_walk w n) (Ok w) (value_unless_file_fault file.name w (first_fault_of_unreached_file file)) tt
+    (file_value_gives_no_memory_fault file.name w (first_fault_of_unreached_file file)
+    (first_of_two_gives_no_memory_fault (reserved_name_fault_in_lines file.lines) (option_map syntax_fault_as_read_fault file.fault) (reserved_line_names_give_no_memory_fault file.lines) (syntax_fault_gives_no_memory_fault file.fault))))
+    (λ same. unreached_file_gives_no_memory_fault w (n + 1) files)
 
-walked_of : (files : List FileReading) → IsOfFilesIn (loaded_over files)
-walked_of files =
-    then_of (walked_over files) (λ w. Ok (record { files = files; walk = w }))
-    (then_of (walk_of files) (λ w. unless_off w 0 files) (walk_of_files files) (λ w. off_of w 0 files)) (λ w. tt)
+parsed_files_give_no_memory_fault : (files : List ParsedFile) → HasNoMemoryLoadFault (policy_of_parsed_files files)
+parsed_files_give_no_memory_fault files =
+    sequence_gives_no_memory_fault (walk_or_first_fault files) (λ w. Ok (record { files = files; walk = w }))
+    (sequence_gives_no_memory_fault (walk_or_fault_of_files files) (λ w. walk_or_unreached_file_fault w 0 files) (walk_of_files_gives_no_memory_fault files) (λ w. unreached_file_gives_no_memory_fault w 0 files)) (λ w. tt)
 
 -- CUTS
 
 -- want of memory is no fault of a cut
-abbrev IsOfCut : Option TextFault → Type 0
-IsOfCut None = Unit {0}
-IsOfCut (Some fault) = IsOfText (read.Text fault)
+abbrev HasNoMemoryTextFault : Option TextFault → Type 0
+HasNoMemoryTextFault None = Unit {0}
+HasNoMemoryTextFault (Some fault) = IsMemoryFreeReadFault (read.Text fault)
 
-either_cut : (o p : Option TextFault) → IsOfCut o → IsOfCut p → IsOfCut (option_or o p)
-either_cut None p x y = y
-either_cut (Some fault) p x y = x
+first_text_fault_gives_no_memory_fault : (o p : Option TextFault) → HasNoMemoryTextFault o → HasNoMemoryTextFault p → HasNoMemoryTextFault (first_present_fault o p)
+first_text_fault_gives_no_memory_fault None p x y = y
+first_text_fault_gives_no_memory_fault (Some fault) p x y = x
 
-if_cut : (b : Bool) (fault : TextFault) → IsOfText (read.Text fault) → IsOfCut (if b then Some fault else None)
-if_cut true fault p = p
-if_cut false fault p = tt
+guarded_text_fault_gives_no_memory_fault : (b : Bool) (fault : TextFault) → IsMemoryFreeReadFault (read.Text fault) → HasNoMemoryTextFault (if b then Some fault else None)
+guarded_text_fault_gives_no_memory_fault true fault p = p
+guarded_text_fault_gives_no_memory_fault false fault p = tt
 
-nul_cut : (at : ℕ) (o : Option ℕ) → IsOfCut (option_map (λ k. text.Nul (at + k)) o)
-nul_cut at None = tt
-nul_cut at (Some k) = tt
+nul_fault_gives_no_memory_fault : (at : ℕ) (o : Option ℕ) → HasNoMemoryTextFault (option_map (λ k. text.Nul (at + k)) o)
+nul_fault_gives_no_memory_fault at None = tt
+nul_fault_gives_no_memory_fault at (Some k) = tt
 
-line_cut : (number at : ℕ) (line : List ℕ) → IsOfCut (fault_in number at line)
-unfolding fault_in
-line_cut number at line = either_cut _ _ (nul_cut at _) (if_cut (nat_lt line_limit (length line)) (text.LineTooLong number) tt)
+fault_of_line_gives_no_memory_fault : (number at : ℕ) (line : List ℕ) → HasNoMemoryTextFault (fault_of_logical_line number at line)
+unfolding fault_of_logical_line
+fault_of_line_gives_no_memory_fault number at line = first_text_fault_gives_no_memory_fault _ _ (nul_fault_gives_no_memory_fault at _) (guarded_text_fault_gives_no_memory_fault (nat_lt line_limit (length line)) (text.LineTooLong number) tt)
 
-lines_cut : (number at : ℕ) (lines : List (List ℕ)) → IsOfCut (fault_from number at lines)
-unfolding fault_from
-lines_cut number at [] = tt
-lines_cut number at (line ∷ []) =
-    either_cut (fault_in number at line) (if is_open_line line then Some text.OpenContinuation else None) (line_cut number at line)
-    (if_cut (is_open_line line) text.OpenContinuation tt)
-lines_cut number at (line ∷ next ∷ lines) =
-    either_cut (fault_in number at line) (fault_from (number + lf_count line) (at + length line) (next ∷ lines)) (line_cut number at line)
-    (lines_cut (number + lf_count line) (at + length line) (next ∷ lines))
+fault_of_lines_gives_no_memory_fault : (number at : ℕ) (lines : List (List ℕ)) → HasNoMemoryTextFault (first_fault_of_lines number at lines)
+unfolding first_fault_of_lines
+fault_of_lines_gives_no_memory_fault number at [] = tt
+fault_of_lines_gives_no_memory_fault number at (line ∷ []) =
+    first_text_fault_gives_no_memory_fault (fault_of_logical_line number at line) (if is_unfinished_line line then Some text.OpenContinuation else None) (fault_of_line_gives_no_memory_fault number at line)
+    (guarded_text_fault_gives_no_memory_fault (is_unfinished_line line) text.OpenContinuation tt)
+fault_of_lines_gives_no_memory_fault number at (line ∷ next ∷ lines) =
+    first_text_fault_gives_no_memory_fault (fault_of_logical_line number at line) (first_fault_of_lines (number + lf_count line) (at + length line) (next ∷ lines)) (fault_of_line_gives_no_memory_fault number at line)
+    (fault_of_lines_gives_no_memory_fault (number + lf_count line) (at + length line) (next ∷ lines))
 
-file_cut : (name : List ℕ) (b : Bool) (o : Option TextFault) (lines : List (List ℕ)) → IsOfCut o
-    → IsOfFilesIn (cut_file name (if b then Err text.TooLarge else option_map_or (λ fault. Err fault) o (Ok lines)))
-file_cut name true o lines p = tt
-file_cut name false None lines p = tt
-file_cut name false (Some fault) lines p = p
+named_file_cut_gives_no_memory_fault : (name : List ℕ) (b : Bool) (o : Option TextFault) (lines : List (List ℕ)) → HasNoMemoryTextFault o
+    → HasNoMemoryLoadFault (parsed_file_or_cut_fault name (if b then Err text.TooLarge else option_map_or (λ fault. Err fault) o (Ok lines)))
+named_file_cut_gives_no_memory_fault name true o lines p = tt
+named_file_cut_gives_no_memory_fault name false None lines p = tt
+named_file_cut_gives_no_memory_fault name false (Some fault) lines p = p
 
-cut_of_files : (name bytes : List ℕ) → IsOfFilesIn (cut_file name (cut_of bytes))
-unfolding cut_of
-cut_of_files name bytes = file_cut name (nat_lt text_limit (length bytes)) (fault_from 1 0 (lines_of bytes)) (lines_of bytes) (lines_cut 1 0 (lines_of bytes))
+text_cut_gives_no_memory_fault : (name bytes : List ℕ) → HasNoMemoryLoadFault (parsed_file_or_cut_fault name (cut_outcome_of_text bytes))
+unfolding cut_outcome_of_text
+text_cut_gives_no_memory_fault name bytes = named_file_cut_gives_no_memory_fault name (nat_lt text_limit (length bytes)) (first_fault_of_lines 1 0 (logical_lines_of_text bytes)) (logical_lines_of_text bytes) (fault_of_lines_gives_no_memory_fault 1 0 (logical_lines_of_text bytes))
 
-readings_of : (before : List FileReading) (files : List NamedFile) → IsOfFilesIn (readings before files)
-readings_of before [] = tt
-readings_of before (file ∷ files) =
-    then_of (cut_file file.name (cut_of file.bytes)) (λ reading. readings (before ++ reading ∷ []) files) (cut_of_files file.name file.bytes)
-    (λ reading. readings_of (before ++ reading ∷ []) files)
+readings_of_files_give_no_memory_fault : (before : List ParsedFile) (files : List NamedFile) → HasNoMemoryLoadFault (parsed_files_or_cut_fault before files)
+readings_of_files_give_no_memory_fault before [] = tt
+readings_of_files_give_no_memory_fault before (file ∷ files) =
+    sequence_gives_no_memory_fault (parsed_file_or_cut_fault file.name (cut_outcome_of_text file.bytes)) (λ reading. parsed_files_or_cut_fault (before ++ reading ∷ []) files) (text_cut_gives_no_memory_fault file.name file.bytes)
+    (λ reading. readings_of_files_give_no_memory_fault (before ++ reading ∷ []) files)
 
 -- LOADING
 
-same_of : {A : Type 0} (o : Option (List ℕ)) (next : Result A LoadFault) → IsOfFilesIn next → IsOfFilesIn (unless_same o next)
-same_of None next p = p
-same_of (Some name) next p = tt
+repeated_name_gives_no_memory_fault : {A : Type 0} (o : Option (List ℕ)) (next : Result A LoadFault) → HasNoMemoryLoadFault next → HasNoMemoryLoadFault (result_unless_repeated_name o next)
+repeated_name_gives_no_memory_fault None next p = p
+repeated_name_gives_no_memory_fault (Some name) next p = tt
 
-pub load_of_files : (files : List NamedFile) → IsOfFilesIn (load_of files)
-unfolding load_of
-load_of_files files =
-    let loaded : Result Loaded LoadFault = and_then (readings [] files) loaded_over in
-    if_either (nat_lt file_limit (length files)) (Err TooManyFiles) (unless_same (first_repeated [] files) loaded) tt
-    (same_of (first_repeated [] files) loaded (then_of (readings [] files) loaded_over (readings_of [] files) walked_of))
+pub load_of_files_gives_no_memory_fault : (files : List NamedFile) → HasNoMemoryLoadFault (policy_or_load_fault files)
+unfolding policy_or_load_fault
+load_of_files_gives_no_memory_fault files =
+    let loaded : Result LoadedPolicy LoadFault = load_result_and_then (parsed_files_or_cut_fault [] files) policy_of_parsed_files in
+    choice_gives_no_memory_fault (nat_lt file_limit (length files)) (Err TooManyFiles) (result_unless_repeated_name (first_repeated_file_name [] files) loaded) tt
+    (repeated_name_gives_no_memory_fault (first_repeated_file_name [] files) loaded (sequence_gives_no_memory_fault (parsed_files_or_cut_fault [] files) policy_of_parsed_files (readings_of_files_give_no_memory_fault [] files) parsed_files_give_no_memory_fault))

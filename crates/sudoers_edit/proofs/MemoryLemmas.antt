@@ -1,252 +1,229 @@
 -- No refusal that the definition of an edit gives holds want of memory: the fault of files comes from loading them, and files have no
 -- such fault.
-use Rattle.std.proofs.Common.{inl, inr, ℕ, ◌+◌, Bool, true, false, not, ◌&&◌, ◌||◌, List, [], ◌∷◌, length, insert, remove, Option, Some, None, Result, Ok, Err, IfErr, sym, subst, ◌==◌, ◌≡◌, if◌then◌else◌}
-use Rattle.std.specs.Prelude.{slice_get, nat_lt, nat_le}
-use Rattle.std.specs.List.{list_any}
-use Rattle.sudoers_text.specs.Line.{join}
-use Rattle.sudoers_text.specs.Ended.{has_unended_inside}
-use Rattle.sudoers_text.specs.Word.{is_name, is_reserved}
+use Rattle.sudoers_edit.proofs.Common.{AddDef, AddMember, BadName, BadSplice, Bool, ByteExtent, Def, DefinitionFilePlace, Delete, DropDef, DropMember, Edit, EditFault, EndLine, Err, IfErr, Insert}
+use Rattle.sudoers_edit.proofs.Common.{IsRefusalOrNoMemory, ItemListKind, Kind, Line, LineTexts, List, LoadFault, LoadedPolicy, Move, NameTaken, NamedFile, NoAlias, NoFile, NoLine, NoPlace, None, NotOneLine, Ok}
+use Rattle.sudoers_edit.proofs.Common.{OnlyOne, OpenEnd, OpenLine, Option, ParsedFile, Place, Prune, PruneRemoval, Rename, Result, Some, TooLarge, [], changed_lines_if_spliced, definition_place_of_name}
+use Rattle.sudoers_edit.proofs.Common.{definitions_of_alias_line, edit_fault_of_load_fault, edit_result_and_then, extents_of_definitions, extents_of_members, false, file_place_of_definition}
+use Rattle.sudoers_edit.proofs.Common.{files_with_bytes_replaced, has_inner_line_without_lf, has_one_item_more, if◌then◌else◌, inl, inr, insert, is_alias_name_in_use, is_last_line_too_long, is_line_too_long, is_name}
+use Rattle.sudoers_edit.proofs.Common.{is_one_logical_line, is_reserved, is_some, join, length, line_with_lf_added, line_with_lf_removed, line_with_splice, line_without_bytes, lines_after_delete}
+use Rattle.sudoers_edit.proofs.Common.{lines_after_end_change, lines_after_insert, lines_after_move, lines_of_numbered_file, lines_with_definition_added, lines_with_definition_dropped, lines_with_item_cut_out}
+use Rattle.sudoers_edit.proofs.Common.{lines_with_item_put_in, lines_with_last_changed, lines_with_member_added, lines_with_member_dropped, lines_with_one_changed, lines_with_one_moved, lines_with_one_replaced}
+use Rattle.sudoers_edit.proofs.Common.{list_any, named_files_after_rename, named_files_of_policy, nat_le, nat_lt, not, owned_bytes_start, owned_bytes_stop, place_of_file_place, policy_after_removal}
+use Rattle.sudoers_edit.proofs.Common.{policy_after_removals, policy_after_rename, policy_of_files_or_refusal, policy_or_edit_fault, policy_or_load_fault, policy_with_alias_file_edited, policy_with_file_edited}
+use Rattle.sudoers_edit.proofs.Common.{policy_with_file_lines, prune_removals_of_walk, reading_of_single_line, remove, result_at_owned_bytes, result_at_splice_offset, result_or_refusal_if_none, result_unless_refused}
+use Rattle.sudoers_edit.proofs.Common.{result_with_definition_at, result_with_line_definitions, slice_get, step, subst, sym, texts_of_lines, texts_of_renamed_lines, true, ℕ, ◌&&◌, ◌+◌, ◌==◌, ◌||◌, ◌∷◌, ◌≡◌}
 use Rattle.sudoers_text.specs.declared.fault.TextFault.TheVariants as text
-use Rattle.sudoers_line.specs.Node.{Def}
-use Rattle.sudoers_line.specs.declared.node.Kind.{Kind}
-use Rattle.sudoers_tree.specs.Changed.{replaced}
-use Rattle.sudoers_tree.specs.Definition.{place_of}
-use Rattle.sudoers_tree.specs.Fault.{is_some}
-use Rattle.sudoers_tree.specs.FilePlaces.{file_place_of}
-use Rattle.sudoers_tree.specs.Files.{FileReading, lines_of}
-use Rattle.sudoers_tree.specs.Line.{Line}
-use Rattle.sudoers_tree.specs.Load.{Loaded, files_of, load_of}
-use Rattle.sudoers_tree.specs.Policy.{texts}
-use Rattle.sudoers_tree.specs.Single.{said}
 use Rattle.sudoers_tree.specs.declared.fault.ReadFault.TheVariants as read
-use Rattle.sudoers_tree.specs.declared.load.NamedFile.{NamedFile}
-use Rattle.sudoers_tree.specs.declared.load_fault.LoadFault.{LoadFault}
 use Rattle.sudoers_tree.specs.declared.load_fault.LoadFault.TheVariants as load
-use Rattle.sudoers_tree.specs.declared.place.FilePlace.{FilePlace}
-use Rattle.sudoers_tree.specs.declared.place.Place.{Place}
-use Rattle.sudoers_edit_script.specs.declared.edit.Edit.{Edit}
-use Rattle.sudoers_edit_script.specs.declared.edit.Edit.TheVariants.{Insert, Delete, Move, AddMember, DropMember, AddDef, DropDef, Rename, EndLine, OpenEnd, Prune}
-use Rattle.sudoers_edit.specs.declared.fault.EditFault.{EditFault}
-use Rattle.sudoers_edit.specs.declared.fault.EditFault.TheVariants.{NoFile, NoLine, NotOneLine, OpenLine, NoAlias, NoPlace, OnlyOne, BadName, NameTaken, BadSplice, TooLarge}
-use Rattle.sudoers_edit.specs.declared.one_more.Among.{Among}
-use Rattle.sudoers_edit.specs.declared.one_more.Among.TheVariants as among
-use Rattle.sudoers_edit.specs.declared.pruning.Removal.{Removal}
-use Rattle.sudoers_edit.specs.declared.pruning.Removal.TheVariants as removal
-use Rattle.sudoers_edit.specs.OneLine.{is_one_line}
-use Rattle.sudoers_edit.specs.Landing.{refuse_if, or_refuse, is_too_long, Lines, and_then, by_load, edit_of_load, landed, policy_or_refusal, with_bytes}
-use Rattle.sudoers_edit.specs.LineEdits.{moved, with_last, with_end, without_lf, is_last_too_long, with_line, without_line, with_move, with_ended}
-use Rattle.sudoers_edit.specs.Splice.{Extent, member_extents, def_extents, seam, owned_stop, line_without, line_with}
-use Rattle.sudoers_edit.specs.SpliceEdits.{place_to_add, place_to_drop, is_one_more, defs_of, with_defs, with_def, add_def, add_member, cut_out, drop_def, drop_member, if_spliced, put_in, with_changed}
-use Rattle.sudoers_edit.specs.Renaming.{renamed, is_taken, rename, renamed_files}
-use Rattle.sudoers_edit.specs.Editing.{Refuses, at_alias, in_file, place_in_file, removed, removed_all, step}
-use Rattle.sudoers_edit.specs.Memory.{IsOfFiles, TellsMemoryAlone}
-use Rattle.sudoers_edit.specs.Pruning.{removals}
-use Rattle.sudoers_edit.proofs.LoadFaults.{IsOfFilesIn, load_of_files}
+use Rattle.sudoers_edit.specs.declared.extra_item.ItemListKind.TheVariants as among
+use Rattle.sudoers_edit.specs.declared.pruning.PruneRemoval.TheVariants as removal
+use Rattle.sudoers_edit.specs.Memory.{IsMemoryFreeLoadFault, HasNoInnerMemoryFault}
+use Rattle.sudoers_edit.proofs.LoadFaults.{HasNoMemoryLoadFault, load_of_files_gives_no_memory_fault}
 
 -- a refusal, if it is one, does not hold want of memory
-abbrev pub IsPlain : {X : Type 0} → Result X EditFault → Type 0
-IsPlain r = IfErr r TellsMemoryAlone
+abbrev pub HasNoMemoryRefusal : {X : Type 0} → Result X EditFault → Type 0
+HasNoMemoryRefusal r = IfErr r HasNoInnerMemoryFault
 
 -- CHOICES
 
-if_plain : {X : Type 0} (b : Bool) (r s : Result X EditFault) → IsPlain r → IsPlain s → IsPlain (if b then r else s)
-if_plain true r s p q = p
-if_plain false r s p q = q
+choice_has_no_memory_refusal : {X : Type 0} (b : Bool) (r s : Result X EditFault) → HasNoMemoryRefusal r → HasNoMemoryRefusal s → HasNoMemoryRefusal (if b then r else s)
+choice_has_no_memory_refusal true r s p q = p
+choice_has_no_memory_refusal false r s p q = q
 
-or_plain : {A X : Type 0} (o : Option A) (fault : EditFault) (next : A → Result X EditFault) → TellsMemoryAlone fault → ((x : A) → IsPlain (next x))
-    → IsPlain (or_refuse o fault next)
-or_plain None fault next p all = p
-or_plain (Some x) fault next p all = all x
+optional_value_has_no_memory_refusal : {A X : Type 0} (o : Option A) (fault : EditFault) (next : A → Result X EditFault) → HasNoInnerMemoryFault fault → ((x : A) → HasNoMemoryRefusal (next x))
+    → HasNoMemoryRefusal (result_or_refusal_if_none o fault next)
+optional_value_has_no_memory_refusal None fault next p all = p
+optional_value_has_no_memory_refusal (Some x) fault next p all = all x
 
-then_plain : {A B : Type 0} (r : Result A EditFault) (next : A → Result B EditFault) → IsPlain r → ((x : A) → IsPlain (next x)) → IsPlain (and_then r next)
-then_plain (Ok x) next p all = all x
-then_plain (Err fault) next p all = p
+sequence_has_no_memory_refusal : {A B : Type 0} (r : Result A EditFault) (next : A → Result B EditFault) → HasNoMemoryRefusal r → ((x : A) → HasNoMemoryRefusal (next x)) → HasNoMemoryRefusal (edit_result_and_then r next)
+sequence_has_no_memory_refusal (Ok x) next p all = all x
+sequence_has_no_memory_refusal (Err fault) next p all = p
 
 -- THE RESULT
 
-fault_plain : (fault : LoadFault) → IsOfFiles fault → TellsMemoryAlone (edit_of_load fault)
-fault_plain load.NoMemory is = tt
-fault_plain load.TooManyFiles is = tt
-fault_plain (load.SameName name) is = tt
-fault_plain (load.InFile name (read.Text text.TooLarge)) is = tt
-fault_plain (load.InFile name (read.Text (text.LineTooLong line))) is = tt
-fault_plain (load.InFile name (read.Text (text.Nul at))) is = tt
-fault_plain (load.InFile name (read.Text text.OpenContinuation)) is = tt
-fault_plain (load.InFile name (read.Text text.NoMemory)) is = is
-fault_plain (load.InFile name (read.Syntax line col why)) is = tt
-fault_plain (load.InFile name (read.Reserved kind alias)) is = tt
-fault_plain (load.InFile name (read.Duplicate kind alias)) is = tt
-fault_plain (load.InFile name (read.TooMany kind)) is = tt
-fault_plain (load.InFile name (read.NotLoaded line other)) is = tt
-fault_plain (load.InFile name (read.Twice line other)) is = tt
-fault_plain (load.InFile name (read.TooDeep line)) is = tt
-fault_plain (load.InFile name read.NoMemory) is = is
+load_fault_has_no_inner_memory_fault : (fault : LoadFault) → IsMemoryFreeLoadFault fault → HasNoInnerMemoryFault (edit_fault_of_load_fault fault)
+load_fault_has_no_inner_memory_fault load.NoMemory is = tt
+load_fault_has_no_inner_memory_fault load.TooManyFiles is = tt
+load_fault_has_no_inner_memory_fault (load.SameName name) is = tt
+load_fault_has_no_inner_memory_fault (load.InFile name (read.Text text.TooLarge)) is = tt
+load_fault_has_no_inner_memory_fault (load.InFile name (read.Text (text.LineTooLong line))) is = tt
+load_fault_has_no_inner_memory_fault (load.InFile name (read.Text (text.Nul at))) is = tt
+load_fault_has_no_inner_memory_fault (load.InFile name (read.Text text.OpenContinuation)) is = tt
+load_fault_has_no_inner_memory_fault (load.InFile name (read.Text text.NoMemory)) is = is
+load_fault_has_no_inner_memory_fault (load.InFile name (read.Syntax line col why)) is = tt
+load_fault_has_no_inner_memory_fault (load.InFile name (read.Reserved kind alias)) is = tt
+load_fault_has_no_inner_memory_fault (load.InFile name (read.Duplicate kind alias)) is = tt
+load_fault_has_no_inner_memory_fault (load.InFile name (read.TooMany kind)) is = tt
+load_fault_has_no_inner_memory_fault (load.InFile name (read.NotLoaded line other)) is = tt
+load_fault_has_no_inner_memory_fault (load.InFile name (read.Twice line other)) is = tt
+load_fault_has_no_inner_memory_fault (load.InFile name (read.TooDeep line)) is = tt
+load_fault_has_no_inner_memory_fault (load.InFile name read.NoMemory) is = is
 
-by_plain : (r : Result Loaded LoadFault) → IsOfFilesIn r → IsPlain (by_load r)
-by_plain (Ok policy) is = tt
-by_plain (Err fault) is = fault_plain fault is
+load_as_edit_has_no_memory_refusal : (r : Result LoadedPolicy LoadFault) → HasNoMemoryLoadFault r → HasNoMemoryRefusal (policy_or_edit_fault r)
+load_as_edit_has_no_memory_refusal (Ok policy) is = tt
+load_as_edit_has_no_memory_refusal (Err fault) is = load_fault_has_no_inner_memory_fault fault is
 
-policy_plain : (files : List NamedFile) → IsPlain (policy_or_refusal files)
-policy_plain files = by_plain (load_of files) (load_of_files files)
+policy_of_files_has_no_memory_refusal : (files : List NamedFile) → HasNoMemoryRefusal (policy_of_files_or_refusal files)
+policy_of_files_has_no_memory_refusal files = load_as_edit_has_no_memory_refusal (policy_or_load_fault files) (load_of_files_gives_no_memory_fault files)
 
-landed_plain : (policy : Loaded) (f : ℕ) (lines : Lines) → IsPlain (landed policy f lines)
-landed_plain policy f lines =
-    let files : List NamedFile = with_bytes f (join lines) (files_of policy) in
-    if_plain (has_unended_inside lines) (Err OpenLine) (policy_or_refusal files) tt (policy_plain files)
+file_lines_have_no_memory_refusal : (policy : LoadedPolicy) (f : ℕ) (lines : LineTexts) → HasNoMemoryRefusal (policy_with_file_lines policy f lines)
+file_lines_have_no_memory_refusal policy f lines =
+    let files : List NamedFile = files_with_bytes_replaced f (join lines) (named_files_of_policy policy) in
+    choice_has_no_memory_refusal (has_inner_line_without_lf lines) (Err OpenLine) (policy_of_files_or_refusal files) tt (policy_of_files_has_no_memory_refusal files)
 
 -- WHOLE LINES
 
-insert_plain : (at : ℕ) (bytes : List ℕ) (lines : Lines) → IsPlain (with_line at bytes lines)
-insert_plain at bytes lines =
-    let put : Result Lines EditFault = if is_one_line bytes then Ok (insert lines at bytes) else Err NotOneLine in
-    if_plain (nat_lt (length lines) at) (Err NoLine) put tt (if_plain (is_one_line bytes) (Ok (insert lines at bytes)) (Err NotOneLine) tt tt)
+lines_of_insert_have_no_memory_refusal : (at : ℕ) (bytes : List ℕ) (lines : LineTexts) → HasNoMemoryRefusal (lines_after_insert at bytes lines)
+lines_of_insert_have_no_memory_refusal at bytes lines =
+    let put : Result LineTexts EditFault = if is_one_logical_line bytes then Ok (insert lines at bytes) else Err NotOneLine in
+    choice_has_no_memory_refusal (nat_lt (length lines) at) (Err NoLine) put tt (choice_has_no_memory_refusal (is_one_logical_line bytes) (Ok (insert lines at bytes)) (Err NotOneLine) tt tt)
 
-delete_plain : (at : ℕ) (lines : Lines) → IsPlain (without_line at lines)
-delete_plain at lines = if_plain (nat_lt at (length lines)) (Ok (remove lines at)) (Err NoLine) tt tt
+lines_of_delete_have_no_memory_refusal : (at : ℕ) (lines : LineTexts) → HasNoMemoryRefusal (lines_after_delete at lines)
+lines_of_delete_have_no_memory_refusal at lines = choice_has_no_memory_refusal (nat_lt at (length lines)) (Ok (remove lines at)) (Err NoLine) tt tt
 
-move_plain : (from to : ℕ) (lines : Lines) → IsPlain (with_move from to lines)
-move_plain from to lines = if_plain (nat_lt from (length lines) && nat_lt to (length lines)) (Ok (moved from to lines)) (Err NoLine) tt tt
+lines_of_move_have_no_memory_refusal : (from to : ℕ) (lines : LineTexts) → HasNoMemoryRefusal (lines_after_move from to lines)
+lines_of_move_have_no_memory_refusal from to lines = choice_has_no_memory_refusal (nat_lt from (length lines) && nat_lt to (length lines)) (Ok (lines_with_one_moved from to lines)) (Err NoLine) tt tt
 
-end_plain : (changed : Option Lines) → IsPlain (with_ended changed)
-end_plain None = tt
-end_plain (Some lines) = if_plain (is_last_too_long lines) (Err TooLarge) (Ok lines) tt tt
+end_change_lines_have_no_memory_refusal : (changed : Option LineTexts) → HasNoMemoryRefusal (lines_after_end_change changed)
+end_change_lines_have_no_memory_refusal None = tt
+end_change_lines_have_no_memory_refusal (Some lines) = choice_has_no_memory_refusal (is_last_line_too_long lines) (Err TooLarge) (Ok lines) tt tt
 
 -- MEMBERS AND DEFINITIONS
 
-to_add_plain : (at : ℕ) (xs : List Extent) (next : ℕ → Result Lines EditFault) → ((from : ℕ) → IsPlain (next from)) → IsPlain (place_to_add at xs next)
-to_add_plain at xs next all =
-    if_plain (nat_lt (length xs) at) (Err NoPlace) (or_refuse (seam at xs) BadSplice next) tt (or_plain (seam at xs) BadSplice next tt all)
+splice_offset_has_no_memory_refusal : (at : ℕ) (xs : List ByteExtent) (next : ℕ → Result LineTexts EditFault) → ((from : ℕ) → HasNoMemoryRefusal (next from)) → HasNoMemoryRefusal (result_at_splice_offset at xs next)
+splice_offset_has_no_memory_refusal at xs next all =
+    choice_has_no_memory_refusal (nat_lt (length xs) at) (Err NoPlace) (result_or_refusal_if_none (owned_bytes_start at xs) BadSplice next) tt (optional_value_has_no_memory_refusal (owned_bytes_start at xs) BadSplice next tt all)
 
-to_drop_plain : (at : ℕ) (xs : List Extent) (next : ℕ → ℕ → Result Lines EditFault) → ((from to : ℕ) → IsPlain (next from to))
-    → IsPlain (place_to_drop at xs next)
-to_drop_plain at xs next all =
-    let by_stop : ℕ → Result Lines EditFault = λ from. or_refuse (owned_stop at xs) BadSplice (λ to. next from to) in
-    let by_seam : Result Lines EditFault = or_refuse (seam at xs) BadSplice by_stop in
-    if_plain (nat_le (length xs) at) (Err NoPlace) (refuse_if (length xs == 1) OnlyOne by_seam) tt
-    (if_plain (length xs == 1) (Err OnlyOne) by_seam tt
-    (or_plain (seam at xs) BadSplice by_stop tt (λ from. or_plain (owned_stop at xs) BadSplice (λ to. next from to) tt (all from))))
+owned_bytes_have_no_memory_refusal : (at : ℕ) (xs : List ByteExtent) (next : ℕ → ℕ → Result LineTexts EditFault) → ((from to : ℕ) → HasNoMemoryRefusal (next from to))
+    → HasNoMemoryRefusal (result_at_owned_bytes at xs next)
+owned_bytes_have_no_memory_refusal at xs next all =
+    let by_stop : ℕ → Result LineTexts EditFault = λ from. result_or_refusal_if_none (owned_bytes_stop at xs) BadSplice (λ to. next from to) in
+    let by_seam : Result LineTexts EditFault = result_or_refusal_if_none (owned_bytes_start at xs) BadSplice by_stop in
+    choice_has_no_memory_refusal (nat_le (length xs) at) (Err NoPlace) (result_unless_refused (length xs == 1) OnlyOne by_seam) tt
+    (choice_has_no_memory_refusal (length xs == 1) (Err OnlyOne) by_seam tt
+    (optional_value_has_no_memory_refusal (owned_bytes_start at xs) BadSplice by_stop tt (λ from. optional_value_has_no_memory_refusal (owned_bytes_stop at xs) BadSplice (λ to. next from to) tt (all from))))
 
-spliced_plain : (reads : Bool) (at : ℕ) (line : List ℕ) (lines : List Line) → IsPlain (if_spliced reads at line lines)
-spliced_plain reads at line lines =
-    if_plain (not reads) (Err BadSplice) (with_changed at line (texts lines)) tt
-    (if_plain (is_too_long line) (Err TooLarge) (Ok (replaced at line (texts lines))) tt tt)
+spliced_line_has_no_memory_refusal : (reads : Bool) (at : ℕ) (line : List ℕ) (lines : List Line) → HasNoMemoryRefusal (changed_lines_if_spliced reads at line lines)
+spliced_line_has_no_memory_refusal reads at line lines =
+    choice_has_no_memory_refusal (not reads) (Err BadSplice) (lines_with_one_changed at line (texts_of_lines lines)) tt
+    (choice_has_no_memory_refusal (is_line_too_long line) (Err TooLarge) (Ok (lines_with_one_replaced at line (texts_of_lines lines))) tt tt)
 
-put_plain : (among : Among) (at from n : ℕ) (splice : List ℕ) (line : Line) (lines : List Line) → IsPlain (put_in among at from n splice line lines)
-put_plain among at from n splice line lines =
-    let new : List ℕ = line_with from splice line.text in
-    spliced_plain (is_one_more among at from (from + length splice) (said new) (Some line.node)) n new lines
+item_put_in_has_no_memory_refusal : (among : ItemListKind) (at from n : ℕ) (splice : List ℕ) (line : Line) (lines : List Line) → HasNoMemoryRefusal (lines_with_item_put_in among at from n splice line lines)
+item_put_in_has_no_memory_refusal among at from n splice line lines =
+    let new : List ℕ = line_with_splice from splice line.text in
+    spliced_line_has_no_memory_refusal (has_one_item_more among at from (from + length splice) (reading_of_single_line new) (Some line.node)) n new lines
 
-cut_plain : (among : Among) (at from to n : ℕ) (line : Line) (lines : List Line) → IsPlain (cut_out among at from to n line lines)
-cut_plain among at from to n line lines =
-    let new : List ℕ = line_without from to line.text in
-    spliced_plain (is_one_more among at from to (Some line.node) (said new)) n new lines
+item_cut_out_has_no_memory_refusal : (among : ItemListKind) (at from to n : ℕ) (line : Line) (lines : List Line) → HasNoMemoryRefusal (lines_with_item_cut_out among at from to n line lines)
+item_cut_out_has_no_memory_refusal among at from to n line lines =
+    let new : List ℕ = line_without_bytes from to line.text in
+    spliced_line_has_no_memory_refusal (has_one_item_more among at from to (Some line.node) (reading_of_single_line new)) n new lines
 
-with_defs_plain : (n : ℕ) (lines : List Line) (next : Line → List Def → Result Lines EditFault) → ((line : Line) (defs : List Def) → IsPlain (next line defs))
-    → IsPlain (with_defs n lines next)
-with_defs_plain n lines next all =
-    or_plain (slice_get lines n) NoLine (λ line. or_refuse (defs_of line.node) NoAlias (next line)) tt
-    (λ line. or_plain (defs_of line.node) NoAlias (next line) tt (all line))
+line_definitions_have_no_memory_refusal : (n : ℕ) (lines : List Line) (next : Line → List Def → Result LineTexts EditFault) → ((line : Line) (defs : List Def) → HasNoMemoryRefusal (next line defs))
+    → HasNoMemoryRefusal (result_with_line_definitions n lines next)
+line_definitions_have_no_memory_refusal n lines next all =
+    optional_value_has_no_memory_refusal (slice_get lines n) NoLine (λ line. result_or_refusal_if_none (definitions_of_alias_line line.node) NoAlias (next line)) tt
+    (λ line. optional_value_has_no_memory_refusal (definitions_of_alias_line line.node) NoAlias (next line) tt (all line))
 
-add_def_plain : (n at : ℕ) (splice : List ℕ) (lines : List Line) → IsPlain (add_def n at splice lines)
-unfolding add_def
-add_def_plain n at splice lines =
-    with_defs_plain n lines (λ line defs. place_to_add at (def_extents defs) (λ from. put_in among.Definitions at from n splice line lines))
-    (λ line defs. to_add_plain at (def_extents defs) (λ from. put_in among.Definitions at from n splice line lines)
-    (λ from. put_plain among.Definitions at from n splice line lines))
+definition_addition_has_no_memory_refusal : (n at : ℕ) (splice : List ℕ) (lines : List Line) → HasNoMemoryRefusal (lines_with_definition_added n at splice lines)
+unfolding lines_with_definition_added
+definition_addition_has_no_memory_refusal n at splice lines =
+    line_definitions_have_no_memory_refusal n lines (λ line defs. result_at_splice_offset at (extents_of_definitions defs) (λ from. lines_with_item_put_in among.Definitions at from n splice line lines))
+    (λ line defs. splice_offset_has_no_memory_refusal at (extents_of_definitions defs) (λ from. lines_with_item_put_in among.Definitions at from n splice line lines)
+    (λ from. item_put_in_has_no_memory_refusal among.Definitions at from n splice line lines))
 
-drop_def_plain : (n at : ℕ) (lines : List Line) → IsPlain (drop_def n at lines)
-unfolding drop_def
-drop_def_plain n at lines =
-    with_defs_plain n lines (λ line defs. place_to_drop at (def_extents defs) (λ from to. cut_out among.Definitions at from to n line lines))
-    (λ line defs. to_drop_plain at (def_extents defs) (λ from to. cut_out among.Definitions at from to n line lines)
-    (λ from to. cut_plain among.Definitions at from to n line lines))
+definition_drop_has_no_memory_refusal : (n at : ℕ) (lines : List Line) → HasNoMemoryRefusal (lines_with_definition_dropped n at lines)
+unfolding lines_with_definition_dropped
+definition_drop_has_no_memory_refusal n at lines =
+    line_definitions_have_no_memory_refusal n lines (λ line defs. result_at_owned_bytes at (extents_of_definitions defs) (λ from to. lines_with_item_cut_out among.Definitions at from to n line lines))
+    (λ line defs. owned_bytes_have_no_memory_refusal at (extents_of_definitions defs) (λ from to. lines_with_item_cut_out among.Definitions at from to n line lines)
+    (λ from to. item_cut_out_has_no_memory_refusal among.Definitions at from to n line lines))
 
-with_def_plain : (place : Option Place) (lines : List Line) (next : Place → Line → Def → Result Lines EditFault)
-    → ((at : Place) (line : Line) (d : Def) → IsPlain (next at line d)) → IsPlain (with_def place lines next)
-with_def_plain place lines next all =
-    let by_defs : Place → Line → List Def → Result Lines EditFault = λ at line defs. or_refuse (slice_get defs at.def) NoAlias (λ d. next at line d) in
-    let by_line : Place → Line → Result Lines EditFault = λ at line. or_refuse (defs_of line.node) NoAlias (by_defs at line) in
-    or_plain place NoAlias (λ at. or_refuse (slice_get lines at.line) NoAlias (by_line at)) tt
-    (λ at. or_plain (slice_get lines at.line) NoAlias (by_line at) tt
-    (λ line. or_plain (defs_of line.node) NoAlias (by_defs at line) tt
-    (λ defs. or_plain (slice_get defs at.def) NoAlias (λ d. next at line d) tt (all at line))))
+definition_at_place_has_no_memory_refusal : (place : Option Place) (lines : List Line) (next : Place → Line → Def → Result LineTexts EditFault)
+    → ((at : Place) (line : Line) (d : Def) → HasNoMemoryRefusal (next at line d)) → HasNoMemoryRefusal (result_with_definition_at place lines next)
+definition_at_place_has_no_memory_refusal place lines next all =
+    let by_defs : Place → Line → List Def → Result LineTexts EditFault = λ at line defs. result_or_refusal_if_none (slice_get defs at.def) NoAlias (λ d. next at line d) in
+    let by_line : Place → Line → Result LineTexts EditFault = λ at line. result_or_refusal_if_none (definitions_of_alias_line line.node) NoAlias (by_defs at line) in
+    optional_value_has_no_memory_refusal place NoAlias (λ at. result_or_refusal_if_none (slice_get lines at.line) NoAlias (by_line at)) tt
+    (λ at. optional_value_has_no_memory_refusal (slice_get lines at.line) NoAlias (by_line at) tt
+    (λ line. optional_value_has_no_memory_refusal (definitions_of_alias_line line.node) NoAlias (by_defs at line) tt
+    (λ defs. optional_value_has_no_memory_refusal (slice_get defs at.def) NoAlias (λ d. next at line d) tt (all at line))))
 
-add_member_plain : (place : Place) (at : ℕ) (splice : List ℕ) (lines : List Line) → IsPlain (add_member place at splice lines)
-unfolding add_member
-add_member_plain place at splice lines =
-    let put : Place → Line → ℕ → Result Lines EditFault = λ place line from. put_in (among.Members place.def) at from place.line splice line lines in
-    with_def_plain (Some place) lines (λ place line d. place_to_add at (member_extents d.members) (put place line))
-    (λ place line d. to_add_plain at (member_extents d.members) (put place line)
-    (λ from. put_plain (among.Members place.def) at from place.line splice line lines))
+member_addition_has_no_memory_refusal : (place : Place) (at : ℕ) (splice : List ℕ) (lines : List Line) → HasNoMemoryRefusal (lines_with_member_added place at splice lines)
+unfolding lines_with_member_added
+member_addition_has_no_memory_refusal place at splice lines =
+    let put : Place → Line → ℕ → Result LineTexts EditFault = λ place line from. lines_with_item_put_in (among.Members place.def) at from place.line splice line lines in
+    definition_at_place_has_no_memory_refusal (Some place) lines (λ place line d. result_at_splice_offset at (extents_of_members d.members) (put place line))
+    (λ place line d. splice_offset_has_no_memory_refusal at (extents_of_members d.members) (put place line)
+    (λ from. item_put_in_has_no_memory_refusal (among.Members place.def) at from place.line splice line lines))
 
-drop_member_plain : (place : Place) (at : ℕ) (lines : List Line) → IsPlain (drop_member place at lines)
-unfolding drop_member
-drop_member_plain place at lines =
-    let cut : Place → Line → ℕ → ℕ → Result Lines EditFault = λ place line from to. cut_out (among.Members place.def) at from to place.line line lines in
-    with_def_plain (Some place) lines (λ place line d. place_to_drop at (member_extents d.members) (cut place line))
-    (λ place line d. to_drop_plain at (member_extents d.members) (cut place line)
-    (λ from to. cut_plain (among.Members place.def) at from to place.line line lines))
+member_drop_has_no_memory_refusal : (place : Place) (at : ℕ) (lines : List Line) → HasNoMemoryRefusal (lines_with_member_dropped place at lines)
+unfolding lines_with_member_dropped
+member_drop_has_no_memory_refusal place at lines =
+    let cut : Place → Line → ℕ → ℕ → Result LineTexts EditFault = λ place line from to. lines_with_item_cut_out (among.Members place.def) at from to place.line line lines in
+    definition_at_place_has_no_memory_refusal (Some place) lines (λ place line d. result_at_owned_bytes at (extents_of_members d.members) (cut place line))
+    (λ place line d. owned_bytes_have_no_memory_refusal at (extents_of_members d.members) (cut place line)
+    (λ from to. item_cut_out_has_no_memory_refusal (among.Members place.def) at from to place.line line lines))
 
 -- NAMES
 
-rename_plain : (k : Kind) (name fresh : List ℕ) (policy : Loaded) → IsPlain (rename k name fresh policy)
-unfolding rename
-rename_plain k name fresh policy =
+rename_has_no_memory_refusal : (k : Kind) (name fresh : List ℕ) (policy : LoadedPolicy) → HasNoMemoryRefusal (policy_after_rename k name fresh policy)
+unfolding policy_after_rename
+rename_has_no_memory_refusal k name fresh policy =
     let walk : List Line = policy.walk.lines in
-    let last : Result Loaded EditFault = policy_or_refusal (renamed_files k name fresh policy) in
-    let long : Result Loaded EditFault = refuse_if (list_any is_too_long (renamed k name fresh walk)) TooLarge last in
-    let taken : Result Loaded EditFault = refuse_if (is_taken k fresh walk) NameTaken long in
-    let bad : Result Loaded EditFault = refuse_if (not (is_name fresh) || is_reserved fresh) BadName taken in
-    if_plain (not (is_some (place_of k name walk))) (Err NoAlias) bad tt
-    (if_plain (not (is_name fresh) || is_reserved fresh) (Err BadName) taken tt
-    (if_plain (is_taken k fresh walk) (Err NameTaken) long tt
-    (if_plain (list_any is_too_long (renamed k name fresh walk)) (Err TooLarge) last tt
-    (policy_plain (renamed_files k name fresh policy)))))
+    let last : Result LoadedPolicy EditFault = policy_of_files_or_refusal (named_files_after_rename k name fresh policy) in
+    let long : Result LoadedPolicy EditFault = result_unless_refused (list_any is_line_too_long (texts_of_renamed_lines k name fresh walk)) TooLarge last in
+    let taken : Result LoadedPolicy EditFault = result_unless_refused (is_alias_name_in_use k fresh walk) NameTaken long in
+    let bad : Result LoadedPolicy EditFault = result_unless_refused (not (is_name fresh) || is_reserved fresh) BadName taken in
+    choice_has_no_memory_refusal (not (is_some (definition_place_of_name k name walk))) (Err NoAlias) bad tt
+    (choice_has_no_memory_refusal (not (is_name fresh) || is_reserved fresh) (Err BadName) taken tt
+    (choice_has_no_memory_refusal (is_alias_name_in_use k fresh walk) (Err NameTaken) long tt
+    (choice_has_no_memory_refusal (list_any is_line_too_long (texts_of_renamed_lines k name fresh walk)) (Err TooLarge) last tt
+    (policy_of_files_has_no_memory_refusal (named_files_after_rename k name fresh policy)))))
 
 -- EDITS
 
-in_file_plain : (f : ℕ) (policy : Loaded) (edit : List Line → Result Lines EditFault) → ((lines : List Line) → IsPlain (edit lines)) → IsPlain (in_file f policy edit)
-in_file_plain f policy edit all =
-    or_plain (slice_get policy.files f) NoFile (λ (file : FileReading). and_then (edit file.lines) (landed policy f)) tt
-    (λ (file : FileReading). then_plain (edit file.lines) (landed policy f) (all file.lines) (landed_plain policy f))
+file_edit_has_no_memory_refusal : (f : ℕ) (policy : LoadedPolicy) (edit : List Line → Result LineTexts EditFault) → ((lines : List Line) → HasNoMemoryRefusal (edit lines)) → HasNoMemoryRefusal (policy_with_file_edited f policy edit)
+file_edit_has_no_memory_refusal f policy edit all =
+    optional_value_has_no_memory_refusal (slice_get policy.files f) NoFile (λ (file : ParsedFile). edit_result_and_then (edit file.lines) (policy_with_file_lines policy f)) tt
+    (λ (file : ParsedFile). sequence_has_no_memory_refusal (edit file.lines) (policy_with_file_lines policy f) (all file.lines) (file_lines_have_no_memory_refusal policy f))
 
-at_alias_plain : (k : Kind) (name : List ℕ) (policy : Loaded) (edit : Place → List Line → Result Lines EditFault)
-    → ((place : Place) (lines : List Line) → IsPlain (edit place lines)) → IsPlain (at_alias k name policy edit)
-at_alias_plain k name policy edit all =
-    or_plain (file_place_of k name policy.walk) NoAlias (λ (at : FilePlace). and_then (edit (place_in_file at) (lines_of policy.files at.file)) (landed policy at.file)) tt
-    (λ (at : FilePlace). then_plain (edit (place_in_file at) (lines_of policy.files at.file)) (landed policy at.file)
-    (all (place_in_file at) (lines_of policy.files at.file)) (landed_plain policy at.file))
+alias_edit_has_no_memory_refusal : (k : Kind) (name : List ℕ) (policy : LoadedPolicy) (edit : Place → List Line → Result LineTexts EditFault)
+    → ((place : Place) (lines : List Line) → HasNoMemoryRefusal (edit place lines)) → HasNoMemoryRefusal (policy_with_alias_file_edited k name policy edit)
+alias_edit_has_no_memory_refusal k name policy edit all =
+    optional_value_has_no_memory_refusal (file_place_of_definition k name policy.walk) NoAlias (λ (at : DefinitionFilePlace). edit_result_and_then (edit (place_of_file_place at) (lines_of_numbered_file policy.files at.file)) (policy_with_file_lines policy at.file)) tt
+    (λ (at : DefinitionFilePlace). sequence_has_no_memory_refusal (edit (place_of_file_place at) (lines_of_numbered_file policy.files at.file)) (policy_with_file_lines policy at.file)
+    (all (place_of_file_place at) (lines_of_numbered_file policy.files at.file)) (file_lines_have_no_memory_refusal policy at.file))
 
-removed_plain : (one : Removal) (policy : Loaded) → IsPlain (removed one policy)
-removed_plain (removal.Line f at) policy = in_file_plain f policy (λ lines. without_line at (texts lines)) (λ lines. delete_plain at (texts lines))
-removed_plain (removal.Def f line at) policy = in_file_plain f policy (drop_def line at) (drop_def_plain line at)
+removal_has_no_memory_refusal : (one : PruneRemoval) (policy : LoadedPolicy) → HasNoMemoryRefusal (policy_after_removal one policy)
+removal_has_no_memory_refusal (removal.Line f at) policy = file_edit_has_no_memory_refusal f policy (λ lines. lines_after_delete at (texts_of_lines lines)) (λ lines. lines_of_delete_have_no_memory_refusal at (texts_of_lines lines))
+removal_has_no_memory_refusal (removal.Def f line at) policy = file_edit_has_no_memory_refusal f policy (lines_with_definition_dropped line at) (definition_drop_has_no_memory_refusal line at)
 
-removed_all_plain : (rs : List Removal) (policy : Loaded) → IsPlain (removed_all rs policy)
-removed_all_plain [] policy = tt
-removed_all_plain (one ∷ more) policy = then_plain (removed one policy) (removed_all more) (removed_plain one policy) (removed_all_plain more)
+removals_have_no_memory_refusal : (rs : List PruneRemoval) (policy : LoadedPolicy) → HasNoMemoryRefusal (policy_after_removals rs policy)
+removals_have_no_memory_refusal [] policy = tt
+removals_have_no_memory_refusal (one ∷ more) policy = sequence_has_no_memory_refusal (policy_after_removal one policy) (policy_after_removals more) (removal_has_no_memory_refusal one policy) (removals_have_no_memory_refusal more)
 
-pub step_plain : (edit : Edit) (policy : Loaded) → IsPlain (step edit policy)
-step_plain (Insert f at bytes) policy = in_file_plain f policy (λ lines. with_line at bytes (texts lines)) (λ lines. insert_plain at bytes (texts lines))
-step_plain (Delete f at) policy = in_file_plain f policy (λ lines. without_line at (texts lines)) (λ lines. delete_plain at (texts lines))
-step_plain (Move f from to) policy = in_file_plain f policy (λ lines. with_move from to (texts lines)) (λ lines. move_plain from to (texts lines))
-step_plain (AddMember k name at splice) policy =
-    at_alias_plain k name policy (λ place. add_member place at splice) (λ place lines. add_member_plain place at splice lines)
-step_plain (DropMember k name at) policy = at_alias_plain k name policy (λ place. drop_member place at) (λ place lines. drop_member_plain place at lines)
-step_plain (AddDef f line at splice) policy = in_file_plain f policy (add_def line at splice) (add_def_plain line at splice)
-step_plain (DropDef f line at) policy = in_file_plain f policy (drop_def line at) (drop_def_plain line at)
-step_plain (Rename k name fresh) policy = rename_plain k name fresh policy
-step_plain (EndLine f) policy =
-    in_file_plain f policy (λ lines. with_ended (with_last with_end (texts lines))) (λ lines. end_plain (with_last with_end (texts lines)))
-step_plain (OpenEnd f) policy =
-    in_file_plain f policy (λ lines. with_ended (with_last without_lf (texts lines))) (λ lines. end_plain (with_last without_lf (texts lines)))
-step_plain Prune policy = removed_all_plain (removals policy.walk) policy
+pub step_has_no_memory_refusal : (edit : Edit) (policy : LoadedPolicy) → HasNoMemoryRefusal (step edit policy)
+step_has_no_memory_refusal (Insert f at bytes) policy = file_edit_has_no_memory_refusal f policy (λ lines. lines_after_insert at bytes (texts_of_lines lines)) (λ lines. lines_of_insert_have_no_memory_refusal at bytes (texts_of_lines lines))
+step_has_no_memory_refusal (Delete f at) policy = file_edit_has_no_memory_refusal f policy (λ lines. lines_after_delete at (texts_of_lines lines)) (λ lines. lines_of_delete_have_no_memory_refusal at (texts_of_lines lines))
+step_has_no_memory_refusal (Move f from to) policy = file_edit_has_no_memory_refusal f policy (λ lines. lines_after_move from to (texts_of_lines lines)) (λ lines. lines_of_move_have_no_memory_refusal from to (texts_of_lines lines))
+step_has_no_memory_refusal (AddMember k name at splice) policy =
+    alias_edit_has_no_memory_refusal k name policy (λ place. lines_with_member_added place at splice) (λ place lines. member_addition_has_no_memory_refusal place at splice lines)
+step_has_no_memory_refusal (DropMember k name at) policy = alias_edit_has_no_memory_refusal k name policy (λ place. lines_with_member_dropped place at) (λ place lines. member_drop_has_no_memory_refusal place at lines)
+step_has_no_memory_refusal (AddDef f line at splice) policy = file_edit_has_no_memory_refusal f policy (lines_with_definition_added line at splice) (definition_addition_has_no_memory_refusal line at splice)
+step_has_no_memory_refusal (DropDef f line at) policy = file_edit_has_no_memory_refusal f policy (lines_with_definition_dropped line at) (definition_drop_has_no_memory_refusal line at)
+step_has_no_memory_refusal (Rename k name fresh) policy = rename_has_no_memory_refusal k name fresh policy
+step_has_no_memory_refusal (EndLine f) policy =
+    file_edit_has_no_memory_refusal f policy (λ lines. lines_after_end_change (lines_with_last_changed line_with_lf_added (texts_of_lines lines))) (λ lines. end_change_lines_have_no_memory_refusal (lines_with_last_changed line_with_lf_added (texts_of_lines lines)))
+step_has_no_memory_refusal (OpenEnd f) policy =
+    file_edit_has_no_memory_refusal f policy (λ lines. lines_after_end_change (lines_with_last_changed line_with_lf_removed (texts_of_lines lines))) (λ lines. end_change_lines_have_no_memory_refusal (lines_with_last_changed line_with_lf_removed (texts_of_lines lines)))
+step_has_no_memory_refusal Prune policy = removals_have_no_memory_refusal (prune_removals_of_walk policy.walk) policy
 
 -- no refusal tells of want of memory
-pub tells_memory_alone : (edit : Edit) (policy : Loaded) (fault : EditFault) → step edit policy ≡ Err fault → TellsMemoryAlone fault
-tells_memory_alone edit policy fault is = subst (λ (r : Result Loaded EditFault). IsPlain r) is (step_plain edit policy)
+pub step_refusal_has_no_inner_memory_fault : (edit : Edit) (policy : LoadedPolicy) (fault : EditFault) → step edit policy ≡ Err fault → HasNoInnerMemoryFault fault
+step_refusal_has_no_inner_memory_fault edit policy fault is = subst (λ (r : Result LoadedPolicy EditFault). HasNoMemoryRefusal r) is (step_has_no_memory_refusal edit policy)
 
 -- what is told of an edit that is refused
-pub refused_plain : {X : Type 0} → (edit : Edit) (policy : Loaded) (r : Result X EditFault) → IfErr r (λ fault. Refuses fault (step edit policy)) → IfErr r TellsMemoryAlone
-refused_plain edit policy (Ok x) refused = tt
-refused_plain edit policy (Err fault) (inl none) = subst TellsMemoryAlone (sym none) tt
-refused_plain edit policy (Err fault) (inr is) = tells_memory_alone edit policy fault is
+pub told_refusal_has_no_inner_memory_fault : {X : Type 0} → (edit : Edit) (policy : LoadedPolicy) (r : Result X EditFault) → IfErr r (λ fault. IsRefusalOrNoMemory fault (step edit policy)) → IfErr r HasNoInnerMemoryFault
+told_refusal_has_no_inner_memory_fault edit policy (Ok x) refused = tt
+told_refusal_has_no_inner_memory_fault edit policy (Err fault) (inl none) = subst HasNoInnerMemoryFault (sym none) tt
+told_refusal_has_no_inner_memory_fault edit policy (Err fault) (inr is) = step_refusal_has_no_inner_memory_fault edit policy fault is

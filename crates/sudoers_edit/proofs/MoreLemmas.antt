@@ -1,13 +1,9 @@
 -- One member or definition more, as the code compares two lines.
-use Rattle.std.proofs.Common.{◌≡◌, ℕ, Bool, ◌&&◌, List, Some, refl, remove}
-use Rattle.sudoers_line.specs.Node.{Def, Node}
-use Rattle.sudoers_line.specs.declared.node.Kind.{Kind}
-use Rattle.sudoers_line.specs.Node as node
-use Rattle.sudoers_tree.specs.Definition.{is_kind}
-use Rattle.sudoers_edit.specs.Alike.{are_alike, is_same_def}
-use Rattle.sudoers_edit.specs.Splice.{def_extents, owns_exactly, is_def_more}
+use Rattle.sudoers_edit.proofs.Common.{Bool, Def, Kind, List, Node, Some, are_lists_alike, extents_of_definitions, has_exact_owned_bytes, has_one_definition_more, is_equal_kind, is_same_def, refl, remove, ℕ, ◌&&◌}
+use Rattle.sudoers_edit.proofs.Common.{◌≡◌}
+use Rattle.sudoers_grammar.specs.Node as node
 
-pub def_more : (at from to : ℕ) (k j : Kind) (more less : List Def) (n m : Node) (a b c : Bool) → n ≡ node.Alias k more → m ≡ node.Alias j less → a ≡ is_kind k j
-    → b ≡ are_alike is_same_def (remove more at) less → c ≡ owns_exactly at from to (def_extents more) (def_extents less)
-    → ((a && b) && c) ≡ is_def_more at from to (Some n) (Some m)
-def_more at from to k j more less n m a b c is was kind alike owned = rw (is, was, kind, alike, owned) refl
+pub compared_parts_make_one_definition_more : (at from to : ℕ) (k j : Kind) (more less : List Def) (n m : Node) (a b c : Bool) → n ≡ node.Alias k more → m ≡ node.Alias j less → a ≡ is_equal_kind k j
+    → b ≡ are_lists_alike is_same_def (remove more at) less → c ≡ has_exact_owned_bytes at from to (extents_of_definitions more) (extents_of_definitions less)
+    → ((a && b) && c) ≡ has_one_definition_more at from to (Some n) (Some m)
+compared_parts_make_one_definition_more at from to k j more less n m a b c is was kind alike owned = rw (is, was, kind, alike, owned) refl

@@ -1,81 +1,78 @@
 -- Where the bytes of a definition begin and stop.
-use Rattle.std.proofs.Common.{◌≡◌, ℕ, zero, suc, ◌-◌, ◌≤◌, ◌<◌, false, List, [], ◌∷◌, ◌++◌, length, take, drop, Some, refl, sym, ap, ◌∙◌, arith, ne_eqb, option_map}
-use Rattle.std.specs.Prelude.{slice_get, ◌==◌}
-use Rattle.std.proofs.lemmas.List.{length-append, length-drop, length-take-le}
-use Rattle.sudoers_text.specs.Ascend.{Ascend}
-use Rattle.sudoers_text.specs.Ended.{ends_in_lf}
-use Rattle.sudoers_line.specs.Node.{Def}
-use Rattle.sudoers_edit.specs.Splice.{Extent, def_extents, seam, owned_stop, line_without}
+use Rattle.sudoers_edit.proofs.Common.{AreOrderedSpans, ByteExtent, Def, List, Some, [], ap, arith, drop, ends_in_lf, extents_of_definitions, false, length, length-append, length-drop, length-take-le}
+use Rattle.sudoers_edit.proofs.Common.{line_without_bytes, option_map, owned_bytes_start, owned_bytes_stop, refl, slice_get, suc, sym, take, zero, ℕ, ◌++◌, ◌-◌, ◌<◌, ◌∙◌, ◌∷◌, ◌≡◌, ◌≤◌}
+use Rattle.std.proofs.Common.{ne_eqb}
+use Rattle.std.specs.Prelude.{◌==◌}
 
-abbrev pub AscendDefs : ℕ → ℕ → List Def → Type 0
-AscendDefs = Ascend (λ (d : Def). d.start) (λ (d : Def). d.stop)
+abbrev pub AreAscendingDefinitions : ℕ → ℕ → List Def → Type 0
+AreAscendingDefinitions = AreOrderedSpans (λ (d : Def). d.start) (λ (d : Def). d.stop)
 
-ascend_le : (from to : ℕ) (defs : List Def) → AscendDefs from to defs → from ≤ to
-ascend_le from to [] a = a
-ascend_le from to (d ∷ defs) a = omega (arith, a.0, a.1, ascend_le d.stop to defs a.2)
+start_of_ascending_is_at_most_end : (from to : ℕ) (defs : List Def) → AreAscendingDefinitions from to defs → from ≤ to
+start_of_ascending_is_at_most_end from to [] a = a
+start_of_ascending_is_at_most_end from to (d ∷ defs) a = omega (arith, a.0, a.1, start_of_ascending_is_at_most_end d.stop to defs a.2)
 
-seam_suc : (q : ℕ) (xs : List Extent) → seam (suc q) xs ≡ option_map (λ (x : Extent). x.1) (slice_get xs q)
-seam_suc q xs =
+owned_start_is_stop_of_item_before : (q : ℕ) (xs : List ByteExtent) → owned_bytes_start (suc q) xs ≡ option_map (λ (x : ByteExtent). x.1) (slice_get xs q)
+owned_start_is_stop_of_item_before q xs =
     let some : (suc q == 0) ≡ false = ne_eqb (suc q) 0 (λ same. omega (arith, same)) in
     let back : suc q - 1 ≡ q = omega arith in
     rw (some, back) refl
 
-stop_suc : (q : ℕ) (xs : List Extent) → owned_stop (suc q) xs ≡ option_map (λ (x : Extent). x.1) (slice_get xs (suc q))
-stop_suc q xs =
+later_item_owns_up_to_its_stop : (q : ℕ) (xs : List ByteExtent) → owned_bytes_stop (suc q) xs ≡ option_map (λ (x : ByteExtent). x.1) (slice_get xs (suc q))
+later_item_owns_up_to_its_stop q xs =
     let some : (suc q == 0) ≡ false = ne_eqb (suc q) 0 (λ same. omega (arith, same)) in
     rw some refl
 
-behind : (lo hi : ℕ) (defs : List Def) (q from to : ℕ) → AscendDefs lo hi defs
-    → option_map (λ (x : Extent). x.1) (slice_get (def_extents defs) q) ≡ Some from
-    → option_map (λ (x : Extent). x.1) (slice_get (def_extents defs) (suc q)) ≡ Some to → (from ≤ to) × (to ≤ hi)
-behind lo hi [] q from to a b c = absurd (cc)
-behind lo hi (d ∷ []) q from to a b c = absurd (cc)
-behind lo hi (d ∷ e ∷ ds) zero from to a b c =
+stops_of_neighbouring_definitions_are_ordered : (lo hi : ℕ) (defs : List Def) (q from to : ℕ) → AreAscendingDefinitions lo hi defs
+    → option_map (λ (x : ByteExtent). x.1) (slice_get (extents_of_definitions defs) q) ≡ Some from
+    → option_map (λ (x : ByteExtent). x.1) (slice_get (extents_of_definitions defs) (suc q)) ≡ Some to → (from ≤ to) × (to ≤ hi)
+stops_of_neighbouring_definitions_are_ordered lo hi [] q from to a b c = absurd (cc)
+stops_of_neighbouring_definitions_are_ordered lo hi (d ∷ []) q from to a b c = absurd (cc)
+stops_of_neighbouring_definitions_are_ordered lo hi (d ∷ e ∷ ds) zero from to a b c =
     let begins : d.stop ≡ from = cc in
     let stops : e.stop ≡ to = cc in
-    (omega (arith, a.2.0, a.2.1, begins, stops), omega (arith, ascend_le e.stop hi ds a.2.2, stops))
-behind lo hi (d ∷ e ∷ ds) (suc q) from to a b c = behind d.stop hi (e ∷ ds) q from to a.2 b c
+    (omega (arith, a.2.0, a.2.1, begins, stops), omega (arith, start_of_ascending_is_at_most_end e.stop hi ds a.2.2, stops))
+stops_of_neighbouring_definitions_are_ordered lo hi (d ∷ e ∷ ds) (suc q) from to a b c = stops_of_neighbouring_definitions_are_ordered d.stop hi (e ∷ ds) q from to a.2 b c
 
 -- What a definition owns stands among them.
-pub owned_within : (lo hi : ℕ) (defs : List Def) (at from to : ℕ) → AscendDefs lo hi defs → seam at (def_extents defs) ≡ Some from
-    → owned_stop at (def_extents defs) ≡ Some to → (from ≤ to) × (to ≤ hi)
-owned_within lo hi [] zero from to a b c = absurd (cc)
-owned_within lo hi (d ∷ []) zero from to a b c = absurd (cc)
-owned_within lo hi (d ∷ e ∷ ds) zero from to a b c =
+pub bytes_owned_by_definition_are_within : (lo hi : ℕ) (defs : List Def) (at from to : ℕ) → AreAscendingDefinitions lo hi defs → owned_bytes_start at (extents_of_definitions defs) ≡ Some from
+    → owned_bytes_stop at (extents_of_definitions defs) ≡ Some to → (from ≤ to) × (to ≤ hi)
+bytes_owned_by_definition_are_within lo hi [] zero from to a b c = absurd (cc)
+bytes_owned_by_definition_are_within lo hi (d ∷ []) zero from to a b c = absurd (cc)
+bytes_owned_by_definition_are_within lo hi (d ∷ e ∷ ds) zero from to a b c =
     let begins : d.start ≡ from = cc in
     let stops : e.start ≡ to = cc in
-    (omega (arith, a.1, a.2.0, begins, stops), omega (arith, a.2.1, ascend_le e.stop hi ds a.2.2, stops))
-owned_within lo hi defs (suc q) from to a b c =
-    behind lo hi defs q from to a (sym (seam_suc q (def_extents defs)) ∙ b) (sym (stop_suc q (def_extents defs)) ∙ c)
+    (omega (arith, a.1, a.2.0, begins, stops), omega (arith, a.2.1, start_of_ascending_is_at_most_end e.stop hi ds a.2.2, stops))
+bytes_owned_by_definition_are_within lo hi defs (suc q) from to a b c =
+    stops_of_neighbouring_definitions_are_ordered lo hi defs q from to a (sym (owned_start_is_stop_of_item_before q (extents_of_definitions defs)) ∙ b) (sym (later_item_owns_up_to_its_stop q (extents_of_definitions defs)) ∙ c)
 
 -- ---- the line without them
 
-pub shorter : (from to : ℕ) (line : List ℕ) → from ≤ to → to ≤ length line → length (line_without from to line) ≤ length line
-shorter from to line order inside =
+pub line_without_bytes_is_not_longer : (from to : ℕ) (line : List ℕ) → from ≤ to → to ≤ length line → length (line_without_bytes from to line) ≤ length line
+line_without_bytes_is_not_longer from to line order inside =
     let front : length (take from line) ≡ from = length-take-le from line (omega (arith, order, inside)) in
     omega (arith, order, inside, length-append (take from line) (drop to line), front, length-drop to line)
 
-ends_behind : (xs : List ℕ) (b : ℕ) (ys : List ℕ) → ends_in_lf (xs ++ b ∷ ys) ≡ ends_in_lf (b ∷ ys)
-ends_behind [] b ys = refl
-ends_behind (x ∷ []) b ys = refl
-ends_behind (x ∷ y ∷ xs) b ys = ends_behind (y ∷ xs) b ys
+line_end_is_that_of_last_part : (xs : List ℕ) (b : ℕ) (ys : List ℕ) → ends_in_lf (xs ++ b ∷ ys) ≡ ends_in_lf (b ∷ ys)
+line_end_is_that_of_last_part [] b ys = refl
+line_end_is_that_of_last_part (x ∷ []) b ys = refl
+line_end_is_that_of_last_part (x ∷ y ∷ xs) b ys = line_end_is_that_of_last_part (y ∷ xs) b ys
 
 -- the end of a line
-pub record Tail (to : ℕ) (line : List ℕ) : Type 0 where
+pub record HasRestAtOffset (to : ℕ) (line : List ℕ) : Type 0 where
   pub first : ℕ
   pub rest : List ℕ
   pub is : drop to line ≡ first ∷ rest
   pub same : ends_in_lf line ≡ ends_in_lf (first ∷ rest)
 
-pub tail : (to : ℕ) (line : List ℕ) → to < length line → Tail to line
-tail to [] inside = absurd (omega (arith, inside))
-tail zero (b ∷ line) inside = record { first = b; rest = line; is = refl; same = refl }
-tail (suc to) (b ∷ []) inside = absurd (omega (arith, inside))
-tail (suc to) (b ∷ c ∷ line) inside =
-    let t = tail to (c ∷ line) (omega (arith, inside)) in
+pub line_has_rest_below_its_length : (to : ℕ) (line : List ℕ) → to < length line → HasRestAtOffset to line
+line_has_rest_below_its_length to [] inside = absurd (omega (arith, inside))
+line_has_rest_below_its_length zero (b ∷ line) inside = record { first = b; rest = line; is = refl; same = refl }
+line_has_rest_below_its_length (suc to) (b ∷ []) inside = absurd (omega (arith, inside))
+line_has_rest_below_its_length (suc to) (b ∷ c ∷ line) inside =
+    let t = line_has_rest_below_its_length to (c ∷ line) (omega (arith, inside)) in
     record { first = t.first; rest = t.rest; is = t.is; same = t.same }
 
-pub same_end : (from to : ℕ) (line : List ℕ) → to < length line → ends_in_lf (line_without from to line) ≡ ends_in_lf line
-same_end from to line inside =
-    let t = tail to line inside in
-    ap (λ z. ends_in_lf (take from line ++ z)) t.is ∙ ends_behind (take from line) t.first t.rest ∙ sym t.same
+pub line_without_inner_bytes_keeps_end : (from to : ℕ) (line : List ℕ) → to < length line → ends_in_lf (line_without_bytes from to line) ≡ ends_in_lf line
+line_without_inner_bytes_keeps_end from to line inside =
+    let t = line_has_rest_below_its_length to line inside in
+    ap (λ z. ends_in_lf (take from line ++ z)) t.is ∙ line_end_is_that_of_last_part (take from line) t.first t.rest ∙ sym t.same

@@ -1,79 +1,59 @@
 -- What takes an edit back carries as many bytes as the edit took out of the files.
-use Rattle.std.proofs.Common.{◌≡◌, ℕ, zero, suc, ◌+◌, ◌<◌, ◌≤◌, Bool, true, false, not, List, [], ◌∷◌, ◌++◌, length, map, take, drop, insert, Some, Ok, ap, arith}
-use Rattle.std.proofs.lemmas.List.{length-append, take-append-drop}
-use Rattle.std.specs.List.{AllByRecursion}
-use Rattle.std.specs.Prelude.{slice_get}
-use Rattle.std.specs.Result.{result_unwrap_or}
-use Rattle.sudoers_text.specs.Line.{join}
-use Rattle.sudoers_tree.specs.Changed.{replaced}
-use Rattle.sudoers_tree.specs.Files.{FileReading, lines_of}
-use Rattle.sudoers_tree.specs.Line.{Line}
-use Rattle.sudoers_tree.specs.Load.{Loaded, file_of, files_of, load_of}
-use Rattle.sudoers_tree.specs.Policy.{texts}
-use Rattle.sudoers_tree.specs.Single.{said}
-use Rattle.sudoers_tree.specs.declared.load.NamedFile.{NamedFile}
-use Rattle.sudoers_edit_script.specs.declared.edit.Edit.{Edit}
-use Rattle.sudoers_edit_script.specs.declared.edit.Edit.TheVariants.{Insert, Delete, Move, AddMember, DropMember, AddDef, DropDef, Rename, EndLine, OpenEnd, Prune}
-use Rattle.sudoers_edit.specs.declared.fault.EditFault.TheVariants.{BadSplice}
-use Rattle.sudoers_edit.specs.declared.one_more.Among.{Among}
-use Rattle.sudoers_edit.specs.declared.one_more.Among.TheVariants as among
-use Rattle.sudoers_edit.specs.declared.pruning.Removal.{Removal}
-use Rattle.sudoers_edit.specs.declared.pruning.Removal.TheVariants as removal
-use Rattle.sudoers_edit.specs.Payload.{payload_size, payloads_size, takes_out}
-use Rattle.sudoers_edit.specs.Splice.{line_with, def_extents, member_extents}
-use Rattle.sudoers_edit.specs.SpliceEdits.{is_one_more, add_def, add_member, put_in, with_changed}
-use Rattle.sudoers_edit.specs.Editing.{removed, put_back, put_all_back, step, inv, then_or, run_all}
-use Rattle.sudoers_edit.specs.Landing.{Lines, landed, with_bytes}
-use Rattle.sudoers_edit.specs.LineEdits.{with_line}
-use Rattle.sudoers_edit.specs.Pruning.{removals}
-use Rattle.sudoers_edit.specs.WayBack.{IsTakenBack, bytes_in}
-use Rattle.sudoers_edit.specs.internal.LeadingInFile.{texts_of}
-use Rattle.sudoers_edit.proofs.AcceptedLines.{in_file_ok, inserted, landed_ok, not_refused}
-use Rattle.sudoers_edit.proofs.AcceptedSplices.{added_def, added_member, at_alias_ok, changed_ok, to_add}
-use Rattle.sudoers_edit.proofs.InverseLaw.{first_ok}
-use Rattle.sudoers_edit.proofs.PrunePlaces.{all_append, file_within}
+use Rattle.sudoers_edit.proofs.Common.{AddDef, AddMember, AllByRecursion, BadSplice, Bool, Delete, DropDef, DropMember, Edit, EndLine, HasRestoringInverse, Insert, ItemListKind, Line, LineTexts, List, LoadedPolicy}
+use Rattle.sudoers_edit.proofs.Common.{Move, NamedFile, Ok, OpenEnd, ParsedFile, Prune, PruneRemoval, Rename, Some, [], ap, arith, byte_count_of_files, drop, edit_undoing_removal, edits_undoing_removals}
+use Rattle.sudoers_edit.proofs.Common.{extents_of_definitions, extents_of_members, false, files_with_bytes_replaced, has_one_item_more, insert, inv, join, length, length-append, line_texts_of_file, line_with_splice}
+use Rattle.sudoers_edit.proofs.Common.{lines_after_insert, lines_of_numbered_file, lines_with_definition_added, lines_with_item_put_in, lines_with_member_added, lines_with_one_changed, lines_with_one_replaced, map}
+use Rattle.sudoers_edit.proofs.Common.{named_file_of_parsed, named_files_of_policy, next_or_placed_refusal, not, policy_after_removal, policy_or_first_refusal, policy_or_load_fault, policy_with_file_lines}
+use Rattle.sudoers_edit.proofs.Common.{prune_removals_of_walk, reading_of_single_line, result_unwrap_or, slice_get, step, suc, take, take-append-drop, texts_of_lines, true, zero, ℕ, ◌++◌, ◌+◌, ◌<◌, ◌∷◌, ◌≡◌, ◌≤◌}
+use Rattle.sudoers_edit.specs.declared.extra_item.ItemListKind.TheVariants as among
+use Rattle.sudoers_edit.specs.declared.pruning.PruneRemoval.TheVariants as removal
+use Rattle.sudoers_edit.specs.Payload.{payload_size_of_edit, payload_size_of_edits, is_removing_edit}
+use Rattle.sudoers_edit.proofs.AcceptedLines.{accepted_file_edit_has_file_lines, accepted_insert_makes_inserted_lines, accepted_file_lines_are_ended_and_load, accepted_result_is_not_refused}
+use Rattle.sudoers_edit.proofs.AcceptedSplices.{accepted_add_def_has_line_definitions, accepted_add_member_has_alias_definition, accepted_alias_edit_has_lines, accepted_line_change_is_short, accepted_splice_has_start_offset}
+use Rattle.sudoers_edit.proofs.InverseLaw.{accepted_run_begins_with_accepted_step}
+use Rattle.sudoers_edit.proofs.PrunePlaces.{property_of_lists_holds_of_their_join, file_with_line_is_below_count}
 
 -- what the law says of the bytes of loaded files
-abbrev pub BytesLaw : Type 0
-BytesLaw = (files : List NamedFile) (policy : Loaded) → load_of files ≡ Ok policy → files_of policy ≡ files
+abbrev pub LoadedFilesHaveGivenBytes : Type 0
+LoadedFilesHaveGivenBytes = (files : List NamedFile) (policy : LoadedPolicy) → policy_or_load_fault files ≡ Ok policy → named_files_of_policy policy ≡ files
 
 -- what the law says of edits that are taken back
-abbrev pub LeadsBack : Type 0
-LeadsBack = (edits : List Edit) (policy new : Loaded) → load_of (files_of policy) ≡ Ok policy → run_all 0 edits policy ≡ Ok new → IsTakenBack edits policy new
+abbrev pub AcceptedEditsAreRestored : Type 0
+AcceptedEditsAreRestored = (edits : List Edit) (policy new : LoadedPolicy) → policy_or_load_fault (named_files_of_policy policy) ≡ Ok policy → policy_or_first_refusal 0 edits policy ≡ Ok new → HasRestoringInverse edits policy new
 
 -- The edit puts its bytes into a file, and does nothing else.
-abbrev pub Puts : Edit → Type 0
-Puts (Insert file at text) = Unit {0}
-Puts (Delete file at) = ⊥
-Puts (Move file from to) = ⊥
-Puts (AddMember kind name at splice) = Unit {0}
-Puts (DropMember kind name at) = ⊥
-Puts (AddDef file line at splice) = Unit {0}
-Puts (DropDef file line at) = ⊥
-Puts (Rename kind name fresh) = ⊥
-Puts (EndLine file) = ⊥
-Puts (OpenEnd file) = ⊥
-Puts Prune = ⊥
+abbrev pub IsPuttingEdit : Edit → Type 0
+IsPuttingEdit (Insert file at text) = Unit {0}
+IsPuttingEdit (Delete file at) = ⊥
+IsPuttingEdit (Move file from to) = ⊥
+IsPuttingEdit (AddMember kind name at splice) = Unit {0}
+IsPuttingEdit (DropMember kind name at) = ⊥
+IsPuttingEdit (AddDef file line at splice) = Unit {0}
+IsPuttingEdit (DropDef file line at) = ⊥
+IsPuttingEdit (Rename kind name fresh) = ⊥
+IsPuttingEdit (EndLine file) = ⊥
+IsPuttingEdit (OpenEnd file) = ⊥
+IsPuttingEdit Prune = ⊥
 
 -- ---- sizes
 
-insert_size : (lines : Lines) (at : ℕ) (text : List ℕ) → at ≤ length lines → length (join (insert lines at text)) ≡ length (join lines) + length text
-insert_size lines zero text within = omega (arith, length-append text (join lines))
-insert_size [] (suc n) text within = absurd (omega (arith, within))
-insert_size (line ∷ lines) (suc n) text within =
-    omega (arith, length-append line (join (insert lines n text)), length-append line (join lines), insert_size lines n text (omega (arith, within)))
+insert_adds_size_of_text : (lines : LineTexts) (at : ℕ) (text : List ℕ) → at ≤ length lines → length (join (insert lines at text)) ≡ length (join lines) + length text
+insert_adds_size_of_text lines zero text within = omega (arith, length-append text (join lines))
+insert_adds_size_of_text [] (suc n) text within = absurd (omega (arith, within))
+insert_adds_size_of_text (line ∷ lines) (suc n) text within =
+    omega (arith, length-append line (join (insert lines n text)), length-append line (join lines), insert_adds_size_of_text lines n text (omega (arith, within)))
 
-replaced_size : (lines : List Line) (n : ℕ) (text : List ℕ) (line : Line) → slice_get lines n ≡ Some line
-    → length (join (replaced n text (texts lines))) + length line.text ≡ length (join (texts lines)) + length text
-replaced_size [] n text line here = absurd cc
-replaced_size (old ∷ lines) zero text line here =
+replacement_changes_size_by_texts : (lines : List Line) (n : ℕ) (text : List ℕ) (line : Line) → slice_get lines n ≡ Some line
+    → length (join (lines_with_one_replaced n text (texts_of_lines lines))) + length line.text ≡ length (join (texts_of_lines lines)) + length text
+replacement_changes_size_by_texts [] n text line here = absurd cc
+replacement_changes_size_by_texts (old ∷ lines) zero text line here =
     let same : old ≡ line = cc in
-    omega (arith, length-append text (join (texts lines)), length-append old.text (join (texts lines)), ap (λ (l : Line). length l.text) same)
-replaced_size (old ∷ lines) (suc n) text line here =
-    omega (arith, length-append old.text (join (replaced n text (texts lines))), length-append old.text (join (texts lines)), replaced_size lines n text line here)
+    omega (arith, length-append text (join (texts_of_lines lines)), length-append old.text (join (texts_of_lines lines)), ap (λ (l : Line). length l.text) same)
+replacement_changes_size_by_texts (old ∷ lines) (suc n) text line here =
+    omega (arith, length-append old.text (join (lines_with_one_replaced n text (texts_of_lines lines))), length-append old.text (join (texts_of_lines lines)), replacement_changes_size_by_texts lines n text line here)
 
-with_size : (from : ℕ) (splice line : List ℕ) → length (take from line ++ splice ++ drop from line) ≡ length line + length splice
-with_size from splice line =
+splice_adds_its_size_to_line : (from : ℕ) (splice line : List ℕ) → length (take from line ++ splice ++ drop from line) ≡ length line + length splice
+splice_adds_its_size_to_line from splice line =
     omega (
       arith,
       length-append (take from line ++ splice) (drop from line),
@@ -82,112 +62,112 @@ with_size from splice line =
       ap length (take-append-drop from line),
     )
 
-put_size : (a : Among) (at from n : ℕ) (splice : List ℕ) (line : Line) (lines : List Line) (new : Lines) → slice_get lines n ≡ Some line
-    → put_in a at from n splice line lines ≡ Ok new → length (join new) ≡ length (join (texts lines)) + length splice
-put_size a at from n splice line lines new here is =
-    let text : List ℕ = line_with from splice line.text in
-    let reads : Bool = is_one_more a at from (from + length splice) (said text) (Some line.node) in
-    let made = changed_ok n text (texts lines) new (not_refused (not reads) BadSplice (with_changed n text (texts lines)) new is).1 in
-    let size : length text ≡ length line.text + length splice = with_size from splice line.text in
-    omega (arith, ap (λ (ls : Lines). length (join ls)) made.1, replaced_size lines n text line here, size)
+item_put_in_adds_size_of_splice : (a : ItemListKind) (at from n : ℕ) (splice : List ℕ) (line : Line) (lines : List Line) (new : LineTexts) → slice_get lines n ≡ Some line
+    → lines_with_item_put_in a at from n splice line lines ≡ Ok new → length (join new) ≡ length (join (texts_of_lines lines)) + length splice
+item_put_in_adds_size_of_splice a at from n splice line lines new here is =
+    let text : List ℕ = line_with_splice from splice line.text in
+    let reads : Bool = has_one_item_more a at from (from + length splice) (reading_of_single_line text) (Some line.node) in
+    let made = accepted_line_change_is_short n text (texts_of_lines lines) new (accepted_result_is_not_refused (not reads) BadSplice (lines_with_one_changed n text (texts_of_lines lines)) new is).1 in
+    let size : length text ≡ length line.text + length splice = splice_adds_its_size_to_line from splice line.text in
+    omega (arith, ap (λ (ls : LineTexts). length (join ls)) made.1, replacement_changes_size_by_texts lines n text line here, size)
 
 -- the files with other bytes of one
-bytes_size : (f : ℕ) (bytes : List ℕ) (files : List FileReading) → f < length files
-    → bytes_in (with_bytes f bytes (map file_of files)) + length (join (texts (lines_of files f))) ≡ bytes_in (map file_of files) + length bytes
-bytes_size f bytes [] here = absurd (omega (arith, here))
-bytes_size zero bytes (file ∷ files) here = omega arith
-bytes_size (suc f) bytes (file ∷ files) here = omega (arith, bytes_size f bytes files (omega (arith, here)))
+replacement_of_bytes_changes_file_size : (f : ℕ) (bytes : List ℕ) (files : List ParsedFile) → f < length files
+    → byte_count_of_files (files_with_bytes_replaced f bytes (map named_file_of_parsed files)) + length (join (texts_of_lines (lines_of_numbered_file files f))) ≡ byte_count_of_files (map named_file_of_parsed files) + length bytes
+replacement_of_bytes_changes_file_size f bytes [] here = absurd (omega (arith, here))
+replacement_of_bytes_changes_file_size zero bytes (file ∷ files) here = omega arith
+replacement_of_bytes_changes_file_size (suc f) bytes (file ∷ files) here = omega (arith, replacement_of_bytes_changes_file_size f bytes files (omega (arith, here)))
 
 -- lines that land with so many bytes more
-landed_size : BytesLaw → (policy new : Loaded) (f more : ℕ) (lines : Lines) → f < length policy.files → landed policy f lines ≡ Ok new
-    → length (join lines) ≡ length (join (texts_of policy f)) + more → bytes_in (files_of new) ≡ bytes_in (files_of policy) + more
-landed_size law policy new f more lines here is size =
-    let files : List NamedFile = with_bytes f (join lines) (files_of policy) in
-    let same : files_of new ≡ files = law files new (landed_ok policy new f lines is).1 in
-    omega (arith, ap bytes_in same, bytes_size f (join lines) policy.files here, size)
+larger_lines_enlarge_policy_as_much : LoadedFilesHaveGivenBytes → (policy new : LoadedPolicy) (f more : ℕ) (lines : LineTexts) → f < length policy.files → policy_with_file_lines policy f lines ≡ Ok new
+    → length (join lines) ≡ length (join (line_texts_of_file policy f)) + more → byte_count_of_files (named_files_of_policy new) ≡ byte_count_of_files (named_files_of_policy policy) + more
+larger_lines_enlarge_policy_as_much law policy new f more lines here is size =
+    let files : List NamedFile = files_with_bytes_replaced f (join lines) (named_files_of_policy policy) in
+    let same : named_files_of_policy new ≡ files = law files new (accepted_file_lines_are_ended_and_load policy new f lines is).1 in
+    omega (arith, ap byte_count_of_files same, replacement_of_bytes_changes_file_size f (join lines) policy.files here, size)
 
 -- ---- one edit
 
-grows : BytesLaw → (edit : Edit) → Puts edit → (policy new : Loaded) → step edit policy ≡ Ok new → bytes_in (files_of new) ≡ bytes_in (files_of policy) + payload_size edit
-grows law (Insert f at text) puts policy new is =
-    let i = in_file_ok f policy new (λ lines. with_line at text (texts lines)) is in
-    let p = inserted at text (texts_of policy f) i.lines i.made in
-    landed_size law policy new f (length text) i.lines i.here i.lands
-    (omega (arith, insert_size (texts_of policy f) at text p.0, ap (λ (ls : Lines). length (join ls)) p.1))
-grows law (AddMember kind name at splice) puts policy new is =
-    let i = at_alias_ok kind name policy new (λ place. add_member place at splice) is in
+putting_edit_enlarges_files_by_payload : LoadedFilesHaveGivenBytes → (edit : Edit) → IsPuttingEdit edit → (policy new : LoadedPolicy) → step edit policy ≡ Ok new → byte_count_of_files (named_files_of_policy new) ≡ byte_count_of_files (named_files_of_policy policy) + payload_size_of_edit edit
+putting_edit_enlarges_files_by_payload law (Insert f at text) puts policy new is =
+    let i = accepted_file_edit_has_file_lines f policy new (λ lines. lines_after_insert at text (texts_of_lines lines)) is in
+    let p = accepted_insert_makes_inserted_lines at text (line_texts_of_file policy f) i.lines i.made in
+    larger_lines_enlarge_policy_as_much law policy new f (length text) i.lines i.here i.lands
+    (omega (arith, insert_adds_size_of_text (line_texts_of_file policy f) at text p.0, ap (λ (ls : LineTexts). length (join ls)) p.1))
+putting_edit_enlarges_files_by_payload law (AddMember kind name at splice) puts policy new is =
+    let i = accepted_alias_edit_has_lines kind name policy new (λ place. lines_with_member_added place at splice) is in
     let f : ℕ = i.place.file in
     let n : ℕ = i.place.line in
-    let lines : List Line = lines_of policy.files f in
-    let d = added_member kind name at splice policy i.place i.lines i.named i.made in
-    let a = to_add at (member_extents d.d.members) (λ from. put_in (among.Members i.place.def) at from n splice d.line lines) i.lines d.told in
-    landed_size law policy new f (length splice) i.lines (file_within policy.files f n d.line d.is.here) i.lands
-    (put_size (among.Members i.place.def) at a.0 n splice d.line lines i.lines d.is.here a.2)
-grows law (AddDef f n at splice) puts policy new is =
-    let i = in_file_ok f policy new (add_def n at splice) is in
-    let lines : List Line = lines_of policy.files f in
-    let d = added_def n at splice lines i.lines i.made in
-    let a = to_add at (def_extents d.defs) (λ from. put_in among.Definitions at from n splice d.line lines) i.lines d.told in
-    landed_size law policy new f (length splice) i.lines i.here i.lands (put_size among.Definitions at a.0 n splice d.line lines i.lines d.here a.2)
-grows law (Delete file at) puts policy new is = absurd puts
-grows law (Move file from to) puts policy new is = absurd puts
-grows law (DropMember kind name at) puts policy new is = absurd puts
-grows law (DropDef file line at) puts policy new is = absurd puts
-grows law (Rename kind name fresh) puts policy new is = absurd puts
-grows law (EndLine file) puts policy new is = absurd puts
-grows law (OpenEnd file) puts policy new is = absurd puts
-grows law Prune puts policy new is = absurd puts
+    let lines : List Line = lines_of_numbered_file policy.files f in
+    let d = accepted_add_member_has_alias_definition kind name at splice policy i.place i.lines i.named i.made in
+    let a = accepted_splice_has_start_offset at (extents_of_members d.d.members) (λ from. lines_with_item_put_in (among.Members i.place.def) at from n splice d.line lines) i.lines d.told in
+    larger_lines_enlarge_policy_as_much law policy new f (length splice) i.lines (file_with_line_is_below_count policy.files f n d.line d.is.here) i.lands
+    (item_put_in_adds_size_of_splice (among.Members i.place.def) at a.0 n splice d.line lines i.lines d.is.here a.2)
+putting_edit_enlarges_files_by_payload law (AddDef f n at splice) puts policy new is =
+    let i = accepted_file_edit_has_file_lines f policy new (lines_with_definition_added n at splice) is in
+    let lines : List Line = lines_of_numbered_file policy.files f in
+    let d = accepted_add_def_has_line_definitions n at splice lines i.lines i.made in
+    let a = accepted_splice_has_start_offset at (extents_of_definitions d.defs) (λ from. lines_with_item_put_in among.Definitions at from n splice d.line lines) i.lines d.told in
+    larger_lines_enlarge_policy_as_much law policy new f (length splice) i.lines i.here i.lands (item_put_in_adds_size_of_splice among.Definitions at a.0 n splice d.line lines i.lines d.here a.2)
+putting_edit_enlarges_files_by_payload law (Delete file at) puts policy new is = absurd puts
+putting_edit_enlarges_files_by_payload law (Move file from to) puts policy new is = absurd puts
+putting_edit_enlarges_files_by_payload law (DropMember kind name at) puts policy new is = absurd puts
+putting_edit_enlarges_files_by_payload law (DropDef file line at) puts policy new is = absurd puts
+putting_edit_enlarges_files_by_payload law (Rename kind name fresh) puts policy new is = absurd puts
+putting_edit_enlarges_files_by_payload law (EndLine file) puts policy new is = absurd puts
+putting_edit_enlarges_files_by_payload law (OpenEnd file) puts policy new is = absurd puts
+putting_edit_enlarges_files_by_payload law Prune puts policy new is = absurd puts
 
 -- ---- edits
 
-grow : BytesLaw → (edits : List Edit) → AllByRecursion Puts edits → (place : ℕ) (policy new : Loaded) → run_all place edits policy ≡ Ok new
-    → bytes_in (files_of new) ≡ bytes_in (files_of policy) + payloads_size edits
-grow law [] all place policy new is =
+putting_edits_enlarge_files_by_payloads : LoadedFilesHaveGivenBytes → (edits : List Edit) → AllByRecursion IsPuttingEdit edits → (place : ℕ) (policy new : LoadedPolicy) → policy_or_first_refusal place edits policy ≡ Ok new
+    → byte_count_of_files (named_files_of_policy new) ≡ byte_count_of_files (named_files_of_policy policy) + payload_size_of_edits edits
+putting_edits_enlarge_files_by_payloads law [] all place policy new is =
     let same : policy ≡ new = cc in
-    omega (arith, ap (λ (p : Loaded). bytes_in (files_of p)) same)
-grow law (edit ∷ edits) all place policy new is =
-    let first = first_ok (run_all (place + 1) edits) place (step edit policy) new is in
-    omega (arith, grows law edit all.0 policy first.0 first.1, grow law edits all.1 (place + 1) first.0 new first.2)
+    omega (arith, ap (λ (p : LoadedPolicy). byte_count_of_files (named_files_of_policy p)) same)
+putting_edits_enlarge_files_by_payloads law (edit ∷ edits) all place policy new is =
+    let first = accepted_run_begins_with_accepted_step (policy_or_first_refusal (place + 1) edits) place (step edit policy) new is in
+    omega (arith, putting_edit_enlarges_files_by_payload law edit all.0 policy first.0 first.1, putting_edits_enlarge_files_by_payloads law edits all.1 (place + 1) first.0 new first.2)
 
-one_puts : (one : Removal) (policy : Loaded) → Puts (put_back one policy)
-one_puts (removal.Line file at) policy = tt
-one_puts (removal.Def file line at) policy = tt
+edit_undoing_removal_is_putting : (one : PruneRemoval) (policy : LoadedPolicy) → IsPuttingEdit (edit_undoing_removal one policy)
+edit_undoing_removal_is_putting (removal.Line file at) policy = tt
+edit_undoing_removal_is_putting (removal.Def file line at) policy = tt
 
-all_put : (ones : List Removal) (policy : Loaded) → AllByRecursion Puts (put_all_back ones policy)
-all_put [] policy = tt
-all_put (one ∷ ones) policy =
-    let left : Loaded = result_unwrap_or (removed one policy) policy in
-    all_append Puts (put_all_back ones left) (put_back one policy ∷ []) (all_put ones left) (one_puts one policy, tt)
+edits_undoing_removals_are_putting : (ones : List PruneRemoval) (policy : LoadedPolicy) → AllByRecursion IsPuttingEdit (edits_undoing_removals ones policy)
+edits_undoing_removals_are_putting [] policy = tt
+edits_undoing_removals_are_putting (one ∷ ones) policy =
+    let left : LoadedPolicy = result_unwrap_or (policy_after_removal one policy) policy in
+    property_of_lists_holds_of_their_join IsPuttingEdit (edits_undoing_removals ones left) (edit_undoing_removal one policy ∷ []) (edits_undoing_removals_are_putting ones left) (edit_undoing_removal_is_putting one policy, tt)
 
 -- What takes back an edit that takes something out puts bytes in.
-back_puts : (edit : Edit) (policy : Loaded) → takes_out edit ≡ true → AllByRecursion Puts (inv edit policy)
-back_puts (Delete file at) policy out = (tt, tt)
-back_puts (DropMember kind name at) policy out = (tt, tt)
-back_puts (DropDef file line at) policy out = (tt, tt)
-back_puts Prune policy out = all_put (removals policy.walk) policy
-back_puts (Insert file at text) policy out = absurd cc
-back_puts (Move file from to) policy out = absurd cc
-back_puts (AddMember kind name at splice) policy out = absurd cc
-back_puts (AddDef file line at splice) policy out = absurd cc
-back_puts (Rename kind name fresh) policy out = absurd cc
-back_puts (EndLine file) policy out = absurd cc
-back_puts (OpenEnd file) policy out = absurd cc
+inverse_of_removing_edit_is_putting : (edit : Edit) (policy : LoadedPolicy) → is_removing_edit edit ≡ true → AllByRecursion IsPuttingEdit (inv edit policy)
+inverse_of_removing_edit_is_putting (Delete file at) policy out = (tt, tt)
+inverse_of_removing_edit_is_putting (DropMember kind name at) policy out = (tt, tt)
+inverse_of_removing_edit_is_putting (DropDef file line at) policy out = (tt, tt)
+inverse_of_removing_edit_is_putting Prune policy out = edits_undoing_removals_are_putting (prune_removals_of_walk policy.walk) policy
+inverse_of_removing_edit_is_putting (Insert file at text) policy out = absurd cc
+inverse_of_removing_edit_is_putting (Move file from to) policy out = absurd cc
+inverse_of_removing_edit_is_putting (AddMember kind name at splice) policy out = absurd cc
+inverse_of_removing_edit_is_putting (AddDef file line at splice) policy out = absurd cc
+inverse_of_removing_edit_is_putting (Rename kind name fresh) policy out = absurd cc
+inverse_of_removing_edit_is_putting (EndLine file) policy out = absurd cc
+inverse_of_removing_edit_is_putting (OpenEnd file) policy out = absurd cc
 
-pub carried : BytesLaw → LeadsBack → (edit : Edit) (policy new : Loaded) → takes_out edit ≡ true → load_of (files_of policy) ≡ Ok policy
-    → step edit policy ≡ Ok new → bytes_in (files_of new) + payloads_size (inv edit policy) ≡ bytes_in (files_of policy)
-carried law leads edit policy new out loaded is =
-    let taken = leads (edit ∷ []) policy new loaded (ap (then_or (run_all 1 []) 0) is) in
-    omega (arith, grow law (inv edit policy) (back_puts edit policy out) 0 new policy taken.back)
+pub inverse_payload_is_size_taken_out : LoadedFilesHaveGivenBytes → AcceptedEditsAreRestored → (edit : Edit) (policy new : LoadedPolicy) → is_removing_edit edit ≡ true → policy_or_load_fault (named_files_of_policy policy) ≡ Ok policy
+    → step edit policy ≡ Ok new → byte_count_of_files (named_files_of_policy new) + payload_size_of_edits (inv edit policy) ≡ byte_count_of_files (named_files_of_policy policy)
+inverse_payload_is_size_taken_out law leads edit policy new out loaded is =
+    let taken = leads (edit ∷ []) policy new loaded (ap (next_or_placed_refusal (policy_or_first_refusal 1 []) 0) is) in
+    omega (arith, putting_edits_enlarge_files_by_payloads law (inv edit policy) (inverse_of_removing_edit_is_putting edit policy out) 0 new policy taken.back)
 
-pub none_carried : (edit : Edit) (policy : Loaded) → takes_out edit ≡ false → payloads_size (inv edit policy) ≡ 0
-none_carried (Insert file at text) policy none = omega arith
-none_carried (Move file from to) policy none = omega arith
-none_carried (AddMember kind name at splice) policy none = omega arith
-none_carried (AddDef file line at splice) policy none = omega arith
-none_carried (Rename kind name fresh) policy none = omega arith
-none_carried (EndLine file) policy none = omega arith
-none_carried (OpenEnd file) policy none = omega arith
-none_carried (Delete file at) policy none = absurd cc
-none_carried (DropMember kind name at) policy none = absurd cc
-none_carried (DropDef file line at) policy none = absurd cc
-none_carried Prune policy none = absurd cc
+pub inverse_of_keeping_edit_has_no_payload : (edit : Edit) (policy : LoadedPolicy) → is_removing_edit edit ≡ false → payload_size_of_edits (inv edit policy) ≡ 0
+inverse_of_keeping_edit_has_no_payload (Insert file at text) policy none = omega arith
+inverse_of_keeping_edit_has_no_payload (Move file from to) policy none = omega arith
+inverse_of_keeping_edit_has_no_payload (AddMember kind name at splice) policy none = omega arith
+inverse_of_keeping_edit_has_no_payload (AddDef file line at splice) policy none = omega arith
+inverse_of_keeping_edit_has_no_payload (Rename kind name fresh) policy none = omega arith
+inverse_of_keeping_edit_has_no_payload (EndLine file) policy none = omega arith
+inverse_of_keeping_edit_has_no_payload (OpenEnd file) policy none = omega arith
+inverse_of_keeping_edit_has_no_payload (Delete file at) policy none = absurd cc
+inverse_of_keeping_edit_has_no_payload (DropMember kind name at) policy none = absurd cc
+inverse_of_keeping_edit_has_no_payload (DropDef file line at) policy none = absurd cc
+inverse_of_keeping_edit_has_no_payload Prune policy none = absurd cc

@@ -1,36 +1,30 @@
 -- Prune is the edits of its list, one after another.
-use Rattle.std.proofs.Common.{◌≡◌, ℕ, ◌+◌, List, [], ◌∷◌, ◌++◌, map, Result, Ok, Err, refl, ap}
-use Rattle.std.specs.Result.{result_unwrap_or}
-use Rattle.sudoers_edit_script.specs.declared.edit.Edit.TheVariants.{Prune}
-use Rattle.sudoers_edit.specs.declared.fault.EditFault.{EditFault}
-use Rattle.sudoers_edit.specs.declared.pruning.Removal.{Removal}
-use Rattle.sudoers_edit.specs.declared.pruning.Removal.TheVariants as removal
-use Rattle.sudoers_edit.specs.Pruning.{removals, edit_of}
-use Rattle.sudoers_tree.specs.Load.{Loaded}
-use Rattle.sudoers_edit.specs.Landing.{and_then}
-use Rattle.sudoers_edit.specs.Editing.{removed, removed_all, put_back, put_all_back, step, inv, then_or, run_all, inv_run, prune_list, without_place}
+use Rattle.sudoers_edit.proofs.Common.{EditFault, Err, List, LoadedPolicy, Ok, Prune, PruneRemoval, Result, [], ap, edit_of_removal, edit_result_and_then, edit_undoing_removal, edits_of_prune, edits_undoing_removals}
+use Rattle.sudoers_edit.proofs.Common.{inv, inv_run, map, next_or_placed_refusal, policy_after_removal, policy_after_removals, policy_or_first_refusal, prune_removals_of_walk, refl, result_unwrap_or}
+use Rattle.sudoers_edit.proofs.Common.{run_result_without_place, step, ℕ, ◌++◌, ◌+◌, ◌∷◌, ◌≡◌}
+use Rattle.sudoers_edit.specs.declared.pruning.PruneRemoval.TheVariants as removal
 
-after_one : (rs : List Removal) (place : ℕ) → ((policy : Loaded) → removed_all rs policy ≡ without_place (run_all (place + 1) (map edit_of rs) policy))
-    → (r : Result Loaded EditFault) → and_then r (removed_all rs) ≡ without_place (then_or (run_all (place + 1) (map edit_of rs)) place r)
-after_one rs place more (Ok policy) = more policy
-after_one rs place more (Err fault) = refl
+removals_after_first_are_run_of_edits : (rs : List PruneRemoval) (place : ℕ) → ((policy : LoadedPolicy) → policy_after_removals rs policy ≡ run_result_without_place (policy_or_first_refusal (place + 1) (map edit_of_removal rs) policy))
+    → (r : Result LoadedPolicy EditFault) → edit_result_and_then r (policy_after_removals rs) ≡ run_result_without_place (next_or_placed_refusal (policy_or_first_refusal (place + 1) (map edit_of_removal rs)) place r)
+removals_after_first_are_run_of_edits rs place more (Ok policy) = more policy
+removals_after_first_are_run_of_edits rs place more (Err fault) = refl
 
-removed_run : (rs : List Removal) (place : ℕ) (policy : Loaded) → removed_all rs policy ≡ without_place (run_all place (map edit_of rs) policy)
-removed_run [] place policy = refl
-removed_run (removal.Line file at ∷ rs) place policy = after_one rs place (removed_run rs (place + 1)) (removed (removal.Line file at) policy)
-removed_run (removal.Def file line at ∷ rs) place policy = after_one rs place (removed_run rs (place + 1)) (removed (removal.Def file line at) policy)
+policy_after_removals_is_run_of_edits : (rs : List PruneRemoval) (place : ℕ) (policy : LoadedPolicy) → policy_after_removals rs policy ≡ run_result_without_place (policy_or_first_refusal place (map edit_of_removal rs) policy)
+policy_after_removals_is_run_of_edits [] place policy = refl
+policy_after_removals_is_run_of_edits (removal.Line file at ∷ rs) place policy = removals_after_first_are_run_of_edits rs place (policy_after_removals_is_run_of_edits rs (place + 1)) (policy_after_removal (removal.Line file at) policy)
+policy_after_removals_is_run_of_edits (removal.Def file line at ∷ rs) place policy = removals_after_first_are_run_of_edits rs place (policy_after_removals_is_run_of_edits rs (place + 1)) (policy_after_removal (removal.Def file line at) policy)
 
-put_back_run : (rs : List Removal) (policy : Loaded) → put_all_back rs policy ≡ inv_run (map edit_of rs) policy
-put_back_run [] policy = refl
-put_back_run (removal.Line file at ∷ rs) policy =
-    let one : Removal = removal.Line file at in
-    ap (λ edits. edits ++ put_back one policy ∷ []) (put_back_run rs (result_unwrap_or (removed one policy) policy))
-put_back_run (removal.Def file line at ∷ rs) policy =
-    let one : Removal = removal.Def file line at in
-    ap (λ edits. edits ++ put_back one policy ∷ []) (put_back_run rs (result_unwrap_or (removed one policy) policy))
+edits_undoing_removals_are_inverse_run : (rs : List PruneRemoval) (policy : LoadedPolicy) → edits_undoing_removals rs policy ≡ inv_run (map edit_of_removal rs) policy
+edits_undoing_removals_are_inverse_run [] policy = refl
+edits_undoing_removals_are_inverse_run (removal.Line file at ∷ rs) policy =
+    let one : PruneRemoval = removal.Line file at in
+    ap (λ edits. edits ++ edit_undoing_removal one policy ∷ []) (edits_undoing_removals_are_inverse_run rs (result_unwrap_or (policy_after_removal one policy) policy))
+edits_undoing_removals_are_inverse_run (removal.Def file line at ∷ rs) policy =
+    let one : PruneRemoval = removal.Def file line at in
+    ap (λ edits. edits ++ edit_undoing_removal one policy ∷ []) (edits_undoing_removals_are_inverse_run rs (result_unwrap_or (policy_after_removal one policy) policy))
 
-pub prune_step : (policy : Loaded) → step Prune policy ≡ without_place (run_all 0 (prune_list policy) policy)
-prune_step policy = removed_run (removals policy.walk) 0 policy
+pub prune_step_is_run_of_its_edits : (policy : LoadedPolicy) → step Prune policy ≡ run_result_without_place (policy_or_first_refusal 0 (edits_of_prune policy) policy)
+prune_step_is_run_of_its_edits policy = policy_after_removals_is_run_of_edits (prune_removals_of_walk policy.walk) 0 policy
 
-pub prune_inverse : (policy : Loaded) → inv Prune policy ≡ inv_run (prune_list policy) policy
-prune_inverse policy = put_back_run (removals policy.walk) policy
+pub prune_inverse_is_inverse_of_its_edits : (policy : LoadedPolicy) → inv Prune policy ≡ inv_run (edits_of_prune policy) policy
+prune_inverse_is_inverse_of_its_edits policy = edits_undoing_removals_are_inverse_run (prune_removals_of_walk policy.walk) policy

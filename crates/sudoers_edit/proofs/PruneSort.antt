@@ -1,25 +1,16 @@
 -- Changes sorted by their files.
-use Rattle.std.proofs.Common.{◌≡◌, ◌∙◌, ℕ, suc, ◌<◌, ◌≤◌, ◌==◌, ◌&&◌, not, Bool, true, false, List, [], ◌∷◌, ◌++◌, length, slice_index_or, inl, inr, refl, sym, ap₂, arith, if◌then◌else◌}
-use Rattle.std.proofs.lemmas.Bool.{eqb-true, eqb-false, le-ltb, lt-ltb}
-use Rattle.std.proofs.lemmas.Bool.Decides.{leb_tells}
-use Rattle.std.proofs.lemmas.List.Elements.{All-from_recursion, recursion_from_All}
+use Rattle.sudoers_edit.proofs.Common.{All-from_recursion, AllByRecursion, AreChangesInFileOrder, Bool, IsFileOrderOfChanges, IsLogicalLine, LineChange, List, Take, [], ap₂, arith, changes_of_file, eqb-false}
+use Rattle.sudoers_edit.proofs.Common.{eqb-true, false, file_number_of_change, filter, if◌then◌else◌, inl, inr, le-ltb, leb_tells, length, lt-ltb, nat_lt, not, option_to_list, recursion_from_All, refl}
+use Rattle.sudoers_edit.proofs.Common.{slice_index_or, suc, sym, text_of_change, texts_of_changes, true, ℕ, ◌&&◌, ◌++◌, ◌<◌, ◌==◌, ◌∙◌, ◌∷◌, ◌≡◌, ◌≤◌}
 use Rattle.std.proofs.lemmas.List.Sorted.{All-permutation}
-use Rattle.std.specs.List.{AllByRecursion, filter}
 use Rattle.std.specs.List.Sorted.{IsNonDecreasingBy, IsPermutation, IsStableByKey, ties}
 use Rattle.std.specs.Ordering.{is_lt, nat_cmp}
-use Rattle.std.specs.Prelude.{nat_lt, option_to_list}
-use Rattle.sudoers_text.specs.Whole.{IsLogicalLine}
-use Rattle.sudoers_tree.specs.Changed.{brought, file_of, text_brought}
-use Rattle.sudoers_tree.specs.ChangedFiles.{GoByFiles, changes_of}
-use Rattle.sudoers_tree.specs.declared.line_change.LineChange.{LineChange}
-use Rattle.sudoers_tree.specs.declared.line_change.LineChange.TheVariants.{Take}
-use Rattle.sudoers_edit.specs.internal.Drafts.{AreByFiles}
-use Rattle.sudoers_edit.proofs.PrunePlaces.{all_append}
+use Rattle.sudoers_edit.proofs.PrunePlaces.{property_of_lists_holds_of_their_join}
 
 -- ---- numbers
 
-less_is : (m n : ℕ) → is_lt (nat_cmp m n) ≡ nat_lt m n
-less_is m n = by (nat_lt m n) refl (m == n) refl
+comparison_less_is_less_than : (m n : ℕ) → is_lt (nat_cmp m n) ≡ nat_lt m n
+comparison_less_is_less_than m n = by (nat_lt m n) refl (m == n) refl
   where
     by : (a : Bool) → nat_lt m n ≡ a → (b : Bool) → (m == n) ≡ b → is_lt (nat_cmp m n) ≡ nat_lt m n
     by true x b y = rw x refl
@@ -27,8 +18,8 @@ less_is m n = by (nat_lt m n) refl (m == n) refl
     by false x false y = rw (x, y) refl
 
 -- neither number is below the other exactly if they are the same
-neither : (m n : ℕ) → (not (nat_lt n m) && not (nat_lt m n)) ≡ (m == n)
-neither m n = by (m == n) refl
+numbers_not_below_each_other_are_equal : (m n : ℕ) → (not (nat_lt n m) && not (nat_lt m n)) ≡ (m == n)
+numbers_not_below_each_other_are_equal m n = by (m == n) refl
   where
     by : (b : Bool) → (m == n) ≡ b → (not (nat_lt n m) && not (nat_lt m n)) ≡ b
     by true is =
@@ -43,58 +34,58 @@ neither m n = by (m == n) refl
 
 -- ---- the changes of a file
 
-abbrev is_less : LineChange → LineChange → Bool
-is_less a b = is_lt (nat_cmp (file_of a) (file_of b))
+abbrev is_change_of_lower_file : LineChange → LineChange → Bool
+is_change_of_lower_file a b = is_lt (nat_cmp (file_number_of_change a) (file_number_of_change b))
 
-tied : (f : ℕ) (change : LineChange) → ties is_less (Take f 0) change ≡ (file_of change == f)
-tied f change =
-    ap₂ (λ (a b : Bool). not a && not b) (less_is f (file_of change)) (less_is (file_of change) f) ∙ neither (file_of change) f
+tie_with_file_is_equal_file_number : (f : ℕ) (change : LineChange) → ties is_change_of_lower_file (Take f 0) change ≡ (file_number_of_change change == f)
+tie_with_file_is_equal_file_number f change =
+    ap₂ (λ (a b : Bool). not a && not b) (comparison_less_is_less_than f (file_number_of_change change)) (comparison_less_is_less_than (file_number_of_change change) f) ∙ numbers_not_below_each_other_are_equal (file_number_of_change change) f
 
-picked : (f : ℕ) (changes : List LineChange) → filter (ties is_less (Take f 0)) changes ≡ changes_of f changes
-picked f [] = refl
-picked f (change ∷ changes) =
-    ap₂ (λ (t : Bool) (cs : List LineChange). if t then change ∷ cs else cs) (tied f change) (picked f changes)
+changes_tied_with_file_are_its_changes : (f : ℕ) (changes : List LineChange) → filter (ties is_change_of_lower_file (Take f 0)) changes ≡ changes_of_file f changes
+changes_tied_with_file_are_its_changes f [] = refl
+changes_tied_with_file_are_its_changes f (change ∷ changes) =
+    ap₂ (λ (t : Bool) (cs : List LineChange). if t then change ∷ cs else cs) (tie_with_file_is_equal_file_number f change) (changes_tied_with_file_are_its_changes f changes)
 
 -- changes whose files do not fall
-rise : (f count : ℕ) (changes : List LineChange) → ((d : LineChange) → 0 < length changes → f ≤ file_of (slice_index_or changes 0 d))
-    → IsNonDecreasingBy file_of changes → AllByRecursion (λ (change : LineChange). file_of change < count) changes → GoByFiles f changes count
-rise f count [] from up inside = tt
-rise f count (change ∷ changes) from up inside = (
+nondecreasing_changes_are_in_file_order : (f count : ℕ) (changes : List LineChange) → ((d : LineChange) → 0 < length changes → f ≤ file_number_of_change (slice_index_or changes 0 d))
+    → IsNonDecreasingBy file_number_of_change changes → AllByRecursion (λ (change : LineChange). file_number_of_change change < count) changes → AreChangesInFileOrder f changes count
+nondecreasing_changes_are_in_file_order f count [] from up inside = tt
+nondecreasing_changes_are_in_file_order f count (change ∷ changes) from up inside = (
   from change (omega arith),
   inside.0,
-  rise (file_of change) count changes (λ d some. up 0 1 d (omega arith) (omega (arith, some)))
+  nondecreasing_changes_are_in_file_order (file_number_of_change change) count changes (λ d some. up 0 1 d (omega arith) (omega (arith, some)))
       (λ i j d less within. up (suc i) (suc j) d (omega (arith, less)) (omega (arith, within))) inside.1,
 )
 
 -- ---- the texts
 
 -- what a change brings is one logical line
-abbrev IsWholeChange : LineChange → Type 0
-IsWholeChange change = AllByRecursion IsLogicalLine (option_to_list (text_brought change))
+abbrev BringsLogicalLine : LineChange → Type 0
+BringsLogicalLine change = AllByRecursion IsLogicalLine (option_to_list (text_of_change change))
 
-all_parts : {X : Type 0} (P : X → Type 0) (xs ys : List X) → AllByRecursion P (xs ++ ys) → AllByRecursion P xs × AllByRecursion P ys
-all_parts P [] ys a = (tt, a)
-all_parts P (x ∷ xs) ys a = let rest = all_parts P xs ys a.1 in ((a.0, rest.0), rest.1)
+joined_list_property_holds_of_both_lists : {X : Type 0} (P : X → Type 0) (xs ys : List X) → AllByRecursion P (xs ++ ys) → AllByRecursion P xs × AllByRecursion P ys
+joined_list_property_holds_of_both_lists P [] ys a = (tt, a)
+joined_list_property_holds_of_both_lists P (x ∷ xs) ys a = let rest = joined_list_property_holds_of_both_lists P xs ys a.1 in ((a.0, rest.0), rest.1)
 
-each_whole : (changes : List LineChange) → AllByRecursion IsLogicalLine (brought changes) → AllByRecursion IsWholeChange changes
-each_whole [] all = tt
-each_whole (change ∷ changes) all =
-    let parts = all_parts IsLogicalLine (option_to_list (text_brought change)) (brought changes) all in
-    (parts.0, each_whole changes parts.1)
+logical_texts_imply_logical_changes : (changes : List LineChange) → AllByRecursion IsLogicalLine (texts_of_changes changes) → AllByRecursion BringsLogicalLine changes
+logical_texts_imply_logical_changes [] all = tt
+logical_texts_imply_logical_changes (change ∷ changes) all =
+    let parts = joined_list_property_holds_of_both_lists IsLogicalLine (option_to_list (text_of_change change)) (texts_of_changes changes) all in
+    (parts.0, logical_texts_imply_logical_changes changes parts.1)
 
-all_whole : (changes : List LineChange) → AllByRecursion IsWholeChange changes → AllByRecursion IsLogicalLine (brought changes)
-all_whole [] each = tt
-all_whole (change ∷ changes) each = all_append IsLogicalLine (option_to_list (text_brought change)) (brought changes) each.0 (all_whole changes each.1)
+logical_changes_imply_logical_texts : (changes : List LineChange) → AllByRecursion BringsLogicalLine changes → AllByRecursion IsLogicalLine (texts_of_changes changes)
+logical_changes_imply_logical_texts [] each = tt
+logical_changes_imply_logical_texts (change ∷ changes) each = property_of_lists_holds_of_their_join IsLogicalLine (option_to_list (text_of_change change)) (texts_of_changes changes) each.0 (logical_changes_imply_logical_texts changes each.1)
 
-all_sorted : (P : LineChange → Type 0) (changes sorted : List LineChange) → IsPermutation changes sorted → AllByRecursion P changes → AllByRecursion P sorted
-all_sorted P changes sorted same all = recursion_from_All P sorted (All-permutation P changes sorted same (All-from_recursion P changes all))
+permutation_keeps_property_of_changes : (P : LineChange → Type 0) (changes sorted : List LineChange) → IsPermutation changes sorted → AllByRecursion P changes → AllByRecursion P sorted
+permutation_keeps_property_of_changes P changes sorted same all = recursion_from_All P sorted (All-permutation P changes sorted same (All-from_recursion P changes all))
 
 -- Sorted changes go file by file.
-pub sorted_by_files : (changes sorted : List LineChange) → IsPermutation changes sorted → IsNonDecreasingBy file_of sorted
-    → IsStableByKey file_of nat_cmp changes sorted → AreByFiles changes sorted
-sorted_by_files changes sorted same up stable = record {
-  same = λ f. sym (picked f sorted) ∙ stable (Take f 0) ∙ picked f changes;
+pub stable_sort_by_file_is_file_order : (changes sorted : List LineChange) → IsPermutation changes sorted → IsNonDecreasingBy file_number_of_change sorted
+    → IsStableByKey file_number_of_change nat_cmp changes sorted → IsFileOrderOfChanges changes sorted
+stable_sort_by_file_is_file_order changes sorted same up stable = record {
+  same = λ f. sym (changes_tied_with_file_are_its_changes f sorted) ∙ stable (Take f 0) ∙ changes_tied_with_file_are_its_changes f changes;
   goes = λ count inside.
-      rise 0 count sorted (λ d some. omega arith) up (all_sorted (λ (change : LineChange). file_of change < count) changes sorted same inside);
-  whole = λ all. all_whole sorted (all_sorted IsWholeChange changes sorted same (each_whole changes all));
+      nondecreasing_changes_are_in_file_order 0 count sorted (λ d some. omega arith) up (permutation_keeps_property_of_changes (λ (change : LineChange). file_number_of_change change < count) changes sorted same inside);
+  whole = λ all. logical_changes_imply_logical_texts sorted (permutation_keeps_property_of_changes BringsLogicalLine changes sorted same (logical_texts_imply_logical_changes changes all));
 }

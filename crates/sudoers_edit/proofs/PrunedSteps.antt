@@ -1,213 +1,194 @@
 -- What comes of one removal, and of those of one line.
-use Rattle.std.proofs.Common.{◌≡◌, ◌∙◌, ℕ, ◌+◌, ◌≤◌, Bool, true, false, not, List, [], ◌∷◌, ◌++◌, length, map, remove, reverse, Some, None, Result, Ok, Err, refl, sym, ap, ap₂, subst, arith, if◌then◌else◌, append_assoc}
-use Rattle.std.proofs.lemmas.List.{length-append, map-append, reverse-append}
-use Rattle.std.specs.List.{filter}
-use Rattle.std.specs.Prelude.{slice_get}
-use Rattle.sudoers_line.specs.Node.{Def, Node}
-use Rattle.sudoers_line.specs.Node as node
-use Rattle.sudoers_line.specs.declared.node.Kind.{Kind}
-use Rattle.sudoers_tree.specs.Changed.{replaced}
-use Rattle.sudoers_tree.specs.Definition.{Definition, definitions_from}
-use Rattle.sudoers_tree.specs.Files.{lines_of}
-use Rattle.sudoers_tree.specs.Lead.{lead_of}
-use Rattle.sudoers_tree.specs.Line.{Line}
-use Rattle.sudoers_tree.specs.Load.{Loaded, files_of, load_of}
-use Rattle.sudoers_tree.specs.Mapped.{Mapping, mapped_from}
-use Rattle.sudoers_tree.specs.Policy.{texts}
-use Rattle.sudoers_tree.specs.Walk.{is_on}
-use Rattle.sudoers_edit.specs.declared.fault.EditFault.{EditFault}
-use Rattle.sudoers_edit.specs.declared.fault.EditFault.TheVariants.{BadSplice}
-use Rattle.sudoers_edit.specs.declared.one_more.Among.TheVariants as among
-use Rattle.sudoers_edit.specs.declared.pruning.Removal.{Removal}
-use Rattle.sudoers_edit.specs.declared.pruning.Removal.TheVariants as removal
-use Rattle.sudoers_edit.specs.Alike.{are_alike, is_same_def}
-use Rattle.sudoers_edit.specs.SpliceEdits.{is_one_more}
-use Rattle.sudoers_edit.specs.Editing.{removed, removed_all}
-use Rattle.sudoers_edit.specs.Landing.{and_then}
-use Rattle.sudoers_edit.specs.internal.Drafts.{CutDef, DefGoes, LineGoes}
-use Rattle.sudoers_edit.proofs.DropDef.{Less, less_of}
-use Rattle.sudoers_edit.proofs.Whole.{here_at}
-use Rattle.sudoers_edit.proofs.PruneGoes.{Split, line_goes, other_one, says_of, split, without_one}
-use Rattle.sudoers_edit.proofs.PruneOut.{is_on_too}
-use Rattle.sudoers_edit.specs.internal.PruneLaws.{FileLaws}
-use Rattle.sudoers_edit.proofs.PruneRefused.{Drops, drop_comes, gone, refused}
-use Rattle.sudoers_edit.proofs.PrunedAlike.{count_alike, defs_then, remove_alike, remove_there}
-use Rattle.sudoers_edit.proofs.PrunedStage.{AreKept, Stage, TextsTell, lines_are, renewed, renewed_here, renewed_there, stage_more}
+use Rattle.sudoers_edit.proofs.Common.{BadSplice, Bool, CanRemoveDefinition, CanRemoveLine, Def, EditFault, Err, IsDefinitionCut, Kind, Line, LineMapping, List, LoadedPolicy, Node, None, Ok, PlacedDefinition}
+use Rattle.sudoers_edit.proofs.Common.{PruneEditLaws, PruneRemoval, Result, Some, [], ap, append_assoc, ap₂, are_lists_alike, arith, definitions_from_place, edit_result_and_then, false, filter, has_one_item_more}
+use Rattle.sudoers_edit.proofs.Common.{if◌then◌else◌, is_file_on_walk, is_same_def, lead_of_parsed_line, length, length-append, lines_of_numbered_file, lines_with_one_replaced, map, map-append}
+use Rattle.sudoers_edit.proofs.Common.{mapped_lines_from_number, named_files_of_policy, not, policy_after_removal, policy_after_removals, policy_or_load_fault, refl, remove, reverse, reverse-append, slice_get, subst}
+use Rattle.sudoers_edit.proofs.Common.{sym, texts_of_lines, true, ℕ, ◌++◌, ◌+◌, ◌∙◌, ◌∷◌, ◌≡◌, ◌≤◌}
+use Rattle.sudoers_grammar.specs.Node as node
+use Rattle.sudoers_edit.specs.declared.extra_item.ItemListKind.TheVariants as among
+use Rattle.sudoers_edit.specs.declared.pruning.PruneRemoval.TheVariants as removal
+use Rattle.sudoers_edit.proofs.DropDef.{ReadsWithoutOneDefinition, line_with_one_less_reads_without_definition}
+use Rattle.sudoers_edit.proofs.Whole.{item_behind_front_is_at_front_length}
+use Rattle.sudoers_edit.proofs.PruneGoes.{IsSplitAtLine, leadless_line_can_be_removed, replacement_behind_front_sets_line_text, single_reading_is_reading_of_text, lines_are_split_at_numbered_line, removal_behind_front_leaves_other_texts}
+use Rattle.sudoers_edit.proofs.PruneOut.{file_on_walk_is_on_equal_walk}
+use Rattle.sudoers_edit.proofs.PruneRefused.{IsDropOutcome, drop_among_several_has_outcome, gone, refused}
+use Rattle.sudoers_edit.proofs.PrunedAlike.{alike_lists_have_equal_length, definitions_alikeness_is_transitive, removal_keeps_alike_lists, removal_behind_front_leaves_front_and_rest}
+use Rattle.sudoers_edit.proofs.PrunedStage.{KeepsLinesBefore, IsPolicyOfMappedLines, ParsedLinesAreToldByTexts, mapped_file_lines_are_split_at_line, mapping_with_line_renewed, renewed_line_is_mapped_to_new_lines, other_line_is_mapped_as_before, renewed_line_makes_policy_of_mapped_lines}
 
 -- the policy is at a stage of which this holds, or the refusal is for a splice
-abbrev pub Comes : Loaded → (Mapping → Type 0) → Result Loaded EditFault → Type 0
-Comes policy P (Ok now) = (g : Mapping) × Stage policy now g × P g
-Comes policy P (Err fault) = fault ≡ BadSplice
+abbrev pub IsMappedOutcomeOrBadSplice : LoadedPolicy → (LineMapping → Type 0) → Result LoadedPolicy EditFault → Type 0
+IsMappedOutcomeOrBadSplice policy P (Ok now) = (g : LineMapping) × IsPolicyOfMappedLines policy now g × P g
+IsMappedOutcomeOrBadSplice policy P (Err fault) = fault ≡ BadSplice
 
-pub comes_then : (policy : Loaded) (P Q : Mapping → Type 0) (r : Result Loaded EditFault) (next : Loaded → Result Loaded EditFault) → Comes policy P r
-    → ((now : Loaded) (g : Mapping) → Stage policy now g → P g → Comes policy Q (next now)) → Comes policy Q (and_then r next)
-comes_then policy P Q (Ok now) next a more = more now a.0 a.1 a.2
-comes_then policy P Q (Err fault) next a more = a
+pub mapped_outcomes_are_sequenced : (policy : LoadedPolicy) (P Q : LineMapping → Type 0) (r : Result LoadedPolicy EditFault) (next : LoadedPolicy → Result LoadedPolicy EditFault) → IsMappedOutcomeOrBadSplice policy P r
+    → ((now : LoadedPolicy) (g : LineMapping) → IsPolicyOfMappedLines policy now g → P g → IsMappedOutcomeOrBadSplice policy Q (next now)) → IsMappedOutcomeOrBadSplice policy Q (edit_result_and_then r next)
+mapped_outcomes_are_sequenced policy P Q (Ok now) next a more = more now a.0 a.1 a.2
+mapped_outcomes_are_sequenced policy P Q (Err fault) next a more = a
 
-pub comes_weaker : (policy : Loaded) (P Q : Mapping → Type 0) (r : Result Loaded EditFault) → Comes policy P r → ((g : Mapping) → P g → Q g) → Comes policy Q r
-comes_weaker policy P Q (Ok now) a more = (a.0, a.1, more a.0 a.2)
-comes_weaker policy P Q (Err fault) a more = a
+pub mapped_outcome_implies_weaker_outcome : (policy : LoadedPolicy) (P Q : LineMapping → Type 0) (r : Result LoadedPolicy EditFault) → IsMappedOutcomeOrBadSplice policy P r → ((g : LineMapping) → P g → Q g) → IsMappedOutcomeOrBadSplice policy Q r
+mapped_outcome_implies_weaker_outcome policy P Q (Ok now) a more = (a.0, a.1, more a.0 a.2)
+mapped_outcome_implies_weaker_outcome policy P Q (Err fault) a more = a
 
-pub all_then : (xs ys : List Removal) (now : Loaded) → removed_all (xs ++ ys) now ≡ and_then (removed_all xs now) (removed_all ys)
-all_then [] ys now = refl
-all_then (x ∷ xs) ys now = by (removed x now) (all_then xs ys)
+pub removals_of_joined_lists_are_sequenced : (xs ys : List PruneRemoval) (now : LoadedPolicy) → policy_after_removals (xs ++ ys) now ≡ edit_result_and_then (policy_after_removals xs now) (policy_after_removals ys)
+removals_of_joined_lists_are_sequenced [] ys now = refl
+removals_of_joined_lists_are_sequenced (x ∷ xs) ys now = by (policy_after_removal x now) (removals_of_joined_lists_are_sequenced xs ys)
   where
-    by : (r : Result Loaded EditFault) → ((next : Loaded) → removed_all (xs ++ ys) next ≡ and_then (removed_all xs next) (removed_all ys))
-        → and_then r (removed_all (xs ++ ys)) ≡ and_then (and_then r (removed_all xs)) (removed_all ys)
+    by : (r : Result LoadedPolicy EditFault) → ((next : LoadedPolicy) → policy_after_removals (xs ++ ys) next ≡ edit_result_and_then (policy_after_removals xs next) (policy_after_removals ys))
+        → edit_result_and_then r (policy_after_removals (xs ++ ys)) ≡ edit_result_and_then (edit_result_and_then r (policy_after_removals xs)) (policy_after_removals ys)
     by (Ok next) later = later next
     by (Err fault) later = refl
 
-all_one : (one : Removal) (now : Loaded) → removed_all (one ∷ []) now ≡ removed one now
-all_one one now = by (removed one now)
+removals_of_one_are_that_removal : (one : PruneRemoval) (now : LoadedPolicy) → policy_after_removals (one ∷ []) now ≡ policy_after_removal one now
+removals_of_one_are_that_removal one now = by (policy_after_removal one now)
   where
-    by : (r : Result Loaded EditFault) → and_then r (removed_all []) ≡ r
+    by : (r : Result LoadedPolicy EditFault) → edit_result_and_then r (policy_after_removals []) ≡ r
     by (Ok next) = refl
     by (Err fault) = refl
 
 -- ---- one removal
 
 -- A line of definitions of a file on the walk of a policy.
-pub record Subject (policy : Loaded) (f n : ℕ) (line : Line) : Type 0 where
-  pub loaded : load_of (files_of policy) ≡ Ok policy
-  pub on : is_on policy.walk f ≡ true
-  pub here : slice_get (lines_of policy.files f) n ≡ Some line
-  pub nowhere : (name : List ℕ) → lead_of name line.node ≡ None
+pub record IsLeadlessLineOnWalk (policy : LoadedPolicy) (f n : ℕ) (line : Line) : Type 0 where
+  pub loaded : policy_or_load_fault (named_files_of_policy policy) ≡ Ok policy
+  pub on : is_file_on_walk policy.walk f ≡ true
+  pub here : slice_get (lines_of_numbered_file policy.files f) n ≡ Some line
+  pub nowhere : (name : List ℕ) → lead_of_parsed_line name line.node ≡ None
 
 -- two mappings agree on each other line
-abbrev pub SameElse : Mapping → Mapping → ℕ → ℕ → Type 0
-SameElse g h f n = (e m : ℕ) (line : Line) → ((e ≡ f) → (m ≡ n) → ⊥) → h e m line ≡ g e m line
+abbrev pub AgreeOnOtherLines : LineMapping → LineMapping → ℕ → ℕ → Type 0
+AgreeOnOtherLines g h f n = (e m : ℕ) (line : Line) → ((e ≡ f) → (m ≡ n) → ⊥) → h e m line ≡ g e m line
 
 -- the line that has come of this one stands in its place
-there : (policy now : Loaded) (g : Mapping) (f n : ℕ) (line cur : Line) → Subject policy f n line → Stage policy now g → AreKept g f n → g f n line ≡ cur ∷ []
-    → slice_get (lines_of now.files f) n ≡ Some cur
-there policy now g f n line cur s stage kept is =
-    let c : Split (lines_of policy.files f) n line = split (lines_of policy.files f) n line s.here in
-    let rest : List Line = mapped_from g f (n + 1) c.after in
-    ap (λ ls. slice_get ls n) (lines_are policy now g f n line c stage kept ∙ ap (λ (xs : List Line). c.front ++ (xs ++ rest)) is)
-    ∙ ap (slice_get (c.front ++ cur ∷ rest)) (sym c.place) ∙ here_at c.front cur rest
+line_mapped_to_one_stays_in_place : (policy now : LoadedPolicy) (g : LineMapping) (f n : ℕ) (line cur : Line) → IsLeadlessLineOnWalk policy f n line → IsPolicyOfMappedLines policy now g → KeepsLinesBefore g f n → g f n line ≡ cur ∷ []
+    → slice_get (lines_of_numbered_file now.files f) n ≡ Some cur
+line_mapped_to_one_stays_in_place policy now g f n line cur s stage kept is =
+    let c : IsSplitAtLine (lines_of_numbered_file policy.files f) n line = lines_are_split_at_numbered_line (lines_of_numbered_file policy.files f) n line s.here in
+    let rest : List Line = mapped_lines_from_number g f (n + 1) c.after in
+    ap (λ ls. slice_get ls n) (mapped_file_lines_are_split_at_line policy now g f n line c stage kept ∙ ap (λ (xs : List Line). c.front ++ (xs ++ rest)) is)
+    ∙ ap (slice_get (c.front ++ cur ∷ rest)) (sym c.place) ∙ item_behind_front_is_at_front_length c.front cur rest
 
-pub line_comes : FileLaws → TextsTell → (policy now : Loaded) (g : Mapping) (f n : ℕ) (line : Line) → Subject policy f n line → Stage policy now g → AreKept g f n
-    → g f n line ≡ line ∷ [] → Comes policy (λ h. (h f n line ≡ []) × SameElse g h f n) (removed_all (removal.Line f n ∷ []) now)
-line_comes l tell policy now g f n line s stage kept is =
-    subst (Comes policy (λ h. (h f n line ≡ []) × SameElse g h f n)) (sym (all_one (removal.Line f n) now ∙ goes.made.forth))
-    (renewed g f n [], next, (renewed_here g f n [] line, λ e m x other. renewed_there g f n [] e m x other))
+pub line_removal_has_mapped_outcome : PruneEditLaws → ParsedLinesAreToldByTexts → (policy now : LoadedPolicy) (g : LineMapping) (f n : ℕ) (line : Line) → IsLeadlessLineOnWalk policy f n line → IsPolicyOfMappedLines policy now g → KeepsLinesBefore g f n
+    → g f n line ≡ line ∷ [] → IsMappedOutcomeOrBadSplice policy (λ h. (h f n line ≡ []) × AgreeOnOtherLines g h f n) (policy_after_removals (removal.Line f n ∷ []) now)
+line_removal_has_mapped_outcome l tell policy now g f n line s stage kept is =
+    subst (IsMappedOutcomeOrBadSplice policy (λ h. (h f n line ≡ []) × AgreeOnOtherLines g h f n)) (sym (removals_of_one_are_that_removal (removal.Line f n) now ∙ goes.made.forth))
+    (mapping_with_line_renewed g f n [], next, (renewed_line_is_mapped_to_new_lines g f n [] line, λ e m x other. other_line_is_mapped_as_before g f n [] e m x other))
   where
-    goes : LineGoes f n now
-    goes = line_goes l now f n line stage.loaded (is_on_too policy now f stage.on s.on) (there policy now g f n line line s stage kept is) s.nowhere
+    goes : CanRemoveLine f n now
+    goes = leadless_line_can_be_removed l now f n line stage.loaded (file_on_walk_is_on_equal_walk policy now f stage.on s.on) (line_mapped_to_one_stays_in_place policy now g f n line line s stage kept is) s.nowhere
 
-    next : Stage policy goes.next (renewed g f n [])
+    next : IsPolicyOfMappedLines policy goes.next (mapping_with_line_renewed g f n [])
     next =
-        stage_more tell l.said policy now goes.next g f n line [] (remove (texts (lines_of now.files f)) n) s.here stage kept goes.left tt s.nowhere (λ name. tt)
+        renewed_line_makes_policy_of_mapped_lines tell l.said policy now goes.next g f n line [] (remove (texts_of_lines (lines_of_numbered_file now.files f)) n) s.here stage kept goes.left tt s.nowhere (λ name. tt)
         (λ front after was place.
-        ap₂ (λ ls m. remove (texts ls) m) (was ∙ ap (λ (xs : List Line). front ++ (xs ++ after)) is) (sym place) ∙ without_one front line after)
+        ap₂ (λ ls m. remove (texts_of_lines ls) m) (was ∙ ap (λ (xs : List Line). front ++ (xs ++ after)) is) (sym place) ∙ removal_behind_front_leaves_other_texts front line after)
 
 -- Of the line a line with these definitions has come, or with such as are alike.
-pub record Has (g : Mapping) (f n : ℕ) (line : Line) (k : Kind) (defs : List Def) : Type 0 where
+pub record HasAlikeDefinitionsLeft (g : LineMapping) (f n : ℕ) (line : Line) (k : Kind) (defs : List Def) : Type 0 where
   pub cur : Line
   pub left : List Def
   pub is : g f n line ≡ cur ∷ []
   pub makes : cur.node ≡ node.Alias k left
-  pub alike : are_alike is_same_def defs left ≡ true
+  pub alike : are_lists_alike is_same_def defs left ≡ true
 
-abbrev pub Lessened : Mapping → ℕ → ℕ → Line → Kind → List Def → Mapping → Type 0
-Lessened g f n line k defs h = Has h f n line k defs × SameElse g h f n
+abbrev pub LeavesAlikeDefinitionsInLine : LineMapping → ℕ → ℕ → Line → Kind → List Def → LineMapping → Type 0
+LeavesAlikeDefinitionsInLine g f n line k defs h = HasAlikeDefinitionsLeft h f n line k defs × AgreeOnOtherLines g h f n
 
-pub def_comes : FileLaws → TextsTell → (policy now : Loaded) (g : Mapping) (f n : ℕ) (line : Line) (k : Kind) (front : List Def) (d : Def) (rest : List Def)
-    → Subject policy f n line → Stage policy now g → AreKept g f n → Has g f n line k (front ++ d ∷ rest) → 1 ≤ length front + length rest
-    → Comes policy (Lessened g f n line k (front ++ rest)) (removed_all (removal.Def f n (length front) ∷ []) now)
-def_comes l tell policy now g f n line k front d rest s stage kept has many =
-    by (drop_comes l now f n at has.cur k has.left stage.loaded (is_on_too policy now f stage.on s.on) here has.makes (omega (arith, count)) (omega (arith, count, many)))
+pub definition_removal_has_mapped_outcome : PruneEditLaws → ParsedLinesAreToldByTexts → (policy now : LoadedPolicy) (g : LineMapping) (f n : ℕ) (line : Line) (k : Kind) (front : List Def) (d : Def) (rest : List Def)
+    → IsLeadlessLineOnWalk policy f n line → IsPolicyOfMappedLines policy now g → KeepsLinesBefore g f n → HasAlikeDefinitionsLeft g f n line k (front ++ d ∷ rest) → 1 ≤ length front + length rest
+    → IsMappedOutcomeOrBadSplice policy (LeavesAlikeDefinitionsInLine g f n line k (front ++ rest)) (policy_after_removals (removal.Def f n (length front) ∷ []) now)
+definition_removal_has_mapped_outcome l tell policy now g f n line k front d rest s stage kept has many =
+    by (drop_among_several_has_outcome l now f n at has.cur k has.left stage.loaded (file_on_walk_is_on_equal_walk policy now f stage.on s.on) here has.makes (omega (arith, count)) (omega (arith, count, many)))
   where
     at : ℕ
     at = length front
 
-    P : Mapping → Type 0
-    P = Lessened g f n line k (front ++ rest)
+    P : LineMapping → Type 0
+    P = LeavesAlikeDefinitionsInLine g f n line k (front ++ rest)
 
-    here : slice_get (lines_of now.files f) n ≡ Some has.cur
-    here = there policy now g f n line has.cur s stage kept has.is
+    here : slice_get (lines_of_numbered_file now.files f) n ≡ Some has.cur
+    here = line_mapped_to_one_stays_in_place policy now g f n line has.cur s stage kept has.is
 
     count : length has.left ≡ length front + 1 + length rest
-    count = omega (arith, count_alike is_same_def (front ++ d ∷ rest) has.left has.alike, length-append front (d ∷ rest))
+    count = omega (arith, alike_lists_have_equal_length is_same_def (front ++ d ∷ rest) has.left has.alike, length-append front (d ∷ rest))
 
-    by_cut : (text splice : List ℕ) → (d : CutDef n at (lines_of now.files f) has.cur text splice) → DefGoes f n at now text splice
-        → Comes policy P (removed_all (removal.Def f n at ∷ []) now)
+    by_cut : (text splice : List ℕ) → (d : IsDefinitionCut n at (lines_of_numbered_file now.files f) has.cur text splice) → CanRemoveDefinition f n at now text splice
+        → IsMappedOutcomeOrBadSplice policy P (policy_after_removals (removal.Def f n at ∷ []) now)
     by_cut text splice d goes =
         let new : Line = record { text = text; node = d.cut.new } in
-        let less : Less k has.left at d.cut.new =
-        less_of k has.left at d.from d.to d.cut.new
-        (subst (λ (m : Node). is_one_more among.Definitions at d.from d.to (Some m) (Some d.cut.new) ≡ true) has.makes d.cut.more) in
-        let alike : are_alike is_same_def (front ++ rest) less.less ≡ true =
-        defs_then (front ++ rest) (remove has.left at) less.less
-        (subst (λ (ds : List Def). are_alike is_same_def ds (remove has.left at) ≡ true) (remove_there front _ rest)
-        (remove_alike is_same_def _ has.left at has.alike)) less.alike in
-        let next : Stage policy goes.next (renewed g f n (new ∷ [])) =
-        stage_more tell l.said policy now goes.next g f n line (new ∷ []) (replaced n text (texts (lines_of now.files f))) s.here stage kept goes.left
-        (says_of text d.cut.new (l.outcome text) d.cut.says, tt) s.nowhere (λ name. (ap (lead_of name) less.is, tt))
+        let less : ReadsWithoutOneDefinition k has.left at d.cut.new =
+        line_with_one_less_reads_without_definition k has.left at d.from d.to d.cut.new
+        (subst (λ (m : Node). has_one_item_more among.Definitions at d.from d.to (Some m) (Some d.cut.new) ≡ true) has.makes d.cut.more) in
+        let alike : are_lists_alike is_same_def (front ++ rest) less.less ≡ true =
+        definitions_alikeness_is_transitive (front ++ rest) (remove has.left at) less.less
+        (subst (λ (ds : List Def). are_lists_alike is_same_def ds (remove has.left at) ≡ true) (removal_behind_front_leaves_front_and_rest front _ rest)
+        (removal_keeps_alike_lists is_same_def _ has.left at has.alike)) less.alike in
+        let next : IsPolicyOfMappedLines policy goes.next (mapping_with_line_renewed g f n (new ∷ [])) =
+        renewed_line_makes_policy_of_mapped_lines tell l.said policy now goes.next g f n line (new ∷ []) (lines_with_one_replaced n text (texts_of_lines (lines_of_numbered_file now.files f))) s.here stage kept goes.left
+        (single_reading_is_reading_of_text text d.cut.new (l.outcome text) d.cut.says, tt) s.nowhere (λ name. (ap (lead_of_parsed_line name) less.is, tt))
         (λ front after was place.
-        ap₂ (λ ls m. replaced m text (texts ls)) (was ∙ ap (λ (xs : List Line). front ++ (xs ++ after)) has.is) (sym place)
-        ∙ other_one front has.cur new after) in
-        subst (Comes policy P) (sym (all_one (removal.Def f n at) now ∙ goes.made.forth)) (
-          renewed g f n (new ∷ []),
+        ap₂ (λ ls m. lines_with_one_replaced m text (texts_of_lines ls)) (was ∙ ap (λ (xs : List Line). front ++ (xs ++ after)) has.is) (sym place)
+        ∙ replacement_behind_front_sets_line_text front has.cur new after) in
+        subst (IsMappedOutcomeOrBadSplice policy P) (sym (removals_of_one_are_that_removal (removal.Def f n at) now ∙ goes.made.forth)) (
+          mapping_with_line_renewed g f n (new ∷ []),
           next,
           (
-            record { cur = new; left = less.less; is = renewed_here g f n (new ∷ []) line; makes = less.is; alike = alike },
-            λ e m x other. renewed_there g f n (new ∷ []) e m x other,
+            record { cur = new; left = less.less; is = renewed_line_is_mapped_to_new_lines g f n (new ∷ []) line; makes = less.is; alike = alike },
+            λ e m x other. other_line_is_mapped_as_before g f n (new ∷ []) e m x other,
           ),
         )
 
-    by : Drops now f n at has.cur → Comes policy P (removed_all (removal.Def f n at ∷ []) now)
-    by (refused is) = subst (Comes policy P) (sym (all_one (removal.Def f n at) now ∙ is)) refl
+    by : IsDropOutcome now f n at has.cur → IsMappedOutcomeOrBadSplice policy P (policy_after_removals (removal.Def f n at ∷ []) now)
+    by (refused is) = subst (IsMappedOutcomeOrBadSplice policy P) (sym (removals_of_one_are_that_removal (removal.Def f n at) now ∙ is)) refl
     by (gone text splice d goes) = by_cut text splice d goes
 
 -- ---- the definitions of a line
 
-abbrev pub used_from : (Definition → Bool) → Kind → ℕ → ℕ → List Def → List Def
-used_from test k number i defs = map (λ (d : Definition). d.def) (filter (λ d. not (test d)) (definitions_from k number i defs))
+abbrev pub definitions_failing_test : (PlacedDefinition → Bool) → Kind → ℕ → ℕ → List Def → List Def
+definitions_failing_test test k number i defs = map (λ (d : PlacedDefinition). d.def) (filter (λ d. not (test d)) (definitions_from_place k number i defs))
 
-abbrev pub drops_from : (Definition → Bool) → ℕ → ℕ → Kind → ℕ → ℕ → List Def → List Removal
-drops_from test f n k number i defs = map (λ (d : Definition). removal.Def f n d.place.def) (reverse (filter test (definitions_from k number i defs)))
+abbrev pub removals_of_definitions_passing_test : (PlacedDefinition → Bool) → ℕ → ℕ → Kind → ℕ → ℕ → List Def → List PruneRemoval
+removals_of_definitions_passing_test test f n k number i defs = map (λ (d : PlacedDefinition). removal.Def f n d.place.def) (reverse (filter test (definitions_from_place k number i defs)))
 
-pub defs_come : FileLaws → TextsTell → (policy now : Loaded) (g : Mapping) (f n : ℕ) (line : Line) (test : Definition → Bool) (k : Kind) (number i : ℕ)
-    (front defs : List Def) → Subject policy f n line → Stage policy now g → AreKept g f n → length front ≡ i → Has g f n line k (front ++ defs)
-    → 1 ≤ length front + length (used_from test k number i defs)
-    → Comes policy (Lessened g f n line k (front ++ used_from test k number i defs)) (removed_all (drops_from test f n k number i defs) now)
-defs_come l tell policy now g f n line test k number i front [] s stage kept place has many = (g, stage, (has, λ e m x other. refl))
-defs_come l tell policy now g f n line test k number i front (d ∷ defs) s stage kept place has many =
+pub definition_removals_have_mapped_outcome : PruneEditLaws → ParsedLinesAreToldByTexts → (policy now : LoadedPolicy) (g : LineMapping) (f n : ℕ) (line : Line) (test : PlacedDefinition → Bool) (k : Kind) (number i : ℕ)
+    (front defs : List Def) → IsLeadlessLineOnWalk policy f n line → IsPolicyOfMappedLines policy now g → KeepsLinesBefore g f n → length front ≡ i → HasAlikeDefinitionsLeft g f n line k (front ++ defs)
+    → 1 ≤ length front + length (definitions_failing_test test k number i defs)
+    → IsMappedOutcomeOrBadSplice policy (LeavesAlikeDefinitionsInLine g f n line k (front ++ definitions_failing_test test k number i defs)) (policy_after_removals (removals_of_definitions_passing_test test f n k number i defs) now)
+definition_removals_have_mapped_outcome l tell policy now g f n line test k number i front [] s stage kept place has many = (g, stage, (has, λ e m x other. refl))
+definition_removals_have_mapped_outcome l tell policy now g f n line test k number i front (d ∷ defs) s stage kept place has many =
     by (test one) many
-    (defs_come l tell policy now g f n line test k number (i + 1) (front ++ d ∷ []) defs s stage kept (omega (arith, place, length-append front (d ∷ [])))
-    (subst (Has g f n line k) (sym (append_assoc front (d ∷ []) defs)) has) (omega (arith, length-append front (d ∷ []))))
+    (definition_removals_have_mapped_outcome l tell policy now g f n line test k number (i + 1) (front ++ d ∷ []) defs s stage kept (omega (arith, place, length-append front (d ∷ [])))
+    (subst (HasAlikeDefinitionsLeft g f n line k) (sym (append_assoc front (d ∷ []) defs)) has) (omega (arith, length-append front (d ∷ []))))
   where
-    one : Definition
+    one : PlacedDefinition
     one = record { kind = k; place = record { line = number; def = i }; def = d }
 
-    ds : List Definition
-    ds = definitions_from k number (i + 1) defs
+    ds : List PlacedDefinition
+    ds = definitions_from_place k number (i + 1) defs
 
-    drop : Definition → Removal
+    drop : PlacedDefinition → PruneRemoval
     drop d = removal.Def f n d.place.def
 
     used : List Def
-    used = used_from test k number (i + 1) defs
+    used = definitions_failing_test test k number (i + 1) defs
 
-    kept_too : (h : Mapping) → SameElse g h f n → AreKept h f n
+    kept_too : (h : LineMapping) → AgreeOnOtherLines g h f n → KeepsLinesBefore h f n
     kept_too h same m x less = same f m x (λ a b. omega (arith, less, b)) ∙ kept m x less
 
-    by : (b : Bool) → 1 ≤ length front + length (map (λ (d : Definition). d.def) (if not b then one ∷ filter (λ d. not (test d)) ds else filter (λ d. not (test d)) ds))
-        → Comes policy (Lessened g f n line k ((front ++ d ∷ []) ++ used)) (removed_all (map drop (reverse (filter test ds))) now)
-        → Comes policy
-        (Lessened g f n line k (front ++ map (λ (d : Definition). d.def) (if not b then one ∷ filter (λ d. not (test d)) ds else filter (λ d. not (test d)) ds)))
-        (removed_all (map drop (reverse (if b then one ∷ filter test ds else filter test ds))) now)
+    by : (b : Bool) → 1 ≤ length front + length (map (λ (d : PlacedDefinition). d.def) (if not b then one ∷ filter (λ d. not (test d)) ds else filter (λ d. not (test d)) ds))
+        → IsMappedOutcomeOrBadSplice policy (LeavesAlikeDefinitionsInLine g f n line k ((front ++ d ∷ []) ++ used)) (policy_after_removals (map drop (reverse (filter test ds))) now)
+        → IsMappedOutcomeOrBadSplice policy
+        (LeavesAlikeDefinitionsInLine g f n line k (front ++ map (λ (d : PlacedDefinition). d.def) (if not b then one ∷ filter (λ d. not (test d)) ds else filter (λ d. not (test d)) ds)))
+        (policy_after_removals (map drop (reverse (if b then one ∷ filter test ds else filter test ds))) now)
     by false some later =
-        subst (λ (xs : List Def). Comes policy (Lessened g f n line k xs) (removed_all (map drop (reverse (filter test ds))) now)) (append_assoc front (d ∷ []) used) later
+        subst (λ (xs : List Def). IsMappedOutcomeOrBadSplice policy (LeavesAlikeDefinitionsInLine g f n line k xs) (policy_after_removals (map drop (reverse (filter test ds))) now)) (append_assoc front (d ∷ []) used) later
     by true some later =
         let split : map drop (reverse (one ∷ filter test ds)) ≡ map drop (reverse (filter test ds)) ++ removal.Def f n i ∷ [] =
         ap (map drop) (reverse-append (one ∷ []) (filter test ds)) ∙ map-append drop (reverse (filter test ds)) (one ∷ []) in
-        subst (Comes policy (Lessened g f n line k (front ++ used)))
-        (sym (ap (λ rs. removed_all rs now) split ∙ all_then (map drop (reverse (filter test ds))) (removal.Def f n i ∷ []) now))
-        (comes_then policy (Lessened g f n line k ((front ++ d ∷ []) ++ used)) (Lessened g f n line k (front ++ used)) (removed_all (map drop (reverse (filter test ds))) now)
-        (removed_all (removal.Def f n i ∷ [])) later (λ next h after p.
-        comes_weaker policy (Lessened h f n line k (front ++ used)) (Lessened g f n line k (front ++ used)) (removed_all (removal.Def f n i ∷ []) next)
-        (subst (λ m. Comes policy (Lessened h f n line k (front ++ used)) (removed_all (removal.Def f n m ∷ []) next)) place
-        (def_comes l tell policy next h f n line k front d used s after (kept_too h p.1) (subst (Has h f n line k) (append_assoc front (d ∷ []) used) p.0) some))
+        subst (IsMappedOutcomeOrBadSplice policy (LeavesAlikeDefinitionsInLine g f n line k (front ++ used)))
+        (sym (ap (λ rs. policy_after_removals rs now) split ∙ removals_of_joined_lists_are_sequenced (map drop (reverse (filter test ds))) (removal.Def f n i ∷ []) now))
+        (mapped_outcomes_are_sequenced policy (LeavesAlikeDefinitionsInLine g f n line k ((front ++ d ∷ []) ++ used)) (LeavesAlikeDefinitionsInLine g f n line k (front ++ used)) (policy_after_removals (map drop (reverse (filter test ds))) now)
+        (policy_after_removals (removal.Def f n i ∷ [])) later (λ next h after p.
+        mapped_outcome_implies_weaker_outcome policy (LeavesAlikeDefinitionsInLine h f n line k (front ++ used)) (LeavesAlikeDefinitionsInLine g f n line k (front ++ used)) (policy_after_removals (removal.Def f n i ∷ []) next)
+        (subst (λ m. IsMappedOutcomeOrBadSplice policy (LeavesAlikeDefinitionsInLine h f n line k (front ++ used)) (policy_after_removals (removal.Def f n m ∷ []) next)) place
+        (definition_removal_has_mapped_outcome l tell policy next h f n line k front d used s after (kept_too h p.1) (subst (HasAlikeDefinitionsLeft h f n line k) (append_assoc front (d ∷ []) used) p.0) some))
         (λ j q. (q.0, λ e m x other. q.1 e m x other ∙ p.1 e m x other))))

@@ -1,215 +1,197 @@
 -- The files of a policy in which an alias has another name: the walk over them, and the name given back.
-use Rattle.std.proofs.Common.{◌≡◌, ◌∙◌, ℕ, suc, ◌+◌, nat_eq, Bool, true, false, List, [], ◌∷◌, length, map, Ok, refl, sym, ap, ap₂, subst, arith, if◌then◌else◌}
-use Rattle.std.specs.List.{AllByRecursion, list_any}
-use Rattle.sudoers_text.specs.Ended.{has_unended_inside}
-use Rattle.sudoers_text.specs.Line.{join}
-use Rattle.sudoers_text.specs.Renamed.{IsDefinableName}
-use Rattle.sudoers_line.specs.declared.node.Kind.{Kind}
-use Rattle.sudoers_line.specs.Node.{Node}
-use Rattle.sudoers_line.specs.Node as node
-use Rattle.sudoers_line.specs.Renamed.{Renaming, renamed_node, renaming_of}
-use Rattle.sudoers_tree.specs.Changed.{changed}
-use Rattle.sudoers_tree.specs.ChangedFiles.{CanBeMade, changes_of, files_changed, files_changed_from}
-use Rattle.sudoers_tree.specs.Files.{FileReading, lines_of, name_of}
-use Rattle.sudoers_tree.specs.Lead.{lead_of}
-use Rattle.sudoers_tree.specs.Line.{Line}
-use Rattle.sudoers_tree.specs.Load.{Loaded, StandAt, file_of, files_of, load_of}
-use Rattle.sudoers_tree.specs.Mapped.{IsMappedWalk, KeepLeads, MakeMapped, Mapping, file_names, mapped_at, mapped_from, one}
-use Rattle.sudoers_tree.specs.Policy.{SaysSo, texts}
-use Rattle.sudoers_tree.specs.Walk.{Walked, is_on}
-use Rattle.sudoers_tree.specs.declared.line_change.LineChange.{LineChange}
-use Rattle.sudoers_tree.specs.declared.load.NamedFile.{NamedFile}
-use Rattle.sudoers_tree.specs.declared.place.Spot.{Spot}
-use Rattle.sudoers_edit.specs.Renamed.{alias_of, renamed_line, renamed_lines}
-use Rattle.sudoers_edit.specs.Renaming.{renamed, renamed_files, renamed_from}
-use Rattle.sudoers_edit.specs.internal.Leading.{swaps_from}
-use Rattle.sudoers_edit.proofs.NameFree.{IsWithout}
-use Rattle.sudoers_edit.proofs.RenamedPolicy.{says_renamed}
-use Rattle.sudoers_edit.proofs.RenamedTexts.{renamed_texts}
-use Rattle.sudoers_edit.proofs.RenameCovers.{lines_on_walk}
-use Rattle.sudoers_edit.specs.internal.RenameLaws.{Laws}
-use Rattle.sudoers_edit.proofs.SoundFiles.{AreSound, sound_of}
-use Rattle.sudoers_edit.proofs.RenameLines.{bring_from, ended_renamed, given_back}
-use Rattle.sudoers_edit.proofs.RenameSwaps.{go_by_files, lines_after, order_after}
+use Rattle.sudoers_edit.proofs.Common.{AliasRenaming, AllByRecursion, AreApplicableChanges, AreLinesAtSpots, Bool, IsCorrectlyParsed, IsDefinableName, IsMappedWalk, KeepIncludeLeads, Kind, Line, LineChange}
+use Rattle.sudoers_edit.proofs.Common.{LineMapping, List, LoadedPolicy, LoadedRenameLaws, MakeMappedLines, NamedFile, Node, Ok, ParsedFile, WalkLineSpot, WalkState, [], ap, ap₂, arith, changed_files_from_number}
+use Rattle.sudoers_edit.proofs.Common.{changes_of_file, false, file_names, files_after_changes, has_inner_line_without_lf, if◌then◌else◌, is_file_on_walk, join, lead_of_parsed_line, length, line_after_rename}
+use Rattle.sudoers_edit.proofs.Common.{lines_after_changes, lines_after_rename, lines_of_numbered_file, list_any, map, mapped_lines_at_spots, mapped_lines_from_number, name_of_numbered_file, named_alias_of_kind}
+use Rattle.sudoers_edit.proofs.Common.{named_file_of_parsed, named_files_after_rename, named_files_of_policy, named_files_renamed_from, nat_eq, node_with_alias_renamed, one, policy_or_load_fault, refl}
+use Rattle.sudoers_edit.proofs.Common.{rename_changes_in_files, renaming_of_alias_in_node, subst, suc, sym, texts_of_lines, texts_of_renamed_lines, true, ℕ, ◌+◌, ◌∙◌, ◌∷◌, ◌≡◌}
+use Rattle.sudoers_grammar.specs.Node as node
+use Rattle.sudoers_edit.proofs.NameFree.{IsLineWithoutAlias}
+use Rattle.sudoers_edit.proofs.RenamedPolicy.{renamed_lines_are_correctly_parsed}
+use Rattle.sudoers_edit.proofs.RenamedTexts.{renamed_texts_are_texts_of_renamed_lines}
+use Rattle.sudoers_edit.proofs.RenameCovers.{walk_line_property_holds_in_its_files}
+use Rattle.sudoers_edit.proofs.SoundFiles.{AreSoundFiles, loaded_files_are_sound}
+use Rattle.sudoers_edit.proofs.RenameLines.{rename_changes_in_files_bring_logical_lines, renamed_lines_keep_inner_lf, texts_of_reverse_renamed_lines_are_former}
+use Rattle.sudoers_edit.proofs.RenameSwaps.{rename_changes_are_in_file_order, rename_changes_make_lines_of_each_file, rename_changes_of_each_file_are_in_order}
 
 -- THE CHANGES
 
 -- the changes that give an alias another name
-abbrev pub swaps : Kind → List ℕ → List ℕ → Loaded → List LineChange
-swaps k name fresh policy = swaps_from 0 k name fresh policy.walk policy.files
+abbrev pub rename_changes_of_policy : Kind → List ℕ → List ℕ → LoadedPolicy → List LineChange
+rename_changes_of_policy k name fresh policy = rename_changes_in_files 0 k name fresh policy.walk policy.files
 
 -- They can be made.
-pub can_be_made : Laws → (k : Kind) (name fresh : List ℕ) → IsDefinableName name → IsDefinableName fresh → (policy : Loaded) → AreSound policy.files
-    → CanBeMade (swaps k name fresh policy) policy.files
-can_be_made l k name fresh old new policy sound = record {
-  by_files = go_by_files 0 0 (length policy.files) k name fresh policy.walk policy.files (omega arith) (omega arith);
-  order = λ f. order_after f k name fresh policy.walk policy.files;
-  lines = bring_from l.lines 0 k name fresh old new policy.walk policy.files sound.each sound.says;
-  ended = λ f. ap has_unended_inside (lines_after l.none l.first f k name fresh policy.walk policy.files) ∙ ended f (is_on policy.walk f);
+pub rename_changes_are_applicable : LoadedRenameLaws → (k : Kind) (name fresh : List ℕ) → IsDefinableName name → IsDefinableName fresh → (policy : LoadedPolicy) → AreSoundFiles policy.files
+    → AreApplicableChanges (rename_changes_of_policy k name fresh policy) policy.files
+rename_changes_are_applicable l k name fresh old new policy sound = record {
+  by_files = rename_changes_are_in_file_order 0 0 (length policy.files) k name fresh policy.walk policy.files (omega arith) (omega arith);
+  order = λ f. rename_changes_of_each_file_are_in_order f k name fresh policy.walk policy.files;
+  lines = rename_changes_in_files_bring_logical_lines l.lines 0 k name fresh old new policy.walk policy.files sound.each sound.says;
+  ended = λ f. ap has_inner_line_without_lf (rename_changes_make_lines_of_each_file l.none l.first f k name fresh policy.walk policy.files) ∙ ended f (is_file_on_walk policy.walk f);
 }
   where
-    ended : (f : ℕ) (on : Bool) → has_unended_inside (if on then renamed k name fresh (lines_of policy.files f) else texts (lines_of policy.files f)) ≡ false
+    ended : (f : ℕ) (on : Bool) → has_inner_line_without_lf (if on then texts_of_renamed_lines k name fresh (lines_of_numbered_file policy.files f) else texts_of_lines (lines_of_numbered_file policy.files f)) ≡ false
     ended f true =
-        ap has_unended_inside (renamed_texts l.lines.ascend k name fresh (lines_of policy.files f) (sound.says f))
-        ∙ ended_renamed l.lines (alias_of k name) fresh old new (lines_of policy.files f) (sound.says f)
+        ap has_inner_line_without_lf (renamed_texts_are_texts_of_renamed_lines l.lines.ascend k name fresh (lines_of_numbered_file policy.files f) (sound.says f))
+        ∙ renamed_lines_keep_inner_lf l.lines (named_alias_of_kind k name) fresh old new (lines_of_numbered_file policy.files f) (sound.says f)
         ∙ sound.ended f
     ended f false = sound.ended f
 
 -- They make these files.
-files_from : (m : ℕ) (k : Kind) (name fresh : List ℕ) (w : Walked) (changes : List LineChange) (files : List FileReading)
-    → ((i f : ℕ) → f ≡ m + i → changed (changes_of f changes) (texts (lines_of files i))
-    ≡ if is_on w f then renamed k name fresh (lines_of files i) else texts (lines_of files i))
-    → files_changed_from m changes files ≡ renamed_from m k name fresh w files
-files_from m k name fresh w changes [] make = refl
-files_from m k name fresh w changes (file ∷ files) make =
-    ap₂ (λ (first : NamedFile) (rest : List NamedFile). first ∷ rest) (by (is_on w m) (make 0 m (omega arith)))
-    (files_from (m + 1) k name fresh w changes files (λ i f is. make (suc i) f (omega (arith, is))))
+renamed_files_are_made_from_number : (m : ℕ) (k : Kind) (name fresh : List ℕ) (w : WalkState) (changes : List LineChange) (files : List ParsedFile)
+    → ((i f : ℕ) → f ≡ m + i → lines_after_changes (changes_of_file f changes) (texts_of_lines (lines_of_numbered_file files i))
+    ≡ if is_file_on_walk w f then texts_of_renamed_lines k name fresh (lines_of_numbered_file files i) else texts_of_lines (lines_of_numbered_file files i))
+    → changed_files_from_number m changes files ≡ named_files_renamed_from m k name fresh w files
+renamed_files_are_made_from_number m k name fresh w changes [] make = refl
+renamed_files_are_made_from_number m k name fresh w changes (file ∷ files) make =
+    ap₂ (λ (first : NamedFile) (rest : List NamedFile). first ∷ rest) (by (is_file_on_walk w m) (make 0 m (omega arith)))
+    (renamed_files_are_made_from_number (m + 1) k name fresh w changes files (λ i f is. make (suc i) f (omega (arith, is))))
   where
     now : List (List ℕ)
-    now = changed (changes_of m changes) (texts file.lines)
+    now = lines_after_changes (changes_of_file m changes) (texts_of_lines file.lines)
 
-    by : (on : Bool) → now ≡ (if on then renamed k name fresh file.lines else texts file.lines)
+    by : (on : Bool) → now ≡ (if on then texts_of_renamed_lines k name fresh file.lines else texts_of_lines file.lines)
         → (let made : NamedFile = record { name = file.name; bytes = join now } in made)
-        ≡ (if on then record { name = file.name; bytes = join (renamed k name fresh file.lines) } else file_of file)
+        ≡ (if on then record { name = file.name; bytes = join (texts_of_renamed_lines k name fresh file.lines) } else named_file_of_parsed file)
     by true is = ap (λ (lines : List (List ℕ)). let made : NamedFile = record { name = file.name; bytes = join lines } in made) is
     by false is = ap (λ (lines : List (List ℕ)). let made : NamedFile = record { name = file.name; bytes = join lines } in made) is
 
-pub files_are : Laws → (k : Kind) (name fresh : List ℕ) (policy : Loaded)
-    → files_changed (swaps k name fresh policy) policy.files ≡ renamed_files k name fresh policy
-files_are l k name fresh policy =
-    files_from 0 k name fresh policy.walk (swaps k name fresh policy) policy.files (λ i f is.
+pub rename_changes_make_renamed_files : LoadedRenameLaws → (k : Kind) (name fresh : List ℕ) (policy : LoadedPolicy)
+    → files_after_changes (rename_changes_of_policy k name fresh policy) policy.files ≡ named_files_after_rename k name fresh policy
+rename_changes_make_renamed_files l k name fresh policy =
+    renamed_files_are_made_from_number 0 k name fresh policy.walk (rename_changes_of_policy k name fresh policy) policy.files (λ i f is.
     let same : f ≡ i = omega (arith, is) in
-    subst (λ (n : ℕ). changed (changes_of n (swaps k name fresh policy)) (texts (lines_of policy.files i))
-    ≡ if is_on policy.walk n then renamed k name fresh (lines_of policy.files i) else texts (lines_of policy.files i)) (sym same)
-    (lines_after l.none l.first i k name fresh policy.walk policy.files))
+    subst (λ (n : ℕ). lines_after_changes (changes_of_file n (rename_changes_of_policy k name fresh policy)) (texts_of_lines (lines_of_numbered_file policy.files i))
+    ≡ if is_file_on_walk policy.walk n then texts_of_renamed_lines k name fresh (lines_of_numbered_file policy.files i) else texts_of_lines (lines_of_numbered_file policy.files i)) (sym same)
+    (rename_changes_make_lines_of_each_file l.none l.first i k name fresh policy.walk policy.files))
 
 -- THE WALK
 
 -- each line with another name for an alias
-abbrev pub mapping : Kind → List ℕ → List ℕ → Mapping
-mapping k name fresh = λ f n line. renamed_line (alias_of k name) fresh line ∷ []
+abbrev pub line_mapping_of_rename : Kind → List ℕ → List ℕ → LineMapping
+line_mapping_of_rename k name fresh = λ f n line. line_after_rename (named_alias_of_kind k name) fresh line ∷ []
 
-pub mapped_in : (f n : ℕ) (k : Kind) (name fresh : List ℕ) (lines : List Line) → mapped_from (mapping k name fresh) f n lines ≡ renamed_lines k name fresh lines
-mapped_in f n k name fresh [] = refl
-mapped_in f n k name fresh (line ∷ lines) =
-    ap (λ (ls : List Line). renamed_line (alias_of k name) fresh line ∷ ls) (mapped_in f (n + 1) k name fresh lines)
+pub rename_mapping_maps_lines_to_renamed : (f n : ℕ) (k : Kind) (name fresh : List ℕ) (lines : List Line) → mapped_lines_from_number (line_mapping_of_rename k name fresh) f n lines ≡ lines_after_rename k name fresh lines
+rename_mapping_maps_lines_to_renamed f n k name fresh [] = refl
+rename_mapping_maps_lines_to_renamed f n k name fresh (line ∷ lines) =
+    ap (λ (ls : List Line). line_after_rename (named_alias_of_kind k name) fresh line ∷ ls) (rename_mapping_maps_lines_to_renamed f (n + 1) k name fresh lines)
 
-pub mapped_walk : (k : Kind) (name fresh : List ℕ) (files : List FileReading) (spots : List Spot) (lines : List Line) → StandAt files spots lines
-    → mapped_at (mapping k name fresh) spots lines ≡ renamed_lines k name fresh lines
-mapped_walk k name fresh files [] [] stand = refl
-mapped_walk k name fresh files [] (line ∷ lines) stand = absurd stand
-mapped_walk k name fresh files (at ∷ spots) [] stand = absurd stand
-mapped_walk k name fresh files (at ∷ spots) (line ∷ lines) stand =
-    ap (λ (ls : List Line). renamed_line (alias_of k name) fresh line ∷ ls) (mapped_walk k name fresh files spots lines stand.1)
+pub rename_mapping_maps_walk_to_renamed : (k : Kind) (name fresh : List ℕ) (files : List ParsedFile) (spots : List WalkLineSpot) (lines : List Line) → AreLinesAtSpots files spots lines
+    → mapped_lines_at_spots (line_mapping_of_rename k name fresh) spots lines ≡ lines_after_rename k name fresh lines
+rename_mapping_maps_walk_to_renamed k name fresh files [] [] stand = refl
+rename_mapping_maps_walk_to_renamed k name fresh files [] (line ∷ lines) stand = absurd stand
+rename_mapping_maps_walk_to_renamed k name fresh files (at ∷ spots) [] stand = absurd stand
+rename_mapping_maps_walk_to_renamed k name fresh files (at ∷ spots) (line ∷ lines) stand =
+    ap (λ (ls : List Line). line_after_rename (named_alias_of_kind k name) fresh line ∷ ls) (rename_mapping_maps_walk_to_renamed k name fresh files spots lines stand.1)
 
 -- a line with another name leads where it led
-same_lead : (file : List ℕ) (r : Renaming) (says : Node) → lead_of file (renamed_node r says) ≡ lead_of file says
-same_lead file r node.Blank = refl
-same_lead file r node.Comment = refl
-same_lead file r (node.Include dir path) = refl
-same_lead file r (node.Defaults scope params) = refl
-same_lead file r (node.Alias k defs) = refl
-same_lead file r (node.Spec users groups) = refl
+renamed_line_keeps_include_lead : (file : List ℕ) (r : AliasRenaming) (says : Node) → lead_of_parsed_line file (node_with_alias_renamed r says) ≡ lead_of_parsed_line file says
+renamed_line_keeps_include_lead file r node.Blank = refl
+renamed_line_keeps_include_lead file r node.Comment = refl
+renamed_line_keeps_include_lead file r (node.Include dir path) = refl
+renamed_line_keeps_include_lead file r (node.Defaults scope params) = refl
+renamed_line_keeps_include_lead file r (node.Alias k defs) = refl
+renamed_line_keeps_include_lead file r (node.Spec users groups) = refl
 
-pub keep_leads : (k : Kind) (name fresh : List ℕ) (files : List FileReading) (w : Walked) → KeepLeads (mapping k name fresh) files w
-keep_leads k name fresh files w f n line on at =
-    one (renamed_line (alias_of k name) fresh line)
-    (same_lead (name_of files f) (renaming_of (alias_of k name) fresh line.node) line.node)
+pub rename_keeps_include_leads : (k : Kind) (name fresh : List ℕ) (files : List ParsedFile) (w : WalkState) → KeepIncludeLeads (line_mapping_of_rename k name fresh) files w
+rename_keeps_include_leads k name fresh files w f n line on at =
+    one (line_after_rename (named_alias_of_kind k name) fresh line)
+    (renamed_line_keeps_include_lead (name_of_numbered_file files f) (renaming_of_alias_in_node (named_alias_of_kind k name) fresh line.node) line.node)
 
 -- a file on the walk has the renamed lines
-on_walk : Laws → (k : Kind) (name fresh : List ℕ) (policy : Loaded) → AreSound policy.files → (f : ℕ) → is_on policy.walk f ≡ true
-    → changed (changes_of f (swaps k name fresh policy)) (texts (lines_of policy.files f)) ≡ texts (renamed_lines k name fresh (lines_of policy.files f))
-on_walk l k name fresh policy sound f on =
-    let lines : List Line = lines_of policy.files f in
-    lines_after l.none l.first f k name fresh policy.walk policy.files
-    ∙ ap (λ (b : Bool). if b then renamed k name fresh lines else texts lines) on
-    ∙ renamed_texts l.lines.ascend k name fresh lines (sound.says f)
+file_on_walk_has_renamed_lines : LoadedRenameLaws → (k : Kind) (name fresh : List ℕ) (policy : LoadedPolicy) → AreSoundFiles policy.files → (f : ℕ) → is_file_on_walk policy.walk f ≡ true
+    → lines_after_changes (changes_of_file f (rename_changes_of_policy k name fresh policy)) (texts_of_lines (lines_of_numbered_file policy.files f)) ≡ texts_of_lines (lines_after_rename k name fresh (lines_of_numbered_file policy.files f))
+file_on_walk_has_renamed_lines l k name fresh policy sound f on =
+    let lines : List Line = lines_of_numbered_file policy.files f in
+    rename_changes_make_lines_of_each_file l.none l.first f k name fresh policy.walk policy.files
+    ∙ ap (λ (b : Bool). if b then texts_of_renamed_lines k name fresh lines else texts_of_lines lines) on
+    ∙ renamed_texts_are_texts_of_renamed_lines l.lines.ascend k name fresh lines (sound.says f)
 
 -- and another file has its lines
-off_walk : Laws → (k : Kind) (name fresh : List ℕ) (policy : Loaded) → (f : ℕ) → is_on policy.walk f ≡ false
-    → changed (changes_of f (swaps k name fresh policy)) (texts (lines_of policy.files f)) ≡ texts (lines_of policy.files f)
-off_walk l k name fresh policy f off =
-    let lines : List Line = lines_of policy.files f in
-    lines_after l.none l.first f k name fresh policy.walk policy.files
-    ∙ ap (λ (b : Bool). if b then renamed k name fresh lines else texts lines) off
+file_not_on_walk_keeps_lines : LoadedRenameLaws → (k : Kind) (name fresh : List ℕ) (policy : LoadedPolicy) → (f : ℕ) → is_file_on_walk policy.walk f ≡ false
+    → lines_after_changes (changes_of_file f (rename_changes_of_policy k name fresh policy)) (texts_of_lines (lines_of_numbered_file policy.files f)) ≡ texts_of_lines (lines_of_numbered_file policy.files f)
+file_not_on_walk_keeps_lines l k name fresh policy f off =
+    let lines : List Line = lines_of_numbered_file policy.files f in
+    rename_changes_make_lines_of_each_file l.none l.first f k name fresh policy.walk policy.files
+    ∙ ap (λ (b : Bool). if b then texts_of_renamed_lines k name fresh lines else texts_of_lines lines) off
 
-make_mapped : Laws → (k : Kind) (name fresh : List ℕ) → IsDefinableName name → IsDefinableName fresh → (policy : Loaded) → AreSound policy.files
-    → MakeMapped (mapping k name fresh) (swaps k name fresh policy) policy.files policy.walk
-make_mapped l k name fresh old new policy sound = record {
-  lines = λ f on. on_walk l k name fresh policy sound f on ∙ ap texts (sym (mapped_in f 0 k name fresh (lines_of policy.files f)));
+rename_changes_make_mapped_lines : LoadedRenameLaws → (k : Kind) (name fresh : List ℕ) → IsDefinableName name → IsDefinableName fresh → (policy : LoadedPolicy) → AreSoundFiles policy.files
+    → MakeMappedLines (line_mapping_of_rename k name fresh) (rename_changes_of_policy k name fresh policy) policy.files policy.walk
+rename_changes_make_mapped_lines l k name fresh old new policy sound = record {
+  lines = λ f on. file_on_walk_has_renamed_lines l k name fresh policy sound f on ∙ ap texts_of_lines (sym (rename_mapping_maps_lines_to_renamed f 0 k name fresh (lines_of_numbered_file policy.files f)));
   says = λ f on.
-      subst (AllByRecursion SaysSo) (sym (mapped_in f 0 k name fresh (lines_of policy.files f)))
-      (says_renamed l.lines.same (alias_of k name) fresh old new (lines_of policy.files f) (sound.says f));
-  leads = keep_leads k name fresh policy.files policy.walk;
+      subst (AllByRecursion IsCorrectlyParsed) (sym (rename_mapping_maps_lines_to_renamed f 0 k name fresh (lines_of_numbered_file policy.files f)))
+      (renamed_lines_are_correctly_parsed l.lines.same (named_alias_of_kind k name) fresh old new (lines_of_numbered_file policy.files f) (sound.says f));
+  leads = rename_keeps_include_leads k name fresh policy.files policy.walk;
 }
 
 -- The files with the new name are a policy.
-pub record LoadsRenamed (k : Kind) (name fresh : List ℕ) (policy new : Loaded) : Type 0 where
-  pub loaded : load_of (files_of policy) ≡ Ok policy
-  pub is : load_of (files_changed (swaps k name fresh policy) policy.files) ≡ Ok new
+pub record IsLoadedAfterRename (k : Kind) (name fresh : List ℕ) (policy new : LoadedPolicy) : Type 0 where
+  pub loaded : policy_or_load_fault (named_files_of_policy policy) ≡ Ok policy
+  pub is : policy_or_load_fault (files_after_changes (rename_changes_of_policy k name fresh policy) policy.files) ≡ Ok new
   pub old_name : IsDefinableName name
   pub new_name : IsDefinableName fresh
 
-pub walk_is : Laws → (k : Kind) (name fresh : List ℕ) (policy new : Loaded) → LoadsRenamed k name fresh policy new
-    → (new.walk.lines ≡ renamed_lines k name fresh policy.walk.lines) × (new.walk.on ≡ policy.walk.on)
-walk_is l k name fresh policy new r =
-    let sound : AreSound policy.files = sound_of l policy r.loaded in
-    let walk : IsMappedWalk (mapping k name fresh) policy.walk new.walk =
-    l.mapped (mapping k name fresh) (swaps k name fresh policy) policy new r.loaded (can_be_made l k name fresh r.old_name r.new_name policy sound) r.is
-    (make_mapped l k name fresh r.old_name r.new_name policy sound) in (
-      walk.lines ∙ mapped_walk k name fresh policy.files policy.walk.spots policy.walk.lines (l.stand (files_of policy) policy r.loaded),
+pub walk_after_rename_is_renamed_walk : LoadedRenameLaws → (k : Kind) (name fresh : List ℕ) (policy new : LoadedPolicy) → IsLoadedAfterRename k name fresh policy new
+    → (new.walk.lines ≡ lines_after_rename k name fresh policy.walk.lines) × (new.walk.on ≡ policy.walk.on)
+walk_after_rename_is_renamed_walk l k name fresh policy new r =
+    let sound : AreSoundFiles policy.files = loaded_files_are_sound l policy r.loaded in
+    let walk : IsMappedWalk (line_mapping_of_rename k name fresh) policy.walk new.walk =
+    l.mapped (line_mapping_of_rename k name fresh) (rename_changes_of_policy k name fresh policy) policy new r.loaded (rename_changes_are_applicable l k name fresh r.old_name r.new_name policy sound) r.is
+    (rename_changes_make_mapped_lines l k name fresh r.old_name r.new_name policy sound) in (
+      walk.lines ∙ rename_mapping_maps_walk_to_renamed k name fresh policy.files policy.walk.spots policy.walk.lines (l.stand (named_files_of_policy policy) policy r.loaded),
       walk.on,
     )
 
 -- THE NAME GIVEN BACK
 
-back_from : (m : ℕ) (k : Kind) (name fresh : List ℕ) (w : Walked) (olds news : List FileReading) → file_names news ≡ file_names olds
-    → ((i f : ℕ) → f ≡ m + i → (if is_on w f then renamed k fresh name (lines_of news i) else texts (lines_of news i)) ≡ texts (lines_of olds i))
-    → renamed_from m k fresh name w news ≡ map file_of olds
-back_from m k name fresh w [] [] names back = refl
-back_from m k name fresh w [] (new ∷ news) names back = absurd cc
-back_from m k name fresh w (old ∷ olds) [] names back = absurd cc
-back_from m k name fresh w (old ∷ olds) (new ∷ news) names back =
+reverse_renamed_files_are_made_from_number : (m : ℕ) (k : Kind) (name fresh : List ℕ) (w : WalkState) (olds news : List ParsedFile) → file_names news ≡ file_names olds
+    → ((i f : ℕ) → f ≡ m + i → (if is_file_on_walk w f then texts_of_renamed_lines k fresh name (lines_of_numbered_file news i) else texts_of_lines (lines_of_numbered_file news i)) ≡ texts_of_lines (lines_of_numbered_file olds i))
+    → named_files_renamed_from m k fresh name w news ≡ map named_file_of_parsed olds
+reverse_renamed_files_are_made_from_number m k name fresh w [] [] names back = refl
+reverse_renamed_files_are_made_from_number m k name fresh w [] (new ∷ news) names back = absurd cc
+reverse_renamed_files_are_made_from_number m k name fresh w (old ∷ olds) [] names back = absurd cc
+reverse_renamed_files_are_made_from_number m k name fresh w (old ∷ olds) (new ∷ news) names back =
     let same : new.name ≡ old.name = cc in
     let rest : file_names news ≡ file_names olds = cc in
-    ap₂ (λ (first : NamedFile) (more : List NamedFile). first ∷ more) (by (is_on w m) same (back 0 m (omega arith)))
-    (back_from (m + 1) k name fresh w olds news rest (λ i f is. back (suc i) f (omega (arith, is))))
+    ap₂ (λ (first : NamedFile) (more : List NamedFile). first ∷ more) (by (is_file_on_walk w m) same (back 0 m (omega arith)))
+    (reverse_renamed_files_are_made_from_number (m + 1) k name fresh w olds news rest (λ i f is. back (suc i) f (omega (arith, is))))
   where
-    named : (called : List ℕ) (lines : List (List ℕ)) → called ≡ old.name → lines ≡ texts old.lines
-        → (let made : NamedFile = record { name = called; bytes = join lines } in made) ≡ file_of old
+    named : (called : List ℕ) (lines : List (List ℕ)) → called ≡ old.name → lines ≡ texts_of_lines old.lines
+        → (let made : NamedFile = record { name = called; bytes = join lines } in made) ≡ named_file_of_parsed old
     named called lines is are = ap₂ (λ (n : List ℕ) (ls : List (List ℕ)). let made : NamedFile = record { name = n; bytes = join ls } in made) is are
 
-    by : (on : Bool) → new.name ≡ old.name → (if on then renamed k fresh name new.lines else texts new.lines) ≡ texts old.lines
-        → (if on then record { name = new.name; bytes = join (renamed k fresh name new.lines) } else file_of new) ≡ file_of old
-    by true same is = named new.name (renamed k fresh name new.lines) same is
-    by false same is = named new.name (texts new.lines) same is
+    by : (on : Bool) → new.name ≡ old.name → (if on then texts_of_renamed_lines k fresh name new.lines else texts_of_lines new.lines) ≡ texts_of_lines old.lines
+        → (if on then record { name = new.name; bytes = join (texts_of_renamed_lines k fresh name new.lines) } else named_file_of_parsed new) ≡ named_file_of_parsed old
+    by true same is = named new.name (texts_of_renamed_lines k fresh name new.lines) same is
+    by false same is = named new.name (texts_of_lines new.lines) same is
 
 -- the lines of a file, with the old name given back if the file is on the walk, are those before
-back_in_file : Laws → (k : Kind) (name fresh : List ℕ) (policy new : Loaded) → LoadsRenamed k name fresh policy new
-    → AllByRecursion (IsWithout k fresh) policy.walk.lines → (f : ℕ) → (on : Bool) → is_on policy.walk f ≡ on
-    → (if on then renamed k fresh name (lines_of new.files f) else texts (lines_of new.files f)) ≡ texts (lines_of policy.files f)
-back_in_file l k name fresh policy new r without f true on =
-    let sound : AreSound policy.files = sound_of l policy r.loaded in
-    let can : CanBeMade (swaps k name fresh policy) policy.files = can_be_made l k name fresh r.old_name r.new_name policy sound in
-    let lines : List Line = lines_of policy.files f in
-    let now : lines_of new.files f ≡ renamed_lines k name fresh lines =
-    l.tell (lines_of new.files f) (renamed_lines k name fresh lines) (l.said (files_changed (swaps k name fresh policy) policy.files) new r.is f)
-    (says_renamed l.lines.same (alias_of k name) fresh r.old_name r.new_name lines (sound.says f))
-    (l.after (swaps k name fresh policy) policy new r.loaded can r.is f ∙ on_walk l k name fresh policy sound f on) in
-    ap (renamed k fresh name) now
-    ∙ given_back l.lines k name fresh r.old_name r.new_name lines (sound.says f)
-    (lines_on_walk (IsWithout k fresh) policy.files policy.walk (l.goes policy.files) (l.walked (files_of policy) policy r.loaded) without f on)
-back_in_file l k name fresh policy new r without f false off =
-    let can : CanBeMade (swaps k name fresh policy) policy.files =
-    can_be_made l k name fresh r.old_name r.new_name policy (sound_of l policy r.loaded) in
-    l.after (swaps k name fresh policy) policy new r.loaded can r.is f ∙ off_walk l k name fresh policy f off
+reverse_rename_restores_lines_of_file : LoadedRenameLaws → (k : Kind) (name fresh : List ℕ) (policy new : LoadedPolicy) → IsLoadedAfterRename k name fresh policy new
+    → AllByRecursion (IsLineWithoutAlias k fresh) policy.walk.lines → (f : ℕ) → (on : Bool) → is_file_on_walk policy.walk f ≡ on
+    → (if on then texts_of_renamed_lines k fresh name (lines_of_numbered_file new.files f) else texts_of_lines (lines_of_numbered_file new.files f)) ≡ texts_of_lines (lines_of_numbered_file policy.files f)
+reverse_rename_restores_lines_of_file l k name fresh policy new r without f true on =
+    let sound : AreSoundFiles policy.files = loaded_files_are_sound l policy r.loaded in
+    let can : AreApplicableChanges (rename_changes_of_policy k name fresh policy) policy.files = rename_changes_are_applicable l k name fresh r.old_name r.new_name policy sound in
+    let lines : List Line = lines_of_numbered_file policy.files f in
+    let now : lines_of_numbered_file new.files f ≡ lines_after_rename k name fresh lines =
+    l.tell (lines_of_numbered_file new.files f) (lines_after_rename k name fresh lines) (l.said (files_after_changes (rename_changes_of_policy k name fresh policy) policy.files) new r.is f)
+    (renamed_lines_are_correctly_parsed l.lines.same (named_alias_of_kind k name) fresh r.old_name r.new_name lines (sound.says f))
+    (l.after (rename_changes_of_policy k name fresh policy) policy new r.loaded can r.is f ∙ file_on_walk_has_renamed_lines l k name fresh policy sound f on) in
+    ap (texts_of_renamed_lines k fresh name) now
+    ∙ texts_of_reverse_renamed_lines_are_former l.lines k name fresh r.old_name r.new_name lines (sound.says f)
+    (walk_line_property_holds_in_its_files (IsLineWithoutAlias k fresh) policy.files policy.walk (l.goes policy.files) (l.walked (named_files_of_policy policy) policy r.loaded) without f on)
+reverse_rename_restores_lines_of_file l k name fresh policy new r without f false off =
+    let can : AreApplicableChanges (rename_changes_of_policy k name fresh policy) policy.files =
+    rename_changes_are_applicable l k name fresh r.old_name r.new_name policy (loaded_files_are_sound l policy r.loaded) in
+    l.after (rename_changes_of_policy k name fresh policy) policy new r.loaded can r.is f ∙ file_not_on_walk_keeps_lines l k name fresh policy f off
 
-pub files_back : Laws → (k : Kind) (name fresh : List ℕ) (policy new : Loaded) → LoadsRenamed k name fresh policy new
-    → AllByRecursion (IsWithout k fresh) policy.walk.lines → renamed_files k fresh name new ≡ files_of policy
-files_back l k name fresh policy new r without =
-    back_from 0 k name fresh new.walk policy.files new.files (l.names (swaps k name fresh policy) policy new r.is) (λ i f is.
+pub reverse_rename_restores_files : LoadedRenameLaws → (k : Kind) (name fresh : List ℕ) (policy new : LoadedPolicy) → IsLoadedAfterRename k name fresh policy new
+    → AllByRecursion (IsLineWithoutAlias k fresh) policy.walk.lines → named_files_after_rename k fresh name new ≡ named_files_of_policy policy
+reverse_rename_restores_files l k name fresh policy new r without =
+    reverse_renamed_files_are_made_from_number 0 k name fresh new.walk policy.files new.files (l.names (rename_changes_of_policy k name fresh policy) policy new r.is) (λ i f is.
     let at : f ≡ i = omega (arith, is) in
-    let same : is_on new.walk f ≡ is_on policy.walk i =
-    ap (list_any (nat_eq f)) (walk_is l k name fresh policy new r).1 ∙ ap (λ (n : ℕ). is_on policy.walk n) at in
-    ap (λ (on : Bool). if on then renamed k fresh name (lines_of new.files i) else texts (lines_of new.files i)) same
-    ∙ back_in_file l k name fresh policy new r without i (is_on policy.walk i) refl)
+    let same : is_file_on_walk new.walk f ≡ is_file_on_walk policy.walk i =
+    ap (list_any (nat_eq f)) (walk_after_rename_is_renamed_walk l k name fresh policy new r).1 ∙ ap (λ (n : ℕ). is_file_on_walk policy.walk n) at in
+    ap (λ (on : Bool). if on then texts_of_renamed_lines k fresh name (lines_of_numbered_file new.files i) else texts_of_lines (lines_of_numbered_file new.files i)) same
+    ∙ reverse_rename_restores_lines_of_file l k name fresh policy new r without i (is_file_on_walk policy.walk i) refl)

@@ -1,104 +1,85 @@
 -- Where a rename over the files of a policy leads, and that one rename leads back.
-use Rattle.std.proofs.Common.{◌≡◌, ◌∙◌, ℕ, Bool, true, false, not, ◌||◌, List, [], ◌∷◌, Some, Ok, Err, refl, sym, ap, ap₂, subst}
-use Rattle.std.specs.List.{list_any}
+use Rattle.sudoers_edit.proofs.Common.{AreChangesOfEdit, BadName, Bool, Edit, EditFault, Err, IsDefinableName, Kind, Line, LineChange, List, LoadedPolicy, LoadedRenameLaws, NameTaken, NoAlias, Ok, Rename, Some}
+use Rattle.sudoers_edit.proofs.Common.{TooLarge, [], ap, ap₂, definition_place_of_name, false, files_after_changes, is_alias_name_in_use, is_line_too_long, is_name, is_reserved, is_some, lines_after_rename, list_any}
+use Rattle.sudoers_edit.proofs.Common.{named_files_after_rename, named_files_of_policy, not, policy_after_rename, policy_of_files_or_refusal, policy_or_edit_fault, policy_or_load_fault, refl, rename_changes_in_files}
+use Rattle.sudoers_edit.proofs.Common.{result_ok, run, step, subst, sym, texts_of_lines, texts_of_renamed_lines, true, ℕ, ◌||◌, ◌∙◌, ◌∷◌, ◌≡◌}
 use Rattle.std.specs.Prelude.{Result, option_and_then}
-use Rattle.std.specs.Result.{result_ok}
-use Rattle.sudoers_text.specs.Renamed.{IsDefinableName}
-use Rattle.sudoers_text.specs.Word.{is_name, is_reserved}
-use Rattle.sudoers_line.specs.declared.node.Kind.{Kind}
-use Rattle.sudoers_tree.specs.ChangedFiles.{files_changed}
-use Rattle.sudoers_tree.specs.Definition.{place_of}
-use Rattle.sudoers_tree.specs.Fault.{is_some}
-use Rattle.sudoers_tree.specs.Line.{Line}
-use Rattle.sudoers_tree.specs.Load.{Loaded, files_of, load_of}
-use Rattle.sudoers_tree.specs.Policy.{texts}
-use Rattle.sudoers_tree.specs.declared.line_change.LineChange.{LineChange}
-use Rattle.sudoers_edit_script.specs.declared.edit.Edit.{Edit}
-use Rattle.sudoers_edit_script.specs.declared.edit.Edit.TheVariants.{Rename}
-use Rattle.sudoers_edit.specs.declared.fault.EditFault.{EditFault}
-use Rattle.sudoers_edit.specs.declared.fault.EditFault.TheVariants.{NoAlias, BadName, NameTaken, TooLarge}
-use Rattle.sudoers_edit.specs.Landing.{is_too_long, by_load, policy_or_refusal}
-use Rattle.sudoers_edit.specs.Renamed.{renamed_lines}
-use Rattle.sudoers_edit.specs.Renaming.{is_taken, renamed, rename, renamed_files}
-use Rattle.sudoers_edit.specs.Editing.{run, step}
-use Rattle.sudoers_edit.specs.internal.Leading.{Leads, swaps_from}
-use Rattle.sudoers_edit.proofs.RenamedPolicy.{walk_definable}
-use Rattle.sudoers_edit.proofs.RenameFiles.{LoadsRenamed, can_be_made, files_are, files_back, swaps, walk_is}
-use Rattle.sudoers_edit.specs.internal.RenameLaws.{Laws}
-use Rattle.sudoers_edit.proofs.SoundFiles.{sound_of, walk_short}
-use Rattle.sudoers_edit.proofs.RenameLines.{Back, back_in}
+use Rattle.sudoers_edit.proofs.RenamedPolicy.{name_defined_on_walk_is_definable}
+use Rattle.sudoers_edit.proofs.RenameFiles.{IsLoadedAfterRename, rename_changes_are_applicable, rename_changes_make_renamed_files, reverse_rename_restores_files, rename_changes_of_policy, walk_after_rename_is_renamed_walk}
+use Rattle.sudoers_edit.proofs.SoundFiles.{loaded_files_are_sound, walk_lines_of_sound_files_are_short}
+use Rattle.sudoers_edit.proofs.RenameLines.{CanRenameBackInLines, renamed_lines_can_be_renamed_back}
 
 -- The alias is defined on the walk of a policy, and the new name is free there.
-pub record IsFresh (k : Kind) (name fresh : List ℕ) (policy : Loaded) : Type 0 where
-  pub loaded : load_of (files_of policy) ≡ Ok policy
-  pub some : is_some (place_of k name policy.walk.lines) ≡ true
+pub record CanRenameOnWalk (k : Kind) (name fresh : List ℕ) (policy : LoadedPolicy) : Type 0 where
+  pub loaded : policy_or_load_fault (named_files_of_policy policy) ≡ Ok policy
+  pub some : is_some (definition_place_of_name k name policy.walk.lines) ≡ true
   pub new : IsDefinableName fresh
-  pub free : is_taken k fresh policy.walk.lines ≡ false
+  pub free : is_alias_name_in_use k fresh policy.walk.lines ≡ false
 
-good : (fresh : List ℕ) → IsDefinableName fresh → (not (is_name fresh) || is_reserved fresh) ≡ false
-good fresh new = ap₂ (λ (a b : Bool). not a || b) new.0 new.1
+definable_name_is_not_refused : (fresh : List ℕ) → IsDefinableName fresh → (not (is_name fresh) || is_reserved fresh) ≡ false
+definable_name_is_not_refused fresh new = ap₂ (λ (a b : Bool). not a || b) new.0 new.1
 
 -- where none of its causes refuses it, a rename leads to the renamed files
-pub made : (k : Kind) (name fresh : List ℕ) (policy : Loaded) → is_some (place_of k name policy.walk.lines) ≡ true → IsDefinableName fresh
-    → is_taken k fresh policy.walk.lines ≡ false → list_any is_too_long (renamed k name fresh policy.walk.lines) ≡ false
-    → rename k name fresh policy ≡ policy_or_refusal (renamed_files k name fresh policy)
-unfolding rename
-made k name fresh policy some new free short = rw (some, good fresh new, free, short) refl
+pub unrefused_rename_is_load_of_renamed_files : (k : Kind) (name fresh : List ℕ) (policy : LoadedPolicy) → is_some (definition_place_of_name k name policy.walk.lines) ≡ true → IsDefinableName fresh
+    → is_alias_name_in_use k fresh policy.walk.lines ≡ false → list_any is_line_too_long (texts_of_renamed_lines k name fresh policy.walk.lines) ≡ false
+    → policy_after_rename k name fresh policy ≡ policy_of_files_or_refusal (named_files_after_rename k name fresh policy)
+unfolding policy_after_rename
+unrefused_rename_is_load_of_renamed_files k name fresh policy some new free short = rw (some, definable_name_is_not_refused fresh new, free, short) refl
 
-run_one : (e : Edit) (policy new : Loaded) → step e policy ≡ Ok new → run (e ∷ []) policy ≡ Some new
-run_one e policy new is = ap (λ (r : Result Loaded EditFault). option_and_then (run []) (result_ok r)) is
+accepted_edit_is_run_alone : (e : Edit) (policy new : LoadedPolicy) → step e policy ≡ Ok new → run (e ∷ []) policy ≡ Some new
+accepted_edit_is_run_alone e policy new is = ap (λ (r : Result LoadedPolicy EditFault). option_and_then (run []) (result_ok r)) is
 
 -- one rename leads back
-pub back_is : Laws → (k : Kind) (name fresh : List ℕ) (policy new : Loaded) → IsFresh k name fresh policy
-    → load_of (files_changed (swaps k name fresh policy) policy.files) ≡ Ok new → rename k fresh name new ≡ Ok policy
-back_is l k name fresh policy new f told =
+pub reverse_rename_leads_back : LoadedRenameLaws → (k : Kind) (name fresh : List ℕ) (policy new : LoadedPolicy) → CanRenameOnWalk k name fresh policy
+    → policy_or_load_fault (files_after_changes (rename_changes_of_policy k name fresh policy) policy.files) ≡ Ok new → policy_after_rename k fresh name new ≡ Ok policy
+reverse_rename_leads_back l k name fresh policy new f told =
     let lines : List Line = policy.walk.lines in
-    let b : Back k name fresh lines (renamed_lines k name fresh lines) =
-    back_in l.lines k name fresh lines (record { walk = l.walk (files_of policy) policy f.loaded; some = f.some; new = f.new; free = f.free }) in
-    let r : LoadsRenamed k name fresh policy new = record { loaded = f.loaded; is = told; old_name = b.old; new_name = f.new } in
-    let now : new.walk.lines ≡ renamed_lines k name fresh lines = (walk_is l k name fresh policy new r).0 in
-    let short : list_any is_too_long (texts lines) ≡ false =
-    walk_short l.lines policy.files (sound_of l policy f.loaded) policy.walk.spots lines (l.stand (files_of policy) policy f.loaded) in
-    made k fresh name new (ap (λ (ls : List Line). is_some (place_of k fresh ls)) now ∙ b.some) b.old
-    (ap (is_taken k name) now ∙ b.free)
-    (ap (λ (ls : List Line). list_any is_too_long (renamed k fresh name ls)) now ∙ ap (list_any is_too_long) b.are ∙ short)
-    ∙ ap policy_or_refusal (files_back l k name fresh policy new r b.without)
-    ∙ ap by_load f.loaded
+    let b : CanRenameBackInLines k name fresh lines (lines_after_rename k name fresh lines) =
+    renamed_lines_can_be_renamed_back l.lines k name fresh lines (record { walk = l.walk (named_files_of_policy policy) policy f.loaded; some = f.some; new = f.new; free = f.free }) in
+    let r : IsLoadedAfterRename k name fresh policy new = record { loaded = f.loaded; is = told; old_name = b.old; new_name = f.new } in
+    let now : new.walk.lines ≡ lines_after_rename k name fresh lines = (walk_after_rename_is_renamed_walk l k name fresh policy new r).0 in
+    let short : list_any is_line_too_long (texts_of_lines lines) ≡ false =
+    walk_lines_of_sound_files_are_short l.lines policy.files (loaded_files_are_sound l policy f.loaded) policy.walk.spots lines (l.stand (named_files_of_policy policy) policy f.loaded) in
+    unrefused_rename_is_load_of_renamed_files k fresh name new (ap (λ (ls : List Line). is_some (definition_place_of_name k fresh ls)) now ∙ b.some) b.old
+    (ap (is_alias_name_in_use k name) now ∙ b.free)
+    (ap (λ (ls : List Line). list_any is_line_too_long (texts_of_renamed_lines k fresh name ls)) now ∙ ap (list_any is_line_too_long) b.are ∙ short)
+    ∙ ap policy_of_files_or_refusal (reverse_rename_restores_files l k name fresh policy new r b.without)
+    ∙ ap policy_or_edit_fault f.loaded
 
-pub rename_leads : Laws → (k : Kind) (name fresh : List ℕ) (policy : Loaded) (changes : List LineChange) → IsFresh k name fresh policy
-    → list_any is_too_long (renamed k name fresh policy.walk.lines) ≡ false → changes ≡ swaps_from 0 k name fresh policy.walk policy.files
-    → Leads (Rename k name fresh) (Rename k fresh name ∷ []) policy changes
-rename_leads l k name fresh policy changes f short are =
-    subst (Leads (Rename k name fresh) (Rename k fresh name ∷ []) policy) (sym are) (record {
-      fits = can_be_made l k name fresh (walk_definable k name policy.walk.lines (l.walk (files_of policy) policy f.loaded) f.some) f.new policy
-          (sound_of l policy f.loaded);
-      forth = made k name fresh policy f.some f.new f.free short ∙ ap policy_or_refusal (sym (files_are l k name fresh policy));
+pub rename_changes_make_edit_of_rename : LoadedRenameLaws → (k : Kind) (name fresh : List ℕ) (policy : LoadedPolicy) (changes : List LineChange) → CanRenameOnWalk k name fresh policy
+    → list_any is_line_too_long (texts_of_renamed_lines k name fresh policy.walk.lines) ≡ false → changes ≡ rename_changes_in_files 0 k name fresh policy.walk policy.files
+    → AreChangesOfEdit (Rename k name fresh) (Rename k fresh name ∷ []) policy changes
+rename_changes_make_edit_of_rename l k name fresh policy changes f short are =
+    subst (AreChangesOfEdit (Rename k name fresh) (Rename k fresh name ∷ []) policy) (sym are) (record {
+      fits = rename_changes_are_applicable l k name fresh (name_defined_on_walk_is_definable k name policy.walk.lines (l.walk (named_files_of_policy policy) policy f.loaded) f.some) f.new policy
+          (loaded_files_are_sound l policy f.loaded);
+      forth = unrefused_rename_is_load_of_renamed_files k name fresh policy f.some f.new f.free short ∙ ap policy_of_files_or_refusal (sym (rename_changes_make_renamed_files l k name fresh policy));
       inverse_is = refl;
-      back = λ new told. run_one (Rename k fresh name) new policy (back_is l k name fresh policy new f told);
+      back = λ new told. accepted_edit_is_run_alone (Rename k fresh name) new policy (reverse_rename_leads_back l k name fresh policy new f told);
     })
 
 -- ---- refusals
 
-pub no_alias : (k : Kind) (name fresh : List ℕ) (policy : Loaded) → is_some (place_of k name policy.walk.lines) ≡ false → rename k name fresh policy ≡ Err NoAlias
-unfolding rename
-no_alias k name fresh policy none = rw none refl
+pub rename_of_undefined_alias_is_no_alias : (k : Kind) (name fresh : List ℕ) (policy : LoadedPolicy) → is_some (definition_place_of_name k name policy.walk.lines) ≡ false → policy_after_rename k name fresh policy ≡ Err NoAlias
+unfolding policy_after_rename
+rename_of_undefined_alias_is_no_alias k name fresh policy none = rw none refl
 
-pub bad_name : (k : Kind) (name fresh : List ℕ) (policy : Loaded) → is_some (place_of k name policy.walk.lines) ≡ true
-    → (not (is_name fresh) || is_reserved fresh) ≡ true → rename k name fresh policy ≡ Err BadName
-unfolding rename
-bad_name k name fresh policy some bad = rw (some, bad) refl
+pub rename_to_bad_name_is_bad_name : (k : Kind) (name fresh : List ℕ) (policy : LoadedPolicy) → is_some (definition_place_of_name k name policy.walk.lines) ≡ true
+    → (not (is_name fresh) || is_reserved fresh) ≡ true → policy_after_rename k name fresh policy ≡ Err BadName
+unfolding policy_after_rename
+rename_to_bad_name_is_bad_name k name fresh policy some bad = rw (some, bad) refl
 
-pub name_taken : (k : Kind) (name fresh : List ℕ) (policy : Loaded) → is_some (place_of k name policy.walk.lines) ≡ true
-    → (not (is_name fresh) || is_reserved fresh) ≡ false → is_taken k fresh policy.walk.lines ≡ true → rename k name fresh policy ≡ Err NameTaken
-unfolding rename
-name_taken k name fresh policy some free taken = rw (some, free, taken) refl
+pub rename_to_used_name_is_name_taken : (k : Kind) (name fresh : List ℕ) (policy : LoadedPolicy) → is_some (definition_place_of_name k name policy.walk.lines) ≡ true
+    → (not (is_name fresh) || is_reserved fresh) ≡ false → is_alias_name_in_use k fresh policy.walk.lines ≡ true → policy_after_rename k name fresh policy ≡ Err NameTaken
+unfolding policy_after_rename
+rename_to_used_name_is_name_taken k name fresh policy some free taken = rw (some, free, taken) refl
 
-pub too_long : (k : Kind) (name fresh : List ℕ) (policy : Loaded) → is_some (place_of k name policy.walk.lines) ≡ true
-    → (not (is_name fresh) || is_reserved fresh) ≡ false → is_taken k fresh policy.walk.lines ≡ false
-    → list_any is_too_long (renamed k name fresh policy.walk.lines) ≡ true → rename k name fresh policy ≡ Err TooLarge
-unfolding rename
-too_long k name fresh policy some free untaken long = rw (some, free, untaken, long) refl
+pub rename_making_long_line_is_too_large : (k : Kind) (name fresh : List ℕ) (policy : LoadedPolicy) → is_some (definition_place_of_name k name policy.walk.lines) ≡ true
+    → (not (is_name fresh) || is_reserved fresh) ≡ false → is_alias_name_in_use k fresh policy.walk.lines ≡ false
+    → list_any is_line_too_long (texts_of_renamed_lines k name fresh policy.walk.lines) ≡ true → policy_after_rename k name fresh policy ≡ Err TooLarge
+unfolding policy_after_rename
+rename_making_long_line_is_too_large k name fresh policy some free untaken long = rw (some, free, untaken, long) refl
 
-pub definable : (a b : Bool) → (not a || b) ≡ false → (a ≡ true) × (b ≡ false)
-definable true b h = (refl, h)
-definable false b h = absurd cc
+pub unrefused_name_is_name_and_not_reserved : (a b : Bool) → (not a || b) ≡ false → (a ≡ true) × (b ≡ false)
+unrefused_name_is_name_and_not_reserved true b h = (refl, h)
+unrefused_name_is_name_and_not_reserved false b h = absurd cc

@@ -1,69 +1,60 @@
 -- The files of a policy with another name for an alias, as they are read.
-use Rattle.std.proofs.Common.{◌≡◌, ◌∙◌, ℕ, zero, suc, ◌+◌, Bool, true, false, List, [], ◌∷◌, map, Option, Some, None, refl, sym, ap, ap₂, arith, slice_get, if◌then◌else◌}
-use Rattle.std.specs.List.{AllByRecursion}
-use Rattle.sudoers_text.specs.Line.{join}
-use Rattle.sudoers_line.specs.declared.node.Kind.{Kind}
-use Rattle.sudoers_tree.specs.Files.{FileReading, fault_of, lines_of}
-use Rattle.sudoers_tree.specs.Load.{file_of}
-use Rattle.sudoers_tree.specs.Mapped.{file_names}
-use Rattle.sudoers_tree.specs.Policy.{SaysSo}
-use Rattle.sudoers_tree.specs.Walk.{Walked, is_on}
-use Rattle.sudoers_tree.specs.declared.load.NamedFile.{NamedFile}
-use Rattle.sudoers_edit.specs.Renamed.{renamed_lines, readings_from, renamed_reading}
-use Rattle.sudoers_edit.specs.Renaming.{renamed, renamed_from}
-use Rattle.sudoers_edit.proofs.RenamedTexts.{renamed_texts}
-use Rattle.sudoers_edit.specs.internal.RenameLaws.{LineLaws}
+use Rattle.sudoers_edit.proofs.Common.{AllByRecursion, Bool, IsCorrectlyParsed, Kind, List, NamedFile, None, Option, ParsedFile, RenamedLineLaws, Some, WalkState, [], ap, ap₂, arith, false, fault_of_numbered_file}
+use Rattle.sudoers_edit.proofs.Common.{file_names, if◌then◌else◌, is_file_on_walk, join, lines_after_rename, lines_of_numbered_file, map, named_file_of_parsed, named_files_renamed_from, parsed_file_after_rename}
+use Rattle.sudoers_edit.proofs.Common.{parsed_files_renamed_from, refl, suc, sym, texts_of_renamed_lines, true, zero, ℕ, ◌+◌, ◌∙◌, ◌∷◌, ◌≡◌}
+use Rattle.std.proofs.Common.{slice_get}
+use Rattle.sudoers_edit.proofs.RenamedTexts.{renamed_texts_are_texts_of_renamed_lines}
 
 -- a file, with the other name if it is on the walk
-abbrev if_on : Bool → Kind → List ℕ → List ℕ → FileReading → FileReading
-if_on on k name fresh file = if on then renamed_reading k name fresh file else file
+abbrev file_renamed_if_on_walk : Bool → Kind → List ℕ → List ℕ → ParsedFile → ParsedFile
+file_renamed_if_on_walk on k name fresh file = if on then parsed_file_after_rename k name fresh file else file
 
-pub names_same : (m : ℕ) (k : Kind) (name fresh : List ℕ) (w : Walked) (files : List FileReading)
-    → file_names (readings_from m k name fresh w files) ≡ file_names files
-names_same m k name fresh w [] = refl
-names_same m k name fresh w (file ∷ files) =
-    ap₂ (λ (n : List ℕ) (ns : List (List ℕ)). n ∷ ns) (by (is_on w m)) (names_same (m + 1) k name fresh w files)
+pub rename_keeps_file_names_of_parsed_files : (m : ℕ) (k : Kind) (name fresh : List ℕ) (w : WalkState) (files : List ParsedFile)
+    → file_names (parsed_files_renamed_from m k name fresh w files) ≡ file_names files
+rename_keeps_file_names_of_parsed_files m k name fresh w [] = refl
+rename_keeps_file_names_of_parsed_files m k name fresh w (file ∷ files) =
+    ap₂ (λ (n : List ℕ) (ns : List (List ℕ)). n ∷ ns) (by (is_file_on_walk w m)) (rename_keeps_file_names_of_parsed_files (m + 1) k name fresh w files)
   where
-    by : (on : Bool) → (if_on on k name fresh file).name ≡ file.name
+    by : (on : Bool) → (file_renamed_if_on_walk on k name fresh file).name ≡ file.name
     by true = refl
     by false = refl
 
-pub lines_on : (i f m : ℕ) (k : Kind) (name fresh : List ℕ) (w : Walked) (files : List FileReading) → f ≡ m + i → is_on w f ≡ true
-    → lines_of (readings_from m k name fresh w files) i ≡ renamed_lines k name fresh (lines_of files i)
-lines_on i f m k name fresh w [] is on = refl
-lines_on zero f m k name fresh w (file ∷ files) is on =
+pub parsed_file_on_walk_has_renamed_lines : (i f m : ℕ) (k : Kind) (name fresh : List ℕ) (w : WalkState) (files : List ParsedFile) → f ≡ m + i → is_file_on_walk w f ≡ true
+    → lines_of_numbered_file (parsed_files_renamed_from m k name fresh w files) i ≡ lines_after_rename k name fresh (lines_of_numbered_file files i)
+parsed_file_on_walk_has_renamed_lines i f m k name fresh w [] is on = refl
+parsed_file_on_walk_has_renamed_lines zero f m k name fresh w (file ∷ files) is on =
     let same : m ≡ f = omega (arith, is) in
-    ap (λ (b : Bool). (if_on b k name fresh file).lines) (ap (λ (n : ℕ). is_on w n) same ∙ on)
-lines_on (suc i) f m k name fresh w (file ∷ files) is on = lines_on i f (m + 1) k name fresh w files (omega (arith, is)) on
+    ap (λ (b : Bool). (file_renamed_if_on_walk b k name fresh file).lines) (ap (λ (n : ℕ). is_file_on_walk w n) same ∙ on)
+parsed_file_on_walk_has_renamed_lines (suc i) f m k name fresh w (file ∷ files) is on = parsed_file_on_walk_has_renamed_lines i f (m + 1) k name fresh w files (omega (arith, is)) on
 
-pub faults_same : (i m : ℕ) (k : Kind) (name fresh : List ℕ) (w : Walked) (files : List FileReading) → AllByRecursion (λ (file : FileReading). file.fault ≡ None) files
-    → fault_of (readings_from m k name fresh w files) i ≡ None
-faults_same i m k name fresh w [] all = refl
-faults_same zero m k name fresh w (file ∷ files) all = by (is_on w m)
+pub renamed_parsed_files_have_no_fault : (i m : ℕ) (k : Kind) (name fresh : List ℕ) (w : WalkState) (files : List ParsedFile) → AllByRecursion (λ (file : ParsedFile). file.fault ≡ None) files
+    → fault_of_numbered_file (parsed_files_renamed_from m k name fresh w files) i ≡ None
+renamed_parsed_files_have_no_fault i m k name fresh w [] all = refl
+renamed_parsed_files_have_no_fault zero m k name fresh w (file ∷ files) all = by (is_file_on_walk w m)
   where
-    by : (on : Bool) → (if_on on k name fresh file).fault ≡ None
+    by : (on : Bool) → (file_renamed_if_on_walk on k name fresh file).fault ≡ None
     by true = all.0
     by false = all.0
-faults_same (suc i) m k name fresh w (file ∷ files) all = faults_same i (m + 1) k name fresh w files all.1
+renamed_parsed_files_have_no_fault (suc i) m k name fresh w (file ∷ files) all = renamed_parsed_files_have_no_fault i (m + 1) k name fresh w files all.1
 
-pub stay_off : (i f m : ℕ) (k : Kind) (name fresh : List ℕ) (w : Walked) (files : List FileReading) → f ≡ m + i → is_on w f ≡ false
-    → slice_get (readings_from m k name fresh w files) i ≡ slice_get files i
-stay_off i f m k name fresh w [] is off = refl
-stay_off zero f m k name fresh w (file ∷ files) is off =
+pub parsed_file_not_on_walk_is_kept : (i f m : ℕ) (k : Kind) (name fresh : List ℕ) (w : WalkState) (files : List ParsedFile) → f ≡ m + i → is_file_on_walk w f ≡ false
+    → slice_get (parsed_files_renamed_from m k name fresh w files) i ≡ slice_get files i
+parsed_file_not_on_walk_is_kept i f m k name fresh w [] is off = refl
+parsed_file_not_on_walk_is_kept zero f m k name fresh w (file ∷ files) is off =
     let same : m ≡ f = omega (arith, is) in
-    ap (λ (b : Bool). let o : Option FileReading = Some (if_on b k name fresh file) in o) (ap (λ (n : ℕ). is_on w n) same ∙ off)
-stay_off (suc i) f m k name fresh w (file ∷ files) is off = stay_off i f (m + 1) k name fresh w files (omega (arith, is)) off
+    ap (λ (b : Bool). let o : Option ParsedFile = Some (file_renamed_if_on_walk b k name fresh file) in o) (ap (λ (n : ℕ). is_file_on_walk w n) same ∙ off)
+parsed_file_not_on_walk_is_kept (suc i) f m k name fresh w (file ∷ files) is off = parsed_file_not_on_walk_is_kept i f (m + 1) k name fresh w files (omega (arith, is)) off
 
 -- their bytes are those to which a rename leads
-pub files_of_readings : LineLaws → (m : ℕ) (k : Kind) (name fresh : List ℕ) (w : Walked) (files : List FileReading) → ((i : ℕ) → AllByRecursion SaysSo (lines_of files i))
-    → map file_of (readings_from m k name fresh w files) ≡ renamed_from m k name fresh w files
-files_of_readings l m k name fresh w [] says = refl
-files_of_readings l m k name fresh w (file ∷ files) says =
-    ap₂ (λ (first : NamedFile) (rest : List NamedFile). first ∷ rest) (by (is_on w m)) (files_of_readings l (m + 1) k name fresh w files (λ i. says (suc i)))
+pub named_files_of_renamed_parsed_files : RenamedLineLaws → (m : ℕ) (k : Kind) (name fresh : List ℕ) (w : WalkState) (files : List ParsedFile) → ((i : ℕ) → AllByRecursion IsCorrectlyParsed (lines_of_numbered_file files i))
+    → map named_file_of_parsed (parsed_files_renamed_from m k name fresh w files) ≡ named_files_renamed_from m k name fresh w files
+named_files_of_renamed_parsed_files l m k name fresh w [] says = refl
+named_files_of_renamed_parsed_files l m k name fresh w (file ∷ files) says =
+    ap₂ (λ (first : NamedFile) (rest : List NamedFile). first ∷ rest) (by (is_file_on_walk w m)) (named_files_of_renamed_parsed_files l (m + 1) k name fresh w files (λ i. says (suc i)))
   where
-    by : (on : Bool) → file_of (if_on on k name fresh file)
-        ≡ (if on then record { name = file.name; bytes = join (renamed k name fresh file.lines) } else file_of file)
+    by : (on : Bool) → named_file_of_parsed (file_renamed_if_on_walk on k name fresh file)
+        ≡ (if on then record { name = file.name; bytes = join (texts_of_renamed_lines k name fresh file.lines) } else named_file_of_parsed file)
     by true =
         ap (λ (lines : List (List ℕ)). let made : NamedFile = record { name = file.name; bytes = join lines } in made)
-        (sym (renamed_texts l.ascend k name fresh file.lines (says 0)))
+        (sym (renamed_texts_are_texts_of_renamed_lines l.ascend k name fresh file.lines (says 0)))
     by false = refl

@@ -1,49 +1,40 @@
 -- The lines of a policy with another name for an alias are those of a policy.
-use Rattle.std.proofs.Common.{◌≡◌, ℕ, false, true, List, [], ◌∷◌, refl, sym, ◌∙◌, arith, map}
-use Rattle.std.specs.List.{AllByRecursion}
+use Rattle.sudoers_edit.proofs.Common.{AllByRecursion, AreValidWalkLines, IsCorrectlyParsed, IsDefinableName, Kind, Line, LineReadsAsNode, List, NamedAlias, Node, PlacedDefinition, [], arith}
+use Rattle.sudoers_edit.proofs.Common.{definition_place_of_name, definitions_of_lines, false, first_definition_of, is_some, line_after_rename, line_text_after_rename, lines_after_rename, map, named_alias_of_kind}
+use Rattle.sudoers_edit.proofs.Common.{node_with_alias_renamed, refl, renaming_of_alias_in_node, sym, true, ℕ, ◌∙◌, ◌∷◌, ◌≡◌}
 use Rattle.std.specs.Prelude.{Option, Some, None}
-use Rattle.sudoers_text.specs.Renamed.{IsDefinableName}
-use Rattle.sudoers_line.specs.Node.{Node}
-use Rattle.sudoers_line.specs.declared.node.Kind.{Kind}
-use Rattle.sudoers_line.specs.Line.{ReadsLine}
-use Rattle.sudoers_line.specs.Renamed.{NamedAlias, renamed_node, renamed_text, renaming_of}
-use Rattle.sudoers_tree.specs.Line.{Line}
-use Rattle.sudoers_tree.specs.Definition.{Definition, defined, definitions, place_of}
-use Rattle.sudoers_tree.specs.Fault.{is_some}
-use Rattle.sudoers_tree.specs.Policy.{SaysSo, IsWalk}
-use Rattle.sudoers_edit.specs.Renamed.{alias_of, renamed_line, renamed_lines}
-use Rattle.sudoers_edit.proofs.DefinedNames.{defined_is_definable}
-use Rattle.sudoers_edit.proofs.RenamedNames.{AreRenamed, are_renamed, free_renamed, count_renamed, place_in}
-use Rattle.sudoers_edit.proofs.RenamedOnce.{lacks, once_renamed}
+use Rattle.sudoers_edit.proofs.DefinedNames.{name_defined_by_policy_is_definable}
+use Rattle.sudoers_edit.proofs.RenamedNames.{AreRenamedDefinitions, definitions_of_renamed_lines_are_renamed, renamed_definitions_have_unreserved_names, renamed_definitions_have_equal_count_of_kind, optional_place_of_definition}
+use Rattle.sudoers_edit.proofs.RenamedOnce.{undefined_name_is_lacked_by_definitions, renamed_definitions_keep_distinct_names}
 
 -- what the law of a line with another name says
-abbrev pub SameLaw : Type 0
-SameLaw = (alias : NamedAlias) (fresh line : List ℕ) (says : Node) → IsDefinableName alias.name → IsDefinableName fresh → ReadsLine line says
-    → ReadsLine (renamed_text alias fresh says line) (renamed_node (renaming_of alias fresh says) says)
+abbrev pub RenamedLineReadsAsRenamedNode : Type 0
+RenamedLineReadsAsRenamedNode = (alias : NamedAlias) (fresh line : List ℕ) (says : Node) → IsDefinableName alias.name → IsDefinableName fresh → LineReadsAsNode line says
+    → LineReadsAsNode (line_text_after_rename alias fresh says line) (node_with_alias_renamed (renaming_of_alias_in_node alias fresh says) says)
 
-pub says_renamed : SameLaw → (alias : NamedAlias) (fresh : List ℕ) → IsDefinableName alias.name → IsDefinableName fresh → (lines : List Line)
-    → AllByRecursion SaysSo lines → AllByRecursion SaysSo (map (renamed_line alias fresh) lines)
-says_renamed same alias fresh old new [] says = tt
-says_renamed same alias fresh old new (line ∷ lines) says =
-    (same alias fresh line.text line.node old new says.0, says_renamed same alias fresh old new lines says.1)
+pub renamed_lines_are_correctly_parsed : RenamedLineReadsAsRenamedNode → (alias : NamedAlias) (fresh : List ℕ) → IsDefinableName alias.name → IsDefinableName fresh → (lines : List Line)
+    → AllByRecursion IsCorrectlyParsed lines → AllByRecursion IsCorrectlyParsed (map (line_after_rename alias fresh) lines)
+renamed_lines_are_correctly_parsed same alias fresh old new [] says = tt
+renamed_lines_are_correctly_parsed same alias fresh old new (line ∷ lines) says =
+    (same alias fresh line.text line.node old new says.0, renamed_lines_are_correctly_parsed same alias fresh old new lines says.1)
 
 -- Lines in the order of a walk are so with another name that none of the kind had.
-pub walk_renamed : SameLaw → (k : Kind) (name fresh : List ℕ) (lines : List Line) → IsWalk lines → IsDefinableName name → IsDefinableName fresh
-    → is_some (place_of k fresh lines) ≡ false → IsWalk (renamed_lines k name fresh lines)
-walk_renamed same k name fresh lines walk old new free =
-    let ds : List Definition = definitions lines in
-    let es : List Definition = definitions (renamed_lines k name fresh lines) in
-    let are : AreRenamed k name fresh ds es = are_renamed k name fresh lines in
+pub renamed_lines_are_valid_walk_lines : RenamedLineReadsAsRenamedNode → (k : Kind) (name fresh : List ℕ) (lines : List Line) → AreValidWalkLines lines → IsDefinableName name → IsDefinableName fresh
+    → is_some (definition_place_of_name k fresh lines) ≡ false → AreValidWalkLines (lines_after_rename k name fresh lines)
+renamed_lines_are_valid_walk_lines same k name fresh lines walk old new free =
+    let ds : List PlacedDefinition = definitions_of_lines lines in
+    let es : List PlacedDefinition = definitions_of_lines (lines_after_rename k name fresh lines) in
+    let are : AreRenamedDefinitions k name fresh ds es = definitions_of_renamed_lines_are_renamed k name fresh lines in
     record {
-      says = says_renamed same (alias_of k name) fresh old new lines walk.says;
-      free = free_renamed k name fresh ds es are new.1 walk.free;
-      once = once_renamed k name fresh ds es are (lacks k fresh ds free) walk.once;
-      few = λ j. omega (arith, count_renamed k name fresh j ds es are, walk.few j);
+      says = renamed_lines_are_correctly_parsed same (named_alias_of_kind k name) fresh old new lines walk.says;
+      free = renamed_definitions_have_unreserved_names k name fresh ds es are new.1 walk.free;
+      once = renamed_definitions_keep_distinct_names k name fresh ds es are (undefined_name_is_lacked_by_definitions k fresh ds free) walk.once;
+      few = λ j. omega (arith, renamed_definitions_have_equal_count_of_kind k name fresh j ds es are, walk.few j);
     }
 
-some_placed : (o : Option Definition) → is_some (place_in o) ≡ is_some o
-some_placed None = refl
-some_placed (Some d) = refl
+definition_has_place_iff_present : (o : Option PlacedDefinition) → is_some (optional_place_of_definition o) ≡ is_some o
+definition_has_place_iff_present None = refl
+definition_has_place_iff_present (Some d) = refl
 
-pub walk_definable : (k : Kind) (name : List ℕ) (lines : List Line) → IsWalk lines → is_some (place_of k name lines) ≡ true → IsDefinableName name
-walk_definable k name lines walk is = defined_is_definable k name lines walk (sym (some_placed (defined k name (definitions lines))) ∙ is)
+pub name_defined_on_walk_is_definable : (k : Kind) (name : List ℕ) (lines : List Line) → AreValidWalkLines lines → is_some (definition_place_of_name k name lines) ≡ true → IsDefinableName name
+name_defined_on_walk_is_definable k name lines walk is = name_defined_by_policy_is_definable k name lines walk (sym (definition_has_place_iff_present (first_definition_of k name (definitions_of_lines lines))) ∙ is)

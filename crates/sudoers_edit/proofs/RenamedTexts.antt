@@ -1,28 +1,19 @@
 -- The lines to which a rename leads are the texts of the renamed lines.
-use Rattle.std.proofs.Common.{◌≡◌, ℕ, List, [], ◌∷◌, length, refl, sym, ap, ap₂, ◌∙◌}
-use Rattle.std.specs.List.{AllByRecursion}
-use Rattle.sudoers_line.specs.declared.node.Kind.{Kind}
-use Rattle.sudoers_line.specs.Node.{Node}
-use Rattle.sudoers_line.specs.Line.{ReadsLine}
-use Rattle.sudoers_line.specs.Ascend.{NamesAscend}
-use Rattle.sudoers_line.specs.Renamed.{NamedAlias, node_starts}
-use Rattle.sudoers_tree.specs.Line.{Line}
-use Rattle.sudoers_tree.specs.Policy.{texts, SaysSo}
-use Rattle.sudoers_edit.specs.Renaming.{put_at, renamed}
-use Rattle.sudoers_edit.specs.Renamed.{alias_of, renamed_lines}
-use Rattle.sudoers_edit.proofs.NameStarts.{starts_same}
-use Rattle.sudoers_edit.proofs.PutNames.{put_at_once}
+use Rattle.sudoers_edit.proofs.Common.{AllByRecursion, AreOrderedNameOffsets, IsCorrectlyParsed, Kind, Line, LineReadsAsNode, List, NamedAlias, Node, [], alias_offsets_in_node, ap, ap₂, length}
+use Rattle.sudoers_edit.proofs.Common.{line_replaced_at_offsets, lines_after_rename, named_alias_of_kind, refl, sym, texts_of_lines, texts_of_renamed_lines, ℕ, ◌∙◌, ◌∷◌, ◌≡◌}
+use Rattle.sudoers_edit.proofs.NameStarts.{alias_offsets_of_node_are_name_offsets}
+use Rattle.sudoers_edit.proofs.PutNames.{replacement_at_once_is_replacement_in_turn}
 
 -- The names of an alias stand one behind another in a line.
-abbrev pub AscendLaw : Type 0
-AscendLaw = (alias : NamedAlias) (line : List ℕ) (says : Node) → ReadsLine line says
-    → NamesAscend (length alias.name) 0 (length line) (node_starts alias says)
+abbrev pub AliasOffsetsOfLineAreOrdered : Type 0
+AliasOffsetsOfLineAreOrdered = (alias : NamedAlias) (line : List ℕ) (says : Node) → LineReadsAsNode line says
+    → AreOrderedNameOffsets (length alias.name) 0 (length line) (alias_offsets_in_node alias says)
 
-pub renamed_texts : AscendLaw → (k : Kind) (name fresh : List ℕ) (lines : List Line) → AllByRecursion SaysSo lines
-    → renamed k name fresh lines ≡ texts (renamed_lines k name fresh lines)
-renamed_texts ascend k name fresh [] says = refl
-renamed_texts ascend k name fresh (line ∷ lines) says =
+pub renamed_texts_are_texts_of_renamed_lines : AliasOffsetsOfLineAreOrdered → (k : Kind) (name fresh : List ℕ) (lines : List Line) → AllByRecursion IsCorrectlyParsed lines
+    → texts_of_renamed_lines k name fresh lines ≡ texts_of_lines (lines_after_rename k name fresh lines)
+renamed_texts_are_texts_of_renamed_lines ascend k name fresh [] says = refl
+renamed_texts_are_texts_of_renamed_lines ascend k name fresh (line ∷ lines) says =
     ap₂ (λ (x : List ℕ) (xs : List (List ℕ)). x ∷ xs)
-    (ap (λ (starts : List ℕ). put_at 0 (length name) fresh starts line.text) (sym (starts_same k name line.node))
-    ∙ put_at_once (length name) fresh line.text (node_starts (alias_of k name) line.node) (ascend (alias_of k name) line.text line.node says.0))
-    (renamed_texts ascend k name fresh lines says.1)
+    (ap (λ (starts : List ℕ). line_replaced_at_offsets 0 (length name) fresh starts line.text) (sym (alias_offsets_of_node_are_name_offsets k name line.node))
+    ∙ replacement_at_once_is_replacement_in_turn (length name) fresh line.text (alias_offsets_in_node (named_alias_of_kind k name) line.node) (ascend (named_alias_of_kind k name) line.text line.node says.0))
+    (renamed_texts_are_texts_of_renamed_lines ascend k name fresh lines says.1)

@@ -1,23 +1,14 @@
 -- An edit that puts another line in the place of one of a file.
-use Rattle.std.proofs.Common.{◌≡◌, ◌∙◌, ℕ, ◌≤◌, true, false, List, length, Err, refl}
-use Rattle.std.proofs.lemmas.Bool.{le-ltb}
-use Rattle.sudoers_text.specs.Ended.{has_unended_inside}
-use Rattle.sudoers_text.specs.Fault.{line_limit}
-use Rattle.sudoers_tree.specs.Changed.{replaced}
-use Rattle.sudoers_tree.specs.Load.{Loaded}
-use Rattle.sudoers_edit.specs.declared.fault.EditFault.TheVariants.{OpenLine}
-use Rattle.sudoers_edit.specs.Editing.{step}
-use Rattle.sudoers_edit.specs.internal.Splicing.{ReplacesIn}
-use Rattle.sudoers_edit.specs.internal.LeadingInFile.{LandsIn, texts_of}
-use Rattle.sudoers_edit_script.specs.declared.edit.Edit.{Edit}
+use Rattle.sudoers_edit.proofs.Common.{Edit, EditReplacesFileLine, EditSetsFileLines, Err, List, LoadedPolicy, OpenLine, false, has_inner_line_without_lf, le-ltb, length, line_limit, line_texts_of_file}
+use Rattle.sudoers_edit.proofs.Common.{lines_with_one_replaced, refl, step, true, ℕ, ◌∙◌, ◌≡◌, ◌≤◌}
 
-pub left_open : (edit back : Edit) (inverse : List Edit) (policy : Loaded) (f at : ℕ) (text : List ℕ) → ReplacesIn edit back inverse policy f at text → length text ≤ line_limit
-    → has_unended_inside (replaced at text (texts_of policy f)) ≡ true → step edit policy ≡ Err OpenLine
-left_open edit back inverse policy f at text r short open_ = r.forth ∙ rw (le-ltb line_limit (length text) short, open_) refl
+pub replacement_leaving_open_line_is_refused : (edit back : Edit) (inverse : List Edit) (policy : LoadedPolicy) (f at : ℕ) (text : List ℕ) → EditReplacesFileLine edit back inverse policy f at text → length text ≤ line_limit
+    → has_inner_line_without_lf (lines_with_one_replaced at text (line_texts_of_file policy f)) ≡ true → step edit policy ≡ Err OpenLine
+replacement_leaving_open_line_is_refused edit back inverse policy f at text r short open_ = r.forth ∙ rw (le-ltb line_limit (length text) short, open_) refl
 
-pub lands_replaced : (edit back : Edit) (inverse : List Edit) (policy : Loaded) (f at : ℕ) (text : List ℕ) → ReplacesIn edit back inverse policy f at text
-    → length text ≤ line_limit → has_unended_inside (replaced at text (texts_of policy f)) ≡ false → LandsIn edit back inverse policy f (replaced at text (texts_of policy f))
-lands_replaced edit back inverse policy f at text r short ended = record {
+pub ended_replacement_sets_file_lines : (edit back : Edit) (inverse : List Edit) (policy : LoadedPolicy) (f at : ℕ) (text : List ℕ) → EditReplacesFileLine edit back inverse policy f at text
+    → length text ≤ line_limit → has_inner_line_without_lf (lines_with_one_replaced at text (line_texts_of_file policy f)) ≡ false → EditSetsFileLines edit back inverse policy f (lines_with_one_replaced at text (line_texts_of_file policy f))
+ended_replacement_sets_file_lines edit back inverse policy f at text r short ended = record {
   here = r.here;
   ended = ended;
   forth = r.forth ∙ rw (le-ltb line_limit (length text) short) refl;

@@ -1,5 +1,4 @@
 pub mod OneLine
-pub mod Alike
 pub mod Splice
 pub mod Landing
 pub mod LineEdits

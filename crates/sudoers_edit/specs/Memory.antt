@@ -8,18 +8,18 @@ use Rattle.sudoers_edit.specs.declared.fault.EditFault.{EditFault}
 use Rattle.sudoers_edit.specs.declared.fault.EditFault.TheVariants as edit
 
 -- a fault that a text has: want of memory is none
-abbrev pub IsOfText : ReadFault → Type 0
-IsOfText read.NoMemory = ⊥
-IsOfText (read.Text text.NoMemory) = ⊥
-IsOfText fault = Unit {0}
+abbrev pub IsMemoryFreeReadFault : ReadFault → Type 0
+IsMemoryFreeReadFault read.NoMemory = ⊥
+IsMemoryFreeReadFault (read.Text text.NoMemory) = ⊥
+IsMemoryFreeReadFault fault = Unit {0}
 
 -- a fault that files have
-abbrev pub IsOfFiles : LoadFault → Type 0
-IsOfFiles load.NoMemory = ⊥
-IsOfFiles (load.InFile name fault) = IsOfText fault
-IsOfFiles fault = Unit {0}
+abbrev pub IsMemoryFreeLoadFault : LoadFault → Type 0
+IsMemoryFreeLoadFault load.NoMemory = ⊥
+IsMemoryFreeLoadFault (load.InFile name fault) = IsMemoryFreeReadFault fault
+IsMemoryFreeLoadFault fault = Unit {0}
 
 -- Want of memory is not told as a fault of the files to which an edit leads.
-abbrev pub TellsMemoryAlone : EditFault → Type 0
-TellsMemoryAlone (edit.NotPolicy fault) = IsOfFiles fault
-TellsMemoryAlone fault = Unit {0}
+abbrev pub HasNoInnerMemoryFault : EditFault → Type 0
+HasNoInnerMemoryFault (edit.NotPolicy fault) = IsMemoryFreeLoadFault fault
+HasNoInnerMemoryFault fault = Unit {0}

@@ -1,18 +1,18 @@
 -- Texts that are one line.
 use Rattle.std.specs.Prelude.{◌≡◌, ℕ, Bool, true, false, List, [], ◌∷◌, Result, Ok, Err}
-use Rattle.sudoers_text.specs.Cut.{cut_of}
+use Rattle.sudoers_text.specs.Cut.{cut_outcome_of_text}
 use Rattle.sudoers_text.specs.declared.fault.TextFault.{TextFault}
 
 -- The text is the one line of itself.
-abbrev pub IsAlone : List ℕ → Type 0
-IsAlone text = cut_of text ≡ Ok (text ∷ [])
+abbrev pub IsSingleLineCut : List ℕ → Type 0
+IsSingleLineCut text = cut_outcome_of_text text ≡ Ok (text ∷ [])
 
 -- the cut gives exactly one line
-abbrev pub gives_one : Result (List (List ℕ)) TextFault → Bool
-gives_one (Ok []) = false
-gives_one (Ok (line ∷ [])) = true
-gives_one (Ok (line ∷ next ∷ lines)) = false
-gives_one (Err fault) = false
+abbrev pub has_exactly_one_line : Result (List (List ℕ)) TextFault → Bool
+has_exactly_one_line (Ok []) = false
+has_exactly_one_line (Ok (line ∷ [])) = true
+has_exactly_one_line (Ok (line ∷ next ∷ lines)) = false
+has_exactly_one_line (Err fault) = false
 
-abbrev pub is_one_line : List ℕ → Bool
-is_one_line text = gives_one (cut_of text)
+abbrev pub is_one_logical_line : List ℕ → Bool
+is_one_logical_line text = has_exactly_one_line (cut_outcome_of_text text)

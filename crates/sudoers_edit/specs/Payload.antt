@@ -4,34 +4,34 @@ use Rattle.sudoers_edit_script.specs.declared.edit.Edit.{Edit}
 use Rattle.sudoers_edit_script.specs.declared.edit.Edit.TheVariants.{Insert, Delete, Move, AddMember, DropMember, AddDef, DropDef, Rename, EndLine, OpenEnd, Prune}
 
 -- how many bytes an edit carries: those of its line or its splice
-abbrev pub payload_size : Edit → ℕ
-payload_size (Insert file at text) = length text
-payload_size (Delete file at) = 0
-payload_size (Move file from to) = 0
-payload_size (AddMember kind name at splice) = length splice
-payload_size (DropMember kind name at) = 0
-payload_size (AddDef file line at splice) = length splice
-payload_size (DropDef file line at) = 0
-payload_size (Rename kind name fresh) = 0
-payload_size (EndLine file) = 0
-payload_size (OpenEnd file) = 0
-payload_size Prune = 0
+abbrev pub payload_size_of_edit : Edit → ℕ
+payload_size_of_edit (Insert file at text) = length text
+payload_size_of_edit (Delete file at) = 0
+payload_size_of_edit (Move file from to) = 0
+payload_size_of_edit (AddMember kind name at splice) = length splice
+payload_size_of_edit (DropMember kind name at) = 0
+payload_size_of_edit (AddDef file line at splice) = length splice
+payload_size_of_edit (DropDef file line at) = 0
+payload_size_of_edit (Rename kind name fresh) = 0
+payload_size_of_edit (EndLine file) = 0
+payload_size_of_edit (OpenEnd file) = 0
+payload_size_of_edit Prune = 0
 
 -- how many all of them carry
-abbrev pub payloads_size : List Edit → ℕ
-payloads_size [] = 0
-payloads_size (edit ∷ edits) = payload_size edit + payloads_size edits
+abbrev pub payload_size_of_edits : List Edit → ℕ
+payload_size_of_edits [] = 0
+payload_size_of_edits (edit ∷ edits) = payload_size_of_edit edit + payload_size_of_edits edits
 
 -- The edit takes out lines, members or definitions.
-abbrev pub takes_out : Edit → Bool
-takes_out (Insert file at text) = false
-takes_out (Delete file at) = true
-takes_out (Move file from to) = false
-takes_out (AddMember kind name at splice) = false
-takes_out (DropMember kind name at) = true
-takes_out (AddDef file line at splice) = false
-takes_out (DropDef file line at) = true
-takes_out (Rename kind name fresh) = false
-takes_out (EndLine file) = false
-takes_out (OpenEnd file) = false
-takes_out Prune = true
+abbrev pub is_removing_edit : Edit → Bool
+is_removing_edit (Insert file at text) = false
+is_removing_edit (Delete file at) = true
+is_removing_edit (Move file from to) = false
+is_removing_edit (AddMember kind name at splice) = false
+is_removing_edit (DropMember kind name at) = true
+is_removing_edit (AddDef file line at splice) = false
+is_removing_edit (DropDef file line at) = true
+is_removing_edit (Rename kind name fresh) = false
+is_removing_edit (EndLine file) = false
+is_removing_edit (OpenEnd file) = false
+is_removing_edit Prune = true

@@ -3,83 +3,83 @@ use Rattle.std.specs.Prelude.{ℕ, ◌+◌, ◌-◌, Bool, not, ◌&&◌, ◌||�
 use Rattle.std.specs.List.{flat_map, list_any}
 use Rattle.std.specs.Str.{bytes_eq}
 use Rattle.sudoers_text.specs.Word.{is_name, is_reserved}
-use Rattle.sudoers_line.specs.Node.{Def, Member, Node}
-use Rattle.sudoers_line.specs.declared.node.Kind.{Kind}
-use Rattle.sudoers_line.specs.Listed.{AliasMember}
+use Rattle.sudoers_grammar.specs.Node.{Def, Member, Node}
+use Rattle.sudoers_grammar.specs.declared.node.Kind.{Kind}
+use Rattle.sudoers_grammar.specs.Listed.{AliasMember}
 use Rattle.sudoers_tree.specs.Line.{Line}
 use Rattle.sudoers_tree.specs.declared.place.Span.{Span}
-use Rattle.sudoers_tree.specs.Definition.{is_kind, place_of}
+use Rattle.sudoers_tree.specs.Definition.{is_equal_kind, definition_place_of_name}
 use Rattle.sudoers_tree.specs.Fault.{is_some}
-use Rattle.sudoers_tree.specs.Mention.{members_in, mentions, span_of}
-use Rattle.sudoers_edit.specs.Landing.{is_too_long, refuse_if, policy_or_refusal}
+use Rattle.sudoers_tree.specs.Mention.{members_of_kind_in_line, mentions_in_lines, mention_span_of_member}
+use Rattle.sudoers_edit.specs.Landing.{is_line_too_long, result_unless_refused, policy_of_files_or_refusal}
 use Rattle.sudoers_edit.specs.declared.fault.EditFault.{EditFault}
 use Rattle.sudoers_edit.specs.declared.fault.EditFault.TheVariants.{NoAlias, BadName, NameTaken, TooLarge}
 use Rattle.sudoers_text.specs.Line.{join}
-use Rattle.sudoers_tree.specs.Files.{FileReading}
-use Rattle.sudoers_tree.specs.Load.{Loaded, file_of}
-use Rattle.sudoers_tree.specs.Walk.{Walked, is_on}
-use Rattle.sudoers_tree.specs.declared.load.NamedFile.{NamedFile}
-use Rattle.sudoers_line.specs.Node as node
+use Rattle.sudoers_tree.specs.Files.{ParsedFile}
+use Rattle.sudoers_tree.specs.Load.{LoadedPolicy, named_file_of_parsed}
+use Rattle.sudoers_tree.specs.Walk.{WalkState, is_file_on_walk}
+use Rattle.sudoers_tree.specs.declared.named_files.NamedFile.{NamedFile}
+use Rattle.sudoers_grammar.specs.Node as node
 
 -- WHERE THE NAME STANDS
 
 -- where it is mentioned by this member: at which bytes of the line
-abbrev pub starts_of : List ℕ → Member → List ℕ
-starts_of name m = map (λ (s : Span). s.start) (span_of 0 name m m.atom)
+abbrev pub mention_offset_of_member : List ℕ → Member → List ℕ
+mention_offset_of_member name m = map (λ (s : Span). s.start) (mention_span_of_member 0 name m m.atom)
 
 -- where it is mentioned by one of these members
-abbrev pub starts_among : List ℕ → List Member → List ℕ
-starts_among name members = flat_map (starts_of name) members
+abbrev pub mention_offsets_in_members : List ℕ → List Member → List ℕ
+mention_offsets_in_members name members = flat_map (mention_offset_of_member name) members
 
 -- where it stands in a definition: as the name that is defined, and in the members
-abbrev pub starts_in_def : List ℕ → Def → List ℕ
-starts_in_def name d = (if bytes_eq name d.name then d.start ∷ [] else []) ++ starts_among name d.members
+abbrev pub name_offsets_in_definition : List ℕ → Def → List ℕ
+name_offsets_in_definition name d = (if bytes_eq name d.name then d.start ∷ [] else []) ++ mention_offsets_in_members name d.members
 
 -- where it stands in what a line says, as an alias of this kind
-abbrev pub starts_in : Kind → List ℕ → Node → List ℕ
-starts_in k name (node.Alias j defs) = if is_kind k j then flat_map (starts_in_def name) defs else []
-starts_in k name (node.Spec users groups) = starts_among name (members_in k (node.Spec users groups))
-starts_in k name (node.Defaults scope params) = starts_among name (members_in k (node.Defaults scope params))
-starts_in k name node.Blank = []
-starts_in k name node.Comment = []
-starts_in k name (node.Include dir path) = []
+abbrev pub name_offsets_in_line : Kind → List ℕ → Node → List ℕ
+name_offsets_in_line k name (node.Alias j defs) = if is_equal_kind k j then flat_map (name_offsets_in_definition name) defs else []
+name_offsets_in_line k name (node.Spec users groups) = mention_offsets_in_members name (members_of_kind_in_line k (node.Spec users groups))
+name_offsets_in_line k name (node.Defaults scope params) = mention_offsets_in_members name (members_of_kind_in_line k (node.Defaults scope params))
+name_offsets_in_line k name node.Blank = []
+name_offsets_in_line k name node.Comment = []
+name_offsets_in_line k name (node.Include dir path) = []
 
 -- where an alias among the members of all lists stands, if it is this name in a list of this kind
-abbrev pub start_if : Kind → List ℕ → AliasMember → List ℕ
-start_if k name a = if is_kind k a.kind && bytes_eq name a.name then (a.stop - length name) ∷ [] else []
+abbrev pub name_offset_of_alias_member : Kind → List ℕ → AliasMember → List ℕ
+name_offset_of_alias_member k name a = if is_equal_kind k a.kind && bytes_eq name a.name then (a.stop - length name) ∷ [] else []
 
 -- ANOTHER NAME
 
 -- the line from a byte on, with other bytes where at these places so many stand
-abbrev pub put_at : ℕ → ℕ → List ℕ → List ℕ → List ℕ → List ℕ
-put_at from size fresh [] line = drop from line
-put_at from size fresh (start ∷ starts) line = take (start - from) (drop from line) ++ fresh ++ put_at (start + size) size fresh starts line
+abbrev pub line_replaced_at_offsets : ℕ → ℕ → List ℕ → List ℕ → List ℕ → List ℕ
+line_replaced_at_offsets from size fresh [] line = drop from line
+line_replaced_at_offsets from size fresh (start ∷ starts) line = take (start - from) (drop from line) ++ fresh ++ line_replaced_at_offsets (start + size) size fresh starts line
 
-abbrev pub renamed_line : Kind → List ℕ → List ℕ → Line → List ℕ
-renamed_line k name fresh line = put_at 0 (length name) fresh (starts_in k name line.node) line.text
+abbrev pub text_of_renamed_line : Kind → List ℕ → List ℕ → Line → List ℕ
+text_of_renamed_line k name fresh line = line_replaced_at_offsets 0 (length name) fresh (name_offsets_in_line k name line.node) line.text
 
 -- the lines of a policy with another name for an alias
-abbrev pub renamed : Kind → List ℕ → List ℕ → List Line → List (List ℕ)
-renamed k name fresh policy = map (renamed_line k name fresh) policy
+abbrev pub texts_of_renamed_lines : Kind → List ℕ → List ℕ → List Line → List (List ℕ)
+texts_of_renamed_lines k name fresh policy = map (text_of_renamed_line k name fresh) policy
 
-abbrev pub is_taken : Kind → List ℕ → List Line → Bool
-is_taken k fresh policy = is_some (place_of k fresh policy) || nat_lt 0 (length (mentions k fresh policy))
+abbrev pub is_alias_name_in_use : Kind → List ℕ → List Line → Bool
+is_alias_name_in_use k fresh policy = is_some (definition_place_of_name k fresh policy) || nat_lt 0 (length (mentions_in_lines k fresh policy))
 
 -- these files, the first of which has the number n, with another name for the alias in those that are on the walk
-abbrev pub renamed_from : ℕ → Kind → List ℕ → List ℕ → Walked → List FileReading → List NamedFile
-renamed_from n k name fresh w [] = []
-renamed_from n k name fresh w (file ∷ files) =
-    (if is_on w n then record { name = file.name; bytes = join (renamed k name fresh file.lines) } else file_of file)
-    ∷ renamed_from (n + 1) k name fresh w files
+abbrev pub named_files_renamed_from : ℕ → Kind → List ℕ → List ℕ → WalkState → List ParsedFile → List NamedFile
+named_files_renamed_from n k name fresh w [] = []
+named_files_renamed_from n k name fresh w (file ∷ files) =
+    (if is_file_on_walk w n then record { name = file.name; bytes = join (texts_of_renamed_lines k name fresh file.lines) } else named_file_of_parsed file)
+    ∷ named_files_renamed_from (n + 1) k name fresh w files
 
-abbrev pub renamed_files : Kind → List ℕ → List ℕ → Loaded → List NamedFile
-renamed_files k name fresh policy = renamed_from 0 k name fresh policy.walk policy.files
+abbrev pub named_files_after_rename : Kind → List ℕ → List ℕ → LoadedPolicy → List NamedFile
+named_files_after_rename k name fresh policy = named_files_renamed_from 0 k name fresh policy.walk policy.files
 
 -- the policy with another name for the alias that the walk defines, or the first cause of its refusal
-unfoldable pub rename : Kind → List ℕ → List ℕ → Loaded → Result Loaded EditFault
-rename k name fresh policy =
-    refuse_if (not (is_some (place_of k name policy.walk.lines))) NoAlias (
-    refuse_if (not (is_name fresh) || is_reserved fresh) BadName (
-    refuse_if (is_taken k fresh policy.walk.lines) NameTaken (
-    refuse_if (list_any is_too_long (renamed k name fresh policy.walk.lines)) TooLarge (
-    policy_or_refusal (renamed_files k name fresh policy)))))
+unfoldable pub policy_after_rename : Kind → List ℕ → List ℕ → LoadedPolicy → Result LoadedPolicy EditFault
+policy_after_rename k name fresh policy =
+    result_unless_refused (not (is_some (definition_place_of_name k name policy.walk.lines))) NoAlias (
+    result_unless_refused (not (is_name fresh) || is_reserved fresh) BadName (
+    result_unless_refused (is_alias_name_in_use k fresh policy.walk.lines) NameTaken (
+    result_unless_refused (list_any is_line_too_long (texts_of_renamed_lines k name fresh policy.walk.lines)) TooLarge (
+    policy_of_files_or_refusal (named_files_after_rename k name fresh policy)))))

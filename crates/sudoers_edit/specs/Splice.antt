@@ -1,83 +1,83 @@
 -- Which bytes of its line a member or a definition owns.
 use Rattle.std.specs.Prelude.{ℕ, zero, suc, ◌-◌, Bool, false, ◌&&◌, ◌==◌, if◌then◌else◌, List, [], ◌∷◌, ◌++◌, take, drop, remove, map, Option, Some, None, slice_get}
 use Rattle.std.specs.Option.{option_map}
-use Rattle.sudoers_line.specs.Node.{Def, Member, Node}
-use Rattle.sudoers_line.specs.Node as node
-use Rattle.sudoers_tree.specs.Definition.{is_kind}
-use Rattle.sudoers_edit.specs.Alike.{are_alike, is_same_def}
+use Rattle.sudoers_grammar.specs.Node.{Def, Member, Node}
+use Rattle.sudoers_grammar.specs.Node as node
+use Rattle.sudoers_tree.specs.Definition.{is_equal_kind}
+use Rattle.sudoers_line_rows.specs.Alike.{are_lists_alike, is_same_def}
 
 -- where something stands in its line: its first byte, and the byte behind its last
-abbrev pub Extent : Type 0
-Extent = ℕ × ℕ
+abbrev pub ByteExtent : Type 0
+ByteExtent = ℕ × ℕ
 
-abbrev pub member_extents : List Member → List Extent
-member_extents members = map (λ (m : Member). (m.start, m.stop)) members
+abbrev pub extents_of_members : List Member → List ByteExtent
+extents_of_members members = map (λ (m : Member). (m.start, m.stop)) members
 
-abbrev pub def_extents : List Def → List Extent
-def_extents defs = map (λ (d : Def). (d.start, d.stop)) defs
+abbrev pub extents_of_definitions : List Def → List ByteExtent
+extents_of_definitions defs = map (λ (d : Def). (d.start, d.stop)) defs
 
 -- OWNED BYTES
 
 -- where the bytes begin that the one at a place owns: at the end of the one before it; of the first, at its start
-abbrev pub seam : ℕ → List Extent → Option ℕ
-seam at extents =
-    if at == 0 then option_map (λ (x : Extent). x.0) (slice_get extents 0)
-    else option_map (λ (x : Extent). x.1) (slice_get extents (at - 1))
+abbrev pub owned_bytes_start : ℕ → List ByteExtent → Option ℕ
+owned_bytes_start at extents =
+    if at == 0 then option_map (λ (x : ByteExtent). x.0) (slice_get extents 0)
+    else option_map (λ (x : ByteExtent). x.1) (slice_get extents (at - 1))
 
 -- where they stop: at its own end; of the first, at the start of the next
-abbrev pub owned_stop : ℕ → List Extent → Option ℕ
-owned_stop at extents =
-    if at == 0 then option_map (λ (x : Extent). x.0) (slice_get extents 1)
-    else option_map (λ (x : Extent). x.1) (slice_get extents at)
+abbrev pub owned_bytes_stop : ℕ → List ByteExtent → Option ℕ
+owned_bytes_stop at extents =
+    if at == 0 then option_map (λ (x : ByteExtent). x.0) (slice_get extents 1)
+    else option_map (λ (x : ByteExtent). x.1) (slice_get extents at)
 
 -- the bytes from one place of a line to another
-abbrev pub slice : ℕ → ℕ → List ℕ → List ℕ
-slice from to line = take (to - from) (drop from line)
+abbrev pub bytes_between : ℕ → ℕ → List ℕ → List ℕ
+bytes_between from to line = take (to - from) (drop from line)
 
 -- the line without them
-abbrev pub line_without : ℕ → ℕ → List ℕ → List ℕ
-line_without from to line = take from line ++ drop to line
+abbrev pub line_without_bytes : ℕ → ℕ → List ℕ → List ℕ
+line_without_bytes from to line = take from line ++ drop to line
 
 -- the line with a splice at a place
-abbrev pub line_with : ℕ → List ℕ → List ℕ → List ℕ
-line_with at splice line = take at line ++ splice ++ drop at line
+abbrev pub line_with_splice : ℕ → List ℕ → List ℕ → List ℕ
+line_with_splice at splice line = take at line ++ splice ++ drop at line
 
 -- ONE MORE
 
-abbrev pub is_at : ℕ → Option ℕ → Bool
-is_at n None = false
-is_at n (Some m) = n == m
+abbrev pub is_option_equal_to : ℕ → Option ℕ → Bool
+is_option_equal_to n None = false
+is_option_equal_to n (Some m) = n == m
 
 -- with one more at a place these bytes are what that one owns, and without it they would go in there
-abbrev pub owns_exactly : ℕ → ℕ → ℕ → List Extent → List Extent → Bool
-owns_exactly at from to more less = is_at from (seam at more) && is_at to (owned_stop at more) && is_at from (seam at less)
+abbrev pub has_exact_owned_bytes : ℕ → ℕ → ℕ → List ByteExtent → List ByteExtent → Bool
+has_exact_owned_bytes at from to more less = is_option_equal_to from (owned_bytes_start at more) && is_option_equal_to to (owned_bytes_stop at more) && is_option_equal_to from (owned_bytes_start at less)
 
-abbrev pub less_member : ℕ → Def → Def
-less_member at d = record { name = d.name; start = d.start; stop = d.stop; members = remove d.members at }
+abbrev pub definition_without_member : ℕ → Def → Def
+definition_without_member at d = record { name = d.name; start = d.start; stop = d.stop; members = remove d.members at }
 
 -- the definitions, of which the one at a place is changed
-abbrev pub changed_at : ℕ → (Def → Def) → List Def → List Def
-changed_at at change [] = []
-changed_at zero change (d ∷ defs) = change d ∷ defs
-changed_at (suc at) change (d ∷ defs) = d ∷ changed_at at change defs
+abbrev pub definitions_with_one_changed : ℕ → (Def → Def) → List Def → List Def
+definitions_with_one_changed at change [] = []
+definitions_with_one_changed zero change (d ∷ defs) = change d ∷ defs
+definitions_with_one_changed (suc at) change (d ∷ defs) = d ∷ definitions_with_one_changed at change defs
 
 -- where the members of the definition at a place stand
-abbrev pub extents_in : Option Def → List Extent
-extents_in None = []
-extents_in (Some d) = member_extents d.members
+abbrev pub extents_of_definition_members : Option Def → List ByteExtent
+extents_of_definition_members None = []
+extents_of_definition_members (Some d) = extents_of_members d.members
 
 -- Of two lines of definitions the first reads as the second but for one member more, which stands in the definition `def` at the
 -- place `at` and owns the bytes from `from` to `to`.
-abbrev pub is_member_more : ℕ → ℕ → ℕ → ℕ → Option Node → Option Node → Bool
-is_member_more def at from to (Some (node.Alias k more)) (Some (node.Alias j less)) =
-    is_kind k j && are_alike is_same_def (changed_at def (less_member at) more) less
-    && owns_exactly at from to (extents_in (slice_get more def)) (extents_in (slice_get less def))
-is_member_more def at from to more less = false
+abbrev pub has_one_member_more : ℕ → ℕ → ℕ → ℕ → Option Node → Option Node → Bool
+has_one_member_more def at from to (Some (node.Alias k more)) (Some (node.Alias j less)) =
+    is_equal_kind k j && are_lists_alike is_same_def (definitions_with_one_changed def (definition_without_member at) more) less
+    && has_exact_owned_bytes at from to (extents_of_definition_members (slice_get more def)) (extents_of_definition_members (slice_get less def))
+has_one_member_more def at from to more less = false
 
 -- Of two lines of definitions the first reads as the second but for one definition more, which stands at the place `at` and owns the
 -- bytes from `from` to `to`.
-abbrev pub is_def_more : ℕ → ℕ → ℕ → Option Node → Option Node → Bool
-is_def_more at from to (Some (node.Alias k more)) (Some (node.Alias j less)) =
-    is_kind k j && are_alike is_same_def (remove more at) less
-    && owns_exactly at from to (def_extents more) (def_extents less)
-is_def_more at from to more less = false
+abbrev pub has_one_definition_more : ℕ → ℕ → ℕ → Option Node → Option Node → Bool
+has_one_definition_more at from to (Some (node.Alias k more)) (Some (node.Alias j less)) =
+    is_equal_kind k j && are_lists_alike is_same_def (remove more at) less
+    && has_exact_owned_bytes at from to (extents_of_definitions more) (extents_of_definitions less)
+has_one_definition_more at from to more less = false

@@ -2,117 +2,117 @@
 -- come with what they say.
 use Rattle.std.specs.Prelude.{ℕ, ◌+◌, Bool, not, ◌==◌, nat_lt, nat_le, List, [], length, Option, Some, None, Result, option_and_then, slice_get, unwrap_or, Ok}
 use Rattle.std.specs.Option.{option_map}
-use Rattle.sudoers_line.specs.Node.{Def, Node}
+use Rattle.sudoers_grammar.specs.Node.{Def, Node}
 use Rattle.sudoers_tree.specs.Line.{Line}
 use Rattle.sudoers_tree.specs.declared.place.Place.{Place}
-use Rattle.sudoers_tree.specs.Policy.{texts}
-use Rattle.sudoers_tree.specs.Single.{said}
-use Rattle.sudoers_edit.specs.Landing.{refuse_if, or_refuse, is_too_long, Lines}
-use Rattle.sudoers_edit.specs.Splice.{Extent, member_extents, def_extents, seam, owned_stop, slice, line_without, line_with, is_member_more, is_def_more}
-use Rattle.sudoers_edit.specs.declared.one_more.Among.{Among}
+use Rattle.sudoers_tree.specs.Policy.{texts_of_lines}
+use Rattle.sudoers_tree.specs.Single.{reading_of_single_line}
+use Rattle.sudoers_edit.specs.Landing.{result_unless_refused, result_or_refusal_if_none, is_line_too_long, LineTexts}
+use Rattle.sudoers_edit.specs.Splice.{ByteExtent, extents_of_members, extents_of_definitions, owned_bytes_start, owned_bytes_stop, bytes_between, line_without_bytes, line_with_splice, has_one_member_more, has_one_definition_more}
+use Rattle.sudoers_edit.specs.declared.extra_item.ItemListKind.{ItemListKind}
 use Rattle.sudoers_edit.specs.declared.fault.EditFault.{EditFault}
 use Rattle.sudoers_edit.specs.declared.fault.EditFault.TheVariants.{NoLine, NoAlias, NoPlace, OnlyOne, BadSplice, TooLarge}
-use Rattle.sudoers_tree.specs.Changed.{replaced}
-use Rattle.sudoers_line.specs.Node as node
-use Rattle.sudoers_edit.specs.declared.one_more.Among.TheVariants as among
+use Rattle.sudoers_tree.specs.Changed.{lines_with_one_replaced}
+use Rattle.sudoers_grammar.specs.Node as node
+use Rattle.sudoers_edit.specs.declared.extra_item.ItemListKind.TheVariants as among
 
 -- where one more may be put in, among these: at which byte
-abbrev pub place_to_add : ℕ → List Extent → (ℕ → Result Lines EditFault) → Result Lines EditFault
-place_to_add at extents next = refuse_if (nat_lt (length extents) at) NoPlace (or_refuse (seam at extents) BadSplice next)
+abbrev pub result_at_splice_offset : ℕ → List ByteExtent → (ℕ → Result LineTexts EditFault) → Result LineTexts EditFault
+result_at_splice_offset at extents next = result_unless_refused (nat_lt (length extents) at) NoPlace (result_or_refusal_if_none (owned_bytes_start at extents) BadSplice next)
 
 -- which bytes go with one that may be taken out, of these
-abbrev pub place_to_drop : ℕ → List Extent → (ℕ → ℕ → Result Lines EditFault) → Result Lines EditFault
-place_to_drop at extents next =
-    refuse_if (nat_le (length extents) at) NoPlace (refuse_if (length extents == 1) OnlyOne (
-    or_refuse (seam at extents) BadSplice (λ from. or_refuse (owned_stop at extents) BadSplice (λ to. next from to))))
+abbrev pub result_at_owned_bytes : ℕ → List ByteExtent → (ℕ → ℕ → Result LineTexts EditFault) → Result LineTexts EditFault
+result_at_owned_bytes at extents next =
+    result_unless_refused (nat_le (length extents) at) NoPlace (result_unless_refused (length extents == 1) OnlyOne (
+    result_or_refusal_if_none (owned_bytes_start at extents) BadSplice (λ from. result_or_refusal_if_none (owned_bytes_stop at extents) BadSplice (λ to. next from to))))
 
 -- Of two lines the first reads as the second but for one definition, or one member of a definition, more.
-abbrev pub is_one_more : Among → ℕ → ℕ → ℕ → Option Node → Option Node → Bool
-is_one_more among.Definitions at from to more less = is_def_more at from to more less
-is_one_more (among.Members def) at from to more less = is_member_more def at from to more less
+abbrev pub has_one_item_more : ItemListKind → ℕ → ℕ → ℕ → Option Node → Option Node → Bool
+has_one_item_more among.Definitions at from to more less = has_one_definition_more at from to more less
+has_one_item_more (among.Members def) at from to more less = has_one_member_more def at from to more less
 
 -- DEFINITIONS
 
 -- the definitions of a line that makes them
-abbrev pub defs_of : Node → Option (List Def)
-defs_of (node.Alias k defs) = Some defs
-defs_of node.Blank = None
-defs_of node.Comment = None
-defs_of (node.Include dir path) = None
-defs_of (node.Defaults scope params) = None
-defs_of (node.Spec users groups) = None
+abbrev pub definitions_of_alias_line : Node → Option (List Def)
+definitions_of_alias_line (node.Alias k defs) = Some defs
+definitions_of_alias_line node.Blank = None
+definitions_of_alias_line node.Comment = None
+definitions_of_alias_line (node.Include dir path) = None
+definitions_of_alias_line (node.Defaults scope params) = None
+definitions_of_alias_line (node.Spec users groups) = None
 
 -- the line of this number and its definitions
-abbrev pub with_defs : ℕ → List Line → (Line → List Def → Result Lines EditFault) → Result Lines EditFault
-with_defs n policy next = or_refuse (slice_get policy n) NoLine (λ line. or_refuse (defs_of line.node) NoAlias (next line))
+abbrev pub result_with_line_definitions : ℕ → List Line → (Line → List Def → Result LineTexts EditFault) → Result LineTexts EditFault
+result_with_line_definitions n policy next = result_or_refusal_if_none (slice_get policy n) NoLine (λ line. result_or_refusal_if_none (definitions_of_alias_line line.node) NoAlias (next line))
 
 -- MEMBERS
 
 -- the line and the definition at a place
-abbrev pub with_def : Option Place → List Line → (Place → Line → Def → Result Lines EditFault) → Result Lines EditFault
-with_def place policy next =
-    or_refuse place NoAlias (λ at. or_refuse (slice_get policy at.line) NoAlias (λ line.
-    or_refuse (defs_of line.node) NoAlias (λ defs. or_refuse (slice_get defs at.def) NoAlias (λ d. next at line d))))
+abbrev pub result_with_definition_at : Option Place → List Line → (Place → Line → Def → Result LineTexts EditFault) → Result LineTexts EditFault
+result_with_definition_at place policy next =
+    result_or_refusal_if_none place NoAlias (λ at. result_or_refusal_if_none (slice_get policy at.line) NoAlias (λ line.
+    result_or_refusal_if_none (definitions_of_alias_line line.node) NoAlias (λ defs. result_or_refusal_if_none (slice_get defs at.def) NoAlias (λ d. next at line d))))
 
 -- WHAT IS TAKEN OUT
 
 -- the bytes that the one at a place owns
-abbrev pub owned : ℕ → List Extent → List ℕ → List ℕ
-owned at extents line = slice (unwrap_or (seam at extents) 0) (unwrap_or (owned_stop at extents) 0) line
+abbrev pub bytes_owned_at_place : ℕ → List ByteExtent → List ℕ → List ℕ
+bytes_owned_at_place at extents line = bytes_between (unwrap_or (owned_bytes_start at extents) 0) (unwrap_or (owned_bytes_stop at extents) 0) line
 
-unfoldable pub owned_def : ℕ → ℕ → List Line → List ℕ
-owned_def n at policy =
-    unwrap_or (option_and_then (λ (line : Line). option_map (λ defs. owned at (def_extents defs) line.text) (defs_of line.node)) (slice_get policy n)) []
+unfoldable pub bytes_owned_by_definition : ℕ → ℕ → List Line → List ℕ
+bytes_owned_by_definition n at policy =
+    unwrap_or (option_and_then (λ (line : Line). option_map (λ defs. bytes_owned_at_place at (extents_of_definitions defs) line.text) (definitions_of_alias_line line.node)) (slice_get policy n)) []
 
 -- the lines with another at this place, unless that is past the limit
-abbrev pub with_changed : ℕ → List ℕ → Lines → Result Lines EditFault
-with_changed at line lines = refuse_if (is_too_long line) TooLarge (Ok (replaced at line lines))
+abbrev pub lines_with_one_changed : ℕ → List ℕ → LineTexts → Result LineTexts EditFault
+lines_with_one_changed at line lines = result_unless_refused (is_line_too_long line) TooLarge (Ok (lines_with_one_replaced at line lines))
 
 -- the lines with another at this place, if that reads as it should
-abbrev pub if_spliced : Bool → ℕ → List ℕ → List Line → Result Lines EditFault
-if_spliced reads at line lines = refuse_if (not reads) BadSplice (with_changed at line (texts lines))
+abbrev pub changed_lines_if_spliced : Bool → ℕ → List ℕ → List Line → Result LineTexts EditFault
+changed_lines_if_spliced reads at line lines = result_unless_refused (not reads) BadSplice (lines_with_one_changed at line (texts_of_lines lines))
 
 -- one more put into the line `n`, at a byte
-abbrev pub put_in : Among → ℕ → ℕ → ℕ → List ℕ → Line → List Line → Result Lines EditFault
-put_in among at from n splice line lines =
-    if_spliced (is_one_more among at from (from + length splice) (said (line_with from splice line.text)) (Some line.node))
-    n (line_with from splice line.text) lines
+abbrev pub lines_with_item_put_in : ItemListKind → ℕ → ℕ → ℕ → List ℕ → Line → List Line → Result LineTexts EditFault
+lines_with_item_put_in among at from n splice line lines =
+    changed_lines_if_spliced (has_one_item_more among at from (from + length splice) (reading_of_single_line (line_with_splice from splice line.text)) (Some line.node))
+    n (line_with_splice from splice line.text) lines
 
 -- one taken out of the line `n`, with these bytes
-abbrev pub cut_out : Among → ℕ → ℕ → ℕ → ℕ → Line → List Line → Result Lines EditFault
-cut_out among at from to n line lines =
-    if_spliced (is_one_more among at from to (Some line.node) (said (line_without from to line.text)))
-    n (line_without from to line.text) lines
+abbrev pub lines_with_item_cut_out : ItemListKind → ℕ → ℕ → ℕ → ℕ → Line → List Line → Result LineTexts EditFault
+lines_with_item_cut_out among at from to n line lines =
+    changed_lines_if_spliced (has_one_item_more among at from to (Some line.node) (reading_of_single_line (line_without_bytes from to line.text)))
+    n (line_without_bytes from to line.text) lines
 
 -- DEFINITIONS
 
 -- the lines with a definition more in the line `n`
-unfoldable pub add_def : ℕ → ℕ → List ℕ → List Line → Result Lines EditFault
-add_def n at splice lines =
-    with_defs n lines (λ line defs. place_to_add at (def_extents defs) (λ from. put_in among.Definitions at from n splice line lines))
+unfoldable pub lines_with_definition_added : ℕ → ℕ → List ℕ → List Line → Result LineTexts EditFault
+lines_with_definition_added n at splice lines =
+    result_with_line_definitions n lines (λ line defs. result_at_splice_offset at (extents_of_definitions defs) (λ from. lines_with_item_put_in among.Definitions at from n splice line lines))
 
 -- the lines without a definition of the line `n`
-unfoldable pub drop_def : ℕ → ℕ → List Line → Result Lines EditFault
-drop_def n at lines =
-    with_defs n lines (λ line defs. place_to_drop at (def_extents defs) (λ from to. cut_out among.Definitions at from to n line lines))
+unfoldable pub lines_with_definition_dropped : ℕ → ℕ → List Line → Result LineTexts EditFault
+lines_with_definition_dropped n at lines =
+    result_with_line_definitions n lines (λ line defs. result_at_owned_bytes at (extents_of_definitions defs) (λ from to. lines_with_item_cut_out among.Definitions at from to n line lines))
 
 -- MEMBERS
 
 -- the lines with a member more in the list of the alias that is defined at a place
-unfoldable pub add_member : Place → ℕ → List ℕ → List Line → Result Lines EditFault
-add_member place at splice lines =
-    with_def (Some place) lines (λ place line d.
-    place_to_add at (member_extents d.members) (λ from. put_in (among.Members place.def) at from place.line splice line lines))
+unfoldable pub lines_with_member_added : Place → ℕ → List ℕ → List Line → Result LineTexts EditFault
+lines_with_member_added place at splice lines =
+    result_with_definition_at (Some place) lines (λ place line d.
+    result_at_splice_offset at (extents_of_members d.members) (λ from. lines_with_item_put_in (among.Members place.def) at from place.line splice line lines))
 
 -- the lines without a member of the list of the alias that is defined at a place
-unfoldable pub drop_member : Place → ℕ → List Line → Result Lines EditFault
-drop_member place at lines =
-    with_def (Some place) lines (λ place line d.
-    place_to_drop at (member_extents d.members) (λ from to. cut_out (among.Members place.def) at from to place.line line lines))
+unfoldable pub lines_with_member_dropped : Place → ℕ → List Line → Result LineTexts EditFault
+lines_with_member_dropped place at lines =
+    result_with_definition_at (Some place) lines (λ place line d.
+    result_at_owned_bytes at (extents_of_members d.members) (λ from to. lines_with_item_cut_out (among.Members place.def) at from to place.line line lines))
 
 -- the bytes that a member of the list of the alias at a place owns
-unfoldable pub owned_member : Place → ℕ → List Line → List ℕ
-owned_member place at lines =
+unfoldable pub bytes_owned_by_member : Place → ℕ → List Line → List ℕ
+bytes_owned_by_member place at lines =
     unwrap_or (option_and_then (λ (line : Line). option_and_then (λ defs.
-    option_map (λ (d : Def). owned at (member_extents d.members) line.text) (slice_get defs place.def)) (defs_of line.node))
+    option_map (λ (d : Def). bytes_owned_at_place at (extents_of_members d.members) line.text) (slice_get defs place.def)) (definitions_of_alias_line line.node))
     (slice_get lines place.line)) []

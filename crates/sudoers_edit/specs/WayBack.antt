@@ -1,23 +1,23 @@
 -- Where edits of a policy lead, and where what takes them back leads.
 use Rattle.std.specs.Prelude.{◌≡◌, ℕ, ◌+◌, List, [], ◌∷◌, length, map, Ok}
-use Rattle.sudoers_tree.specs.Load.{Loaded, files_of, load_of}
-use Rattle.sudoers_tree.specs.declared.load.NamedFile.{NamedFile}
-use Rattle.sudoers_edit_script.specs.Script.{AreNumbered}
+use Rattle.sudoers_tree.specs.Load.{LoadedPolicy, named_files_of_policy, policy_or_load_fault}
+use Rattle.sudoers_tree.specs.declared.named_files.NamedFile.{NamedFile}
+use Rattle.sudoers_edit_script.specs.Script.{HaveFittingNumbers}
 use Rattle.sudoers_edit_script.specs.declared.edit.Edit.{Edit}
-use Rattle.sudoers_edit.specs.Editing.{run_all, inv_run}
+use Rattle.sudoers_edit.specs.Editing.{policy_or_first_refusal, inv_run}
 
 -- The edits lead to a policy, and what takes them back leads from there to the policy before them. Its numbers fit the words for them, if
 -- those of the edits do.
-pub record IsTakenBack (edits : List Edit) (policy new : Loaded) : Type 0 where
-  pub loaded : load_of (files_of new) ≡ Ok new
-  pub back : run_all 0 (inv_run edits policy) new ≡ Ok policy
-  pub numbered : AreNumbered edits → AreNumbered (inv_run edits policy)
+pub record HasRestoringInverse (edits : List Edit) (policy new : LoadedPolicy) : Type 0 where
+  pub loaded : policy_or_load_fault (named_files_of_policy new) ≡ Ok new
+  pub back : policy_or_first_refusal 0 (inv_run edits policy) new ≡ Ok policy
+  pub numbered : HaveFittingNumbers edits → HaveFittingNumbers (inv_run edits policy)
 
 -- how many bytes files have together
-abbrev pub bytes_in : List NamedFile → ℕ
-bytes_in [] = 0
-bytes_in (file ∷ files) = length file.bytes + bytes_in files
+abbrev pub byte_count_of_files : List NamedFile → ℕ
+byte_count_of_files [] = 0
+byte_count_of_files (file ∷ files) = length file.bytes + byte_count_of_files files
 
 -- the names of files
-abbrev pub names_in : List NamedFile → List (List ℕ)
-names_in files = map (λ (file : NamedFile). file.name) files
+abbrev pub names_of_named_files : List NamedFile → List (List ℕ)
+names_of_named_files files = map (λ (file : NamedFile). file.name) files

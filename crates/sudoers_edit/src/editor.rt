@@ -1,11 +1,11 @@
 //! The editor: a policy, a journal of its edits, and the edits that were undone.
 ghost use Rattle.std.specs.Prelude.{◌≡◌, ◌⊎◌, ◌<◌, ◌∷◌, [], ◌++◌, length, reverse, Some, None, Ok, Err, IfOk, IfErr, OnOk, OnErr, MatchResult, true, false, List, ℕ, take};
 ghost use Rattle.std.specs.List.{flat_map};
-ghost use Rattle.sudoers_tree.specs.Load.{Loaded, load_of, files_of};
+ghost use Rattle.sudoers_tree.specs.Load.{LoadedPolicy, policy_or_load_fault, named_files_of_policy};
 
+use crate::edit_reversal::{EditReversal, take_back_edit};
+use crate::edits_in_place::make_edit_in_place;
 use crate::fault::EditFault;
-use crate::making::make;
-use crate::way_back::{Back, take_back};
 use std::alloc::{AllocError, Global};
 use std::marker::Model;
 use sudoers_edit_script::{Edit, Edits};
@@ -13,15 +13,15 @@ use sudoers_tree::{Items, LineChange, Policy};
 
 /// An accepted edit, with the edits that take it back.
 #[derive(Debug, Drop)]
-pub struct Entry {
+pub struct JournalEntry {
     pub edit: Edit,
     pub inverse: Edits,
 }
 
 /// An edit of the journal. A prune also has the changes that take it back at once.
 #[derive(Drop)]
-struct Step {
-    entry: Entry,
+struct JournalStep {
+    entry: JournalEntry,
     changes: Option<Items<LineChange>>,
 }
 
@@ -30,18 +30,18 @@ struct Step {
 #[derive(Drop)]
 pub struct Editor {
     policy: Policy,
-    journal: Vec<Step>,
+    journal: Vec<JournalStep>,
     undone: Vec<Edit>,
 }
 
-impl Step {
+impl JournalStep {
     /// Returns the step of an edit, with what takes it back.
-    fn of(edit: Edit, back: Back) -> Step
+    fn from_edit_and_reversal(edit: Edit, back: EditReversal) -> JournalStep
         ensures entry { result.entry ≡ record { edit = edit; inverse = back.inverse } }
         ensures changes { result.changes ≡ back.changes }
     {
-        Step {
-            entry: Entry {
+        JournalStep {
+            entry: JournalEntry {
                 edit,
                 inverse: back.inverse,
             },
@@ -52,23 +52,23 @@ impl Step {
 
 impl Model for Editor {
     ghost use Rattle.std.specs.Prelude.{reverse};
-    ghost use Rattle.sudoers_edit.specs.Editing.{Desk, IsUndoable, IsRedoable};
-    ghost use Rattle.sudoers_edit.specs.internal.Undone.{AreBacks, entries_of};
+    ghost use Rattle.sudoers_edit.specs.Editing.{EditorState, IsUndoableJournal, AreRedoableEdits};
+    ghost use Rattle.sudoers_edit.specs.internal.Undone.{AreJournalReversals, entries_of_steps};
 
-    ghost Value = { Desk };
+    ghost Value = { EditorState };
 
-    ghost view = { λ editor. record { policy = editor.policy; journal = entries_of editor.journal.items; undone = reverse editor.undone.items } };
+    ghost view = { λ editor. record { policy = editor.policy; journal = entries_of_steps editor.journal.items; undone = reverse editor.undone.items } };
 
-    ghost invariant = { λ editor. IsUndoable (reverse (entries_of editor.journal.items)) editor.policy
-        × AreBacks (reverse editor.journal.items) editor.policy
-        × IsRedoable (reverse editor.undone.items) editor.policy };
+    ghost invariant = { λ editor. IsUndoableJournal (reverse (entries_of_steps editor.journal.items)) editor.policy
+        × AreJournalReversals (reverse editor.journal.items) editor.policy
+        × AreRedoableEdits (reverse editor.undone.items) editor.policy };
 }
 
 impl Editor {
-    ghost use Rattle.sudoers_edit.specs.Editing.{Refuses, edits_of, Desk, step, inv, run, run_all, inv_run, first_of, StopsAt};
-    ghost use Rattle.sudoers_edit.specs.Memory.{TellsMemoryAlone};
-    ghost use Rattle.sudoers_edit.specs.Undoing.{TakesLast};
-    ghost use Rattle.sudoers_edit.specs.Redoing.{MakesAgain, undone_behind};
+    ghost use Rattle.sudoers_edit.specs.Editing.{IsRefusalOrNoMemory, edits_of_entries, EditorState, step, inv, run, policy_or_first_refusal, inv_run, initial_policy_of_editor, StopsRunAt};
+    ghost use Rattle.sudoers_edit.specs.Memory.{HasNoInnerMemoryFault};
+    ghost use Rattle.sudoers_edit.specs.Undoing.{UndoesLastEdit};
+    ghost use Rattle.sudoers_edit.specs.Redoing.{RedoesLastUndone, undone_edits_after_edits};
 
     /// Returns an editor of `policy` with an empty journal, and with nothing to make again.
     pub fn new(policy: Policy) -> Editor
@@ -88,8 +88,8 @@ impl Editor {
     /// which the editor began.
     pub fn policy(&self) -> &Policy
         ensures policy { result.now ≡ self.now.policy }
-        ensures forth { run (edits_of self.now.journal) (first_of self.now) ≡ Some result.now }
-        ensures accepted { run_all 0 (edits_of self.now.journal) (first_of self.now) ≡ Ok result.now }
+        ensures forth { run (edits_of_entries self.now.journal) (initial_policy_of_editor self.now) ≡ Some result.now }
+        ensures accepted { policy_or_first_refusal 0 (edits_of_entries self.now.journal) (initial_policy_of_editor self.now) ≡ Ok result.now }
     {
         &self.policy
     }
@@ -122,19 +122,21 @@ impl Editor {
         // That is exactly what leads back to the policy before.
         ensures back { OnOk result (run (inv edit.now self.old.policy) self.new.policy ≡ Some self.old.policy) }
         // It still leads back to the same policy.
-        ensures begun { first_of self.new ≡ first_of self.old }
+        ensures begun { initial_policy_of_editor self.new ≡ initial_policy_of_editor self.old }
         // No edit that was undone before can be made again.
         ensures undone { OnOk result (self.new.undone ≡ []) }
         // A refusal is the definition's, or want of memory. It changes neither policy, journal nor undone edits.
-        ensures refused { IfErr result (λ fault. Refuses fault (step edit.now self.old.policy)) }
+        ensures refused { IfErr result (λ fault. IsRefusalOrNoMemory fault (step edit.now self.old.policy)) }
         ensures unchanged { OnErr result (self.new ≡ self.old) }
         // Want of memory is `NoMemory` alone: no other fault holds it.
-        ensures memory { IfErr result TellsMemoryAlone }
+        ensures memory { IfErr result HasNoInnerMemoryFault }
     {
-        let copy = edit.copied(self.policy.allocator())?;
+        let copy = edit.copy_edit(self.policy.allocator())?;
         self.journal.reserve(1)?;
-        let back = make(&mut self.policy, edit)?;
-        self.journal.push(Step::of(copy, back)).unwrap();
+        let back = make_edit_in_place(&mut self.policy, edit)?;
+        self.journal
+            .push(JournalStep::from_edit_and_reversal(copy, back))
+            .unwrap();
         self.undone.clear();
         Ok(())
     }
@@ -146,20 +148,20 @@ impl Editor {
     /// Want of memory alone; the editor is then as it was.
     pub fn undo(&mut self) -> Result<bool, EditFault>
         // The policy and the journal are those before the last edit of it, which comes first among the undone edits.
-        ensures taken { result ≡ Ok true → TakesLast self.old self.new }
+        ensures taken { result ≡ Ok true → UndoesLastEdit self.old self.new }
         // Nothing is taken back exactly where there is nothing.
         ensures none { result ≡ Ok false → (self.old.journal ≡ []) × (self.new ≡ self.old) }
         ensures empty { self.old.journal ≡ [] → result ≡ Ok false }
         ensures refused { IfErr result (λ fault. fault ≡ EditFault.NoMemory) }
         ensures unchanged { OnErr result (self.new ≡ self.old) }
         // What stands still leads back to the same policy.
-        ensures begun { first_of self.new ≡ first_of self.old }
+        ensures begun { initial_policy_of_editor self.new ≡ initial_policy_of_editor self.old }
     {
         let Some(last) = self.journal.last() else {
             return Ok(false);
         };
         self.undone.reserve(1)?;
-        take_back(&mut self.policy, &last.entry.inverse, &last.changes)?;
+        take_back_edit(&mut self.policy, &last.entry.inverse, &last.changes)?;
         let step = self.journal.pop().unwrap();
         self.undone.push(step.entry.edit).unwrap();
         Ok(true)
@@ -172,24 +174,26 @@ impl Editor {
     /// Want of memory alone; the editor is then as it was.
     pub fn redo(&mut self) -> Result<bool, EditFault>
         // The policy is that of the edit, and the journal grows by it with what takes it back.
-        ensures made { result ≡ Ok true → MakesAgain self.old self.new }
+        ensures made { result ≡ Ok true → RedoesLastUndone self.old self.new }
         // A redo just after an undo gives back the policy, the journal and the undone edits before both.
-        ensures back { (begun : Desk) → TakesLast begun self.old → OnOk result (self.new ≡ begun) }
+        ensures back { (begun : EditorState) → UndoesLastEdit begun self.old → OnOk result (self.new ≡ begun) }
         // Nothing is made exactly where nothing is undone.
         ensures none { result ≡ Ok false → (self.old.undone ≡ []) × (self.new ≡ self.old) }
         ensures empty { self.old.undone ≡ [] → result ≡ Ok false }
         ensures refused { IfErr result (λ fault. fault ≡ EditFault.NoMemory) }
         ensures unchanged { OnErr result (self.new ≡ self.old) }
         // What stands still leads back to the same policy.
-        ensures begun { first_of self.new ≡ first_of self.old }
+        ensures begun { initial_policy_of_editor self.new ≡ initial_policy_of_editor self.old }
     {
         let Some(undone) = self.undone.last() else {
             return Ok(false);
         };
         self.journal.reserve(1)?;
-        let back = make(&mut self.policy, undone)?;
+        let back = make_edit_in_place(&mut self.policy, undone)?;
         let edit = self.undone.pop().unwrap();
-        self.journal.push(Step::of(edit, back)).unwrap();
+        self.journal
+            .push(JournalStep::from_edit_and_reversal(edit, back))
+            .unwrap();
         Ok(true)
     }
 
@@ -202,18 +206,18 @@ impl Editor {
         // Each policy on the way is the definition's: that of the edits made so far.
         ensures policy { MatchResult result (λ _. run edits.now self.old.policy ≡ Some self.new.policy)
             (λ refused. run (take refused.0 edits.now) self.old.policy ≡ Some self.new.policy) }
-        ensures journal { MatchResult result (λ _. edits_of self.new.journal ≡ edits_of self.old.journal ++ edits.now)
-            (λ refused. edits_of self.new.journal ≡ edits_of self.old.journal ++ take refused.0 edits.now) }
+        ensures journal { MatchResult result (λ _. edits_of_entries self.new.journal ≡ edits_of_entries self.old.journal ++ edits.now)
+            (λ refused. edits_of_entries self.new.journal ≡ edits_of_entries self.old.journal ++ take refused.0 edits.now) }
         // It stops exactly where the definition does.
-        ensures accepted { OnOk result (run_all 0 edits.now self.old.policy ≡ Ok self.new.policy) }
-        ensures refused { IfErr result (λ refused. StopsAt refused.0 refused.1 edits.now self.old.policy) }
+        ensures accepted { OnOk result (policy_or_first_refusal 0 edits.now self.old.policy ≡ Ok self.new.policy) }
+        ensures refused { IfErr result (λ refused. StopsRunAt refused.0 refused.1 edits.now self.old.policy) }
         ensures place { IfErr result (λ refused. refused.0 < length edits.now) }
         // Want of memory is `NoMemory` alone: no other fault holds it.
-        ensures memory { IfErr result (λ refused. TellsMemoryAlone refused.1) }
-        ensures begun { first_of self.new ≡ first_of self.old }
+        ensures memory { IfErr result (λ refused. HasNoInnerMemoryFault refused.1) }
+        ensures begun { initial_policy_of_editor self.new ≡ initial_policy_of_editor self.old }
         // After an edit that was made, no edit that was undone before can be made again. If none was made, the undone edits stay.
-        ensures undone { MatchResult result (λ _. self.new.undone ≡ undone_behind edits.now self.old.undone)
-            (λ refused. self.new.undone ≡ undone_behind (take refused.0 edits.now) self.old.undone) }
+        ensures undone { MatchResult result (λ _. self.new.undone ≡ undone_edits_after_edits edits.now self.old.undone)
+            (λ refused. self.new.undone ≡ undone_edits_after_edits (take refused.0 edits.now) self.old.undone) }
     {
         for (place, edit) in edits.iter().enumerate() {
             if let Err(fault) = self.apply(edit) {
@@ -231,33 +235,33 @@ impl Editor {
     pub fn inverse(&self) -> Result<Edits, AllocError>
         // They are exactly the definition's, not just some that restore.
         ensures exact { IfOk result (λ edits. edits
-            ≡ inv_run (edits_of self.now.journal) (first_of self.now)) }
+            ≡ inv_run (edits_of_entries self.now.journal) (initial_policy_of_editor self.now)) }
         // The inverse edits lead back, byte for byte, and none of them is refused.
-        ensures restores { IfOk result (λ edits. run edits self.now.policy ≡ Some (first_of self.now)) }
-        ensures accepted { IfOk result (λ edits. run_all 0 edits self.now.policy ≡ Ok (first_of self.now)) }
+        ensures restores { IfOk result (λ edits. run edits self.now.policy ≡ Some (initial_policy_of_editor self.now)) }
+        ensures accepted { IfOk result (λ edits. policy_or_first_refusal 0 edits self.now.policy ≡ Ok (initial_policy_of_editor self.now)) }
     {
-        inverses_of(self.policy.allocator(), self.journal.as_slice())
+        inverses_of_journal(self.policy.allocator(), self.journal.as_slice())
     }
 }
 
 /// Returns the inverses of the steps `journal`, the last step's first.
-fn inverses_of(alloc: Global, journal: &[Step]) -> Result<Edits, AllocError>
+fn inverses_of_journal(alloc: Global, journal: &[JournalStep]) -> Result<Edits, AllocError>
     ensures { IfOk result (λ edits. edits ≡ flat_map (λ step. step.entry.inverse) (reverse journal.now)) }
 {
     let mut edits = Edits::new(alloc);
     let mut left = journal;
     while let Some((step, before)) = left.split_last() {
-        append_copies(alloc, &mut edits, step.entry.inverse.as_slice())?;
+        append_edit_copies(alloc, &mut edits, step.entry.inverse.as_slice())?;
         left = before;
     }
     Ok(edits)
 }
 
-fn append_copies(alloc: Global, to: &mut Edits, from: &[Edit]) -> Result<(), AllocError>
+fn append_edit_copies(alloc: Global, to: &mut Edits, from: &[Edit]) -> Result<(), AllocError>
     ensures { OnOk result (to.new ≡ to.old ++ from.now) }
 {
     for edit in from {
-        to.push(edit.copied(alloc)?)?;
+        to.push(edit.copy_edit(alloc)?)?;
     }
     Ok(())
 }

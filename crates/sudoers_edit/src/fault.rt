@@ -76,9 +76,9 @@ impl<T: Drop> From<AllocFailed<T>> for EditFault {
 
 impl From<LoadFault> for EditFault {
     ghost use Rattle.std.specs.Prelude.{◌≡◌};
-    ghost use Rattle.sudoers_edit.specs.Landing.{edit_of_load};
+    ghost use Rattle.sudoers_edit.specs.Landing.{edit_fault_of_load_fault};
 
-    ghost from_gives = { λ fault e. e ≡ edit_of_load fault };
+    ghost from_gives = { λ fault e. e ≡ edit_fault_of_load_fault fault };
 
     fn from(fault: LoadFault) -> EditFault {
         match fault {

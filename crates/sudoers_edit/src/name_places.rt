@@ -1,50 +1,51 @@
 //! Where the name of an alias stands in a line.
 ghost use Rattle.std.specs.Prelude.{◌≡◌, ◌++◌, IfOk, OnOk};
 ghost use Rattle.std.specs.List.{flat_map};
-ghost use Rattle.sudoers_line_rows.specs.View.{def_shown, defs_shown, members_shown, node_shown};
-ghost use Rattle.sudoers_edit.specs.Renaming.{start_if, starts_among, starts_in_def, starts_in};
+ghost use Rattle.sudoers_line_rows.specs.View.{alias_definition_of_view, alias_definitions_of_view, members_of_view, node_of_view};
+ghost use Rattle.sudoers_edit.specs.Renaming.{name_offset_of_alias_member, mention_offsets_in_members, name_offsets_in_definition, name_offsets_in_line};
 
 use std::alloc::{AllocError, Global};
 use sudoers_tree::{
-    AliasMember, Def, DefRow, Kind, MemberRow, Node, Rows, alias_members, is_kind, list_aliases,
+    AliasDefinitionRow, AliasMember, Def, Kind, MemberRow, Node, RowsOfTable, find_alias_members,
+    find_aliases_in_list, is_same_kind,
 };
 
 /// Returns the offsets at which `name` stands as the name of an alias of the kind `kind` in a line that says `node`.
-pub fn name_starts(
+pub fn find_alias_name_offsets(
     alloc: Global,
     kind: Kind,
     name: &[u8],
     node: &Node<'_>,
 ) -> Result<Vec<usize>, AllocError>
-    ensures { IfOk result (λ starts. starts.items ≡ starts_in kind name.now (node_shown node.now)) }
+    ensures { IfOk result (λ starts. starts.items ≡ name_offsets_in_line kind name.now (node_of_view node.now)) }
 {
     let mut starts = Vec::new(alloc);
     match *node {
         Node::Alias { kind: other, defs } => {
-            if is_kind(kind, other) {
-                in_defs(alloc, kind, name, &defs, &mut starts)?;
+            if is_same_kind(kind, other) {
+                append_offsets_in_definitions(alloc, kind, name, &defs, &mut starts)?;
             }
             Ok(starts)
         }
         _ => {
-            let aliases = alias_members(alloc, node)?;
-            in_aliases(kind, name, aliases.as_slice(), &mut starts)?;
+            let aliases = find_alias_members(alloc, node)?;
+            append_offsets_in_aliases(kind, name, aliases.as_slice(), &mut starts)?;
             Ok(starts)
         }
     }
 }
 
 /// Adds where those of the aliases stand that have this kind and this name.
-fn in_aliases(
+fn append_offsets_in_aliases(
     kind: Kind,
     name: &[u8],
     aliases: &[AliasMember<'_>],
     starts: &mut Vec<usize>,
 ) -> Result<(), AllocError>
-    ensures { OnOk result (starts.new.items ≡ starts.old.items ++ flat_map (start_if kind name.now) aliases.now) }
+    ensures { OnOk result (starts.new.items ≡ starts.old.items ++ flat_map (name_offset_of_alias_member kind name.now) aliases.now) }
 {
     for alias in aliases {
-        if is_kind(kind, alias.kind) && name == alias.name {
+        if is_same_kind(kind, alias.kind) && name == alias.name {
             starts.push(alias.stop.saturating_sub(name.len()))?;
         }
     }
@@ -52,46 +53,52 @@ fn in_aliases(
 }
 
 /// Adds where the name stands in definitions.
-fn in_defs(
+fn append_offsets_in_definitions(
     alloc: Global,
     kind: Kind,
     name: &[u8],
-    defs: &Rows<'_, DefRow>,
+    defs: &RowsOfTable<'_, AliasDefinitionRow>,
     starts: &mut Vec<usize>,
 ) -> Result<(), AllocError>
-    ensures { OnOk result (starts.new.items ≡ starts.old.items ++ flat_map (starts_in_def name.now) (defs_shown defs.now)) }
+    ensures { OnOk result (starts.new.items ≡ starts.old.items ++ flat_map (name_offsets_in_definition name.now) (alias_definitions_of_view defs.now)) }
 {
     for row in defs.rows {
-        in_def(alloc, kind, name, &defs.tables.def(row), starts)?;
+        append_offsets_in_definition(
+            alloc,
+            kind,
+            name,
+            &defs.tables.alias_definition_of_row(row),
+            starts,
+        )?;
     }
     Ok(())
 }
 
-fn in_def(
+fn append_offsets_in_definition(
     alloc: Global,
     kind: Kind,
     name: &[u8],
     def: &Def<'_>,
     starts: &mut Vec<usize>,
 ) -> Result<(), AllocError>
-    ensures { OnOk result (starts.new.items ≡ starts.old.items ++ starts_in_def name.now (def_shown def.now)) }
+    ensures { OnOk result (starts.new.items ≡ starts.old.items ++ name_offsets_in_definition name.now (alias_definition_of_view def.now)) }
 {
     if name == def.name {
         starts.push(def.start)?;
     }
-    in_list(alloc, kind, name, &def.members, starts)
+    append_offsets_in_members(alloc, kind, name, &def.members, starts)
 }
 
-#[tactic(auto, using(crate::proofs::StartLemmas::picked_list))]
-fn in_list(
+#[tactic(auto, using(crate::proofs::StartLemmas::offsets_of_listed_members_are_mentions))]
+fn append_offsets_in_members(
     alloc: Global,
     kind: Kind,
     name: &[u8],
-    members: &Rows<'_, MemberRow>,
+    members: &RowsOfTable<'_, MemberRow>,
     starts: &mut Vec<usize>,
 ) -> Result<(), AllocError>
-    ensures { OnOk result (starts.new.items ≡ starts.old.items ++ starts_among name.now (members_shown members.now)) }
+    ensures { OnOk result (starts.new.items ≡ starts.old.items ++ mention_offsets_in_members name.now (members_of_view members.now)) }
 {
-    let aliases = list_aliases(alloc, kind, members)?;
-    in_aliases(kind, name, aliases.as_slice(), starts)
+    let aliases = find_aliases_in_list(alloc, kind, members)?;
+    append_offsets_in_aliases(kind, name, aliases.as_slice(), starts)
 }

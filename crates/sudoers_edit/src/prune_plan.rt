@@ -1,87 +1,89 @@
 //! A prune of the files of a policy, as the changes that it makes at once.
 ghost use Rattle.std.specs.Prelude.{◌≡◌, ◌≤◌, [], ◌∷◌, Bool, List, ℕ, length, reverse, slice_get, None, Ok, Some, IfOk, OnOk, MatchResult};
 ghost use Rattle.std.specs.Option.{option_copied, option_or};
-ghost use Rattle.sudoers_line_rows.specs.View.{node_shown};
+ghost use Rattle.sudoers_line_rows.specs.View.{node_of_view};
 ghost use Rattle.sudoers_tree.specs.declared.line_change.LineChange.TheVariants.{Swap};
-ghost use Rattle.sudoers_tree.specs.Files.{lines_of};
+ghost use Rattle.sudoers_tree.specs.Files.{lines_of_numbered_file};
 ghost use Rattle.sudoers_tree.specs.Line.{Line as LineOf};
-ghost use Rattle.sudoers_tree.specs.Load.{Loaded};
-ghost use Rattle.sudoers_tree.specs.Policy.{texts};
-ghost use Rattle.sudoers_tree.specs.Single.{said};
-ghost use Rattle.sudoers_edit.specs.Editing.{Refuses};
-ghost use Rattle.sudoers_edit.specs.SpliceEdits.{cut_out as with_less, with_changed};
-ghost use Rattle.sudoers_edit.specs.internal.Drafts.{AreByFiles, CutsDef, IsDraft, IsReady, MayGo, TakesOut, replaced_by, unless_replaced};
-ghost use Rattle.sudoers_edit.specs.internal.Leading.{Plans};
-ghost use Rattle.sudoers_edit.specs.internal.OneMore.{CutOut};
+ghost use Rattle.sudoers_tree.specs.Load.{LoadedPolicy};
+ghost use Rattle.sudoers_tree.specs.Policy.{texts_of_lines};
+ghost use Rattle.sudoers_tree.specs.Single.{reading_of_single_line};
+ghost use Rattle.sudoers_edit.specs.Editing.{IsRefusalOrNoMemory};
+ghost use Rattle.sudoers_edit.specs.SpliceEdits.{lines_with_item_cut_out as with_less, lines_with_one_changed};
+ghost use Rattle.sudoers_edit.specs.internal.Drafts.{IsFileOrderOfChanges, IsDefinitionCutOutcome, IsResultOfChanges, IsReadyForRemoval, IsAllowedRemoval, IsRemovalOutcome, replacement_text_of_line, changes_without_replacement};
+ghost use Rattle.sudoers_edit.specs.internal.Leading.{IsPlanOutcome};
+ghost use Rattle.sudoers_edit.specs.internal.OneMore.{HasItemCutOut};
 
+use crate::edit_plan::{EditPlan, allocator_of, file_number_of_line_change};
+use crate::extra_item::{ExtraItem, ItemListKind};
 use crate::fault::EditFault;
-use crate::one_more::{Among, OneMore};
-use crate::plan::{Plan, allocator_of, file_of};
-use crate::pruning::{Removal, removals};
-use crate::splice::{line_without, place_to_drop};
+use crate::owned_bytes::{drop_bytes_from_line, find_bytes_to_drop_item};
+use crate::pruning::{PruneRemoval, list_prune_removals};
 use std::alloc::{AllocError, Global};
 use sudoers_edit_script::{Edit, Edits, Text};
 use sudoers_tree::{LineChange, Node, Policy, read_line};
 
 /// Plans a prune: all definitions of aliases that are unused are taken out, one after another, each from what the one before left.
-pub fn pruned(policy: &Policy) -> Result<Plan, EditFault>
-    ensures { Plans Edit.Prune policy.now result }
+pub fn plan_prune(policy: &Policy) -> Result<EditPlan, EditFault>
+    ensures { IsPlanOutcome Edit.Prune policy.now result }
 {
     let alloc = allocator_of(policy);
-    let removals = removals(alloc, policy)?;
+    let removals = list_prune_removals(alloc, policy)?;
     let mut changes = Vec::new(alloc);
     let mut inverse = Vec::new(alloc);
     for removal in removals.as_slice() {
-        let edit = taken_out(policy, &mut changes, *removal)?;
+        let edit = add_removal_changes(policy, &mut changes, *removal)?;
         inverse.push(edit)?;
     }
     changes.reverse();
-    sort_by_files(&mut changes)?;
+    sort_changes_by_file(&mut changes)?;
     inverse.reverse();
-    Ok(Plan {
+    Ok(EditPlan {
         changes,
         inverse: Edits::from_vec(inverse),
     })
 }
 
 /// Puts the changes in the order of their files. Those of each file stay in their order.
-fn sort_by_files(changes: &mut Vec<LineChange>) -> Result<(), AllocError>
-    ensures { OnOk result (AreByFiles changes.old.items changes.new.items) }
+fn sort_changes_by_file(changes: &mut Vec<LineChange>) -> Result<(), AllocError>
+    ensures { OnOk result (IsFileOrderOfChanges changes.old.items changes.new.items) }
 {
-    changes.sort_by_key(|change| file_of(change))?;
+    changes.sort_by_key(|change| file_number_of_line_change(change))?;
     Ok(())
 }
 
 /// Adds to `changes` what takes `removal` out of the files that they make so far. They have the change of the last line first. Returns
 /// the edit that puts it in again.
-fn taken_out(
+fn add_removal_changes(
     policy: &Policy,
     changes: &mut Vec<LineChange>,
-    removal: Removal,
+    removal: PruneRemoval,
 ) -> Result<Edit, EditFault>
-    ensures { (now : Loaded) (below : ℕ → ℕ) (cut : ℕ → ℕ → Bool) → IsDraft policy.now (reverse changes.old.items) now
-        → IsReady policy.now below cut (reverse changes.old.items) → MayGo policy.now removal below cut
-        → TakesOut policy.now removal below now (reverse changes.new.items) result }
+    ensures { (now : LoadedPolicy) (below : ℕ → ℕ) (cut : ℕ → ℕ → Bool) → IsResultOfChanges policy.now (reverse changes.old.items) now
+        → IsReadyForRemoval policy.now below cut (reverse changes.old.items) → IsAllowedRemoval policy.now removal below cut
+        → IsRemovalOutcome policy.now removal below now (reverse changes.new.items) result }
 {
     match removal {
-        Removal::Line { file, at } => line_out(policy, changes, file, at),
-        Removal::Def { file, line, at } => def_out(policy, changes, file, line, at),
+        PruneRemoval::Line { file, at } => add_line_removal_change(policy, changes, file, at),
+        PruneRemoval::Def { file, line, at } => add_definition_removal_change(
+            policy, changes, file, line, at,
+        ),
     }
 }
 
 /// Takes a line out.
-fn line_out(
+fn add_line_removal_change(
     policy: &Policy,
     changes: &mut Vec<LineChange>,
     file: u32,
     at: u32,
 ) -> Result<Edit, EditFault>
-    ensures { (now : Loaded) (below : ℕ → ℕ) (cut : ℕ → ℕ → Bool) → IsDraft policy.now (reverse changes.old.items) now
-        → IsReady policy.now below cut (reverse changes.old.items) → MayGo policy.now (Removal.Line file at) below cut
-        → TakesOut policy.now (Removal.Line file at) below now (reverse changes.new.items) result }
+    ensures { (now : LoadedPolicy) (below : ℕ → ℕ) (cut : ℕ → ℕ → Bool) → IsResultOfChanges policy.now (reverse changes.old.items) now
+        → IsReadyForRemoval policy.now below cut (reverse changes.old.items) → IsAllowedRemoval policy.now (PruneRemoval.Line file at) below cut
+        → IsRemovalOutcome policy.now (PruneRemoval.Line file at) below now (reverse changes.new.items) result }
 {
     let alloc = allocator_of(policy);
-    let Some(line) = text_at(policy, file as usize, at as usize) else {
+    let Some(line) = policy.line(file as usize, at as usize) else {
         return Err(EditFault::NoLine);
     };
     let text = Text::from_slice(alloc, line)?;
@@ -93,26 +95,31 @@ fn line_out(
 }
 
 /// Takes a definition out of a line.
-fn def_out(
+fn add_definition_removal_change(
     policy: &Policy,
     changes: &mut Vec<LineChange>,
     file: u32,
     line: u32,
     at: u32,
 ) -> Result<Edit, EditFault>
-    ensures { (now : Loaded) (below : ℕ → ℕ) (cut : ℕ → ℕ → Bool) → IsDraft policy.now (reverse changes.old.items) now
-        → IsReady policy.now below cut (reverse changes.old.items) → MayGo policy.now (Removal.Def file line at) below cut
-        → TakesOut policy.now (Removal.Def file line at) below now (reverse changes.new.items) result }
+    ensures { (now : LoadedPolicy) (below : ℕ → ℕ) (cut : ℕ → ℕ → Bool) → IsResultOfChanges policy.now (reverse changes.old.items) now
+        → IsReadyForRemoval policy.now below cut (reverse changes.old.items) → IsAllowedRemoval policy.now (PruneRemoval.Def file line at) below cut
+        → IsRemovalOutcome policy.now (PruneRemoval.Def file line at) below now (reverse changes.new.items) result }
 {
     let alloc = policy.allocator();
-    let Some(old) = text_so_far(policy, changes.as_slice(), file as usize, line as usize) else {
+    let Some(old) = text_of_line_after_changes(
+        policy,
+        changes.as_slice(),
+        file as usize,
+        line as usize,
+    ) else {
         return Err(EditFault::NoLine);
     };
-    let (text, splice) = match def_cut(alloc, old, at) {
+    let (text, splice) = match cut_definition_from_line(alloc, old, at) {
         Ok(cut) => cut,
         Err(fault) => return Err(fault),
     };
-    replace_line(changes, file as usize, line as usize, text)?;
+    add_line_replacement(changes, file as usize, line as usize, text)?;
     Ok(Edit::AddDef {
         file,
         line,
@@ -121,38 +128,28 @@ fn def_out(
     })
 }
 
-/// Returns the line `line` of the file `file`.
-fn text_at(policy: &Policy, file: usize, line: usize) -> Option<&[u8]>
-    ensures { option_copied result ≡ slice_get (texts (lines_of policy.now.files file)) line }
-{
-    match policy.line(file, line) {
-        Some(line) => Some(line.text),
-        None => None,
-    }
-}
-
 /// Returns the line `line` of the file `file` as the changes make it so far.
-fn text_so_far<'a>(
+fn text_of_line_after_changes<'a>(
     policy: &'a Policy,
     changes: &'a [LineChange],
     file: usize,
     line: usize,
 ) -> Option<&'a [u8]>
     ensures { option_copied result
-        ≡ option_or (replaced_by file line (reverse changes.now)) (slice_get (texts (lines_of policy.now.files file)) line) }
+        ≡ option_or (replacement_text_of_line file line (reverse changes.now)) (slice_get (texts_of_lines (lines_of_numbered_file policy.now.files file)) line) }
 {
     let Some((last, _)) = changes.split_last() else {
-        return text_at(policy, file, line);
+        return policy.line(file, line);
     };
-    match replaced_text(last, file, line) {
+    match replacement_text_in(last, file, line) {
         Some(text) => Some(text),
-        None => text_at(policy, file, line),
+        None => policy.line(file, line),
     }
 }
 
 /// Returns the text that replaces the line `line` of the file `file`, if the change does that.
-fn replaced_text(change: &LineChange, file: usize, line: usize) -> Option<&[u8]>
-    ensures { option_copied result ≡ replaced_by file line (change.now ∷ []) }
+fn replacement_text_in(change: &LineChange, file: usize, line: usize) -> Option<&[u8]>
+    ensures { option_copied result ≡ replacement_text_of_line file line (change.now ∷ []) }
 {
     match change {
         LineChange::Swap { file: f, at, text } if *f == file && *at == line => {
@@ -163,13 +160,13 @@ fn replaced_text(change: &LineChange, file: usize, line: usize) -> Option<&[u8]>
 }
 
 /// Adds the change that replaces the line `line` of the file `file` by `text`, in the place of the last change if that replaces the line too.
-fn replace_line(
+fn add_line_replacement(
     changes: &mut Vec<LineChange>,
     file: usize,
     line: usize,
     text: Text,
 ) -> Result<(), AllocError>
-    ensures { OnOk result (reverse changes.new.items ≡ Swap file line text ∷ unless_replaced file line (reverse changes.old.items)) }
+    ensures { OnOk result (reverse changes.new.items ≡ Swap file line text ∷ changes_without_replacement file line (reverse changes.old.items)) }
 {
     let is_replaced = match changes.last() {
         Some(LineChange::Swap { file: f, at, .. }) => *f == file && *at == line,
@@ -187,9 +184,9 @@ fn replace_line(
 }
 
 /// Returns the line `text` without the definition at the place `at`, and the bytes that go with that definition.
-fn def_cut(alloc: Global, text: &[u8], at: u32) -> Result<(Text, Text), EditFault>
-    ensures { (n : ℕ) (lines : List LineOf) (line : LineOf) → said line.text ≡ Some line.node → slice_get lines n ≡ Some line → line.text ≡ text.now
-        → CutsDef n at lines line result }
+fn cut_definition_from_line(alloc: Global, text: &[u8], at: u32) -> Result<(Text, Text), EditFault>
+    ensures { (n : ℕ) (lines : List LineOf) (line : LineOf) → reading_of_single_line line.text ≡ Some line.node → slice_get lines n ≡ Some line → line.text ≡ text.now
+        → IsDefinitionCutOutcome n at lines line result }
 {
     let Some(reading) = read_line(alloc, text)? else {
         return Err(EditFault::NoAlias);
@@ -198,11 +195,11 @@ fn def_cut(alloc: Global, text: &[u8], at: u32) -> Result<(Text, Text), EditFaul
     let Node::Alias { defs, .. } = node else {
         return Err(EditFault::NoAlias);
     };
-    let (from, to) = match place_to_drop(&defs, at as usize) {
+    let (from, to) = match find_bytes_to_drop_item(&defs, at as usize) {
         Ok(bytes) => bytes,
         Err(fault) => return Err(fault),
     };
-    let less = match without_def(alloc, at as usize, from, to, text, &node) {
+    let less = match drop_checked_definition(alloc, at as usize, from, to, text, &node) {
         Ok(less) => less,
         Err(fault) => return Err(fault),
     };
@@ -211,7 +208,7 @@ fn def_cut(alloc: Global, text: &[u8], at: u32) -> Result<(Text, Text), EditFaul
 }
 
 /// Returns the line `old`, which says `says`, without the definition at the place `at`, which owns the bytes from `from` up to `to`.
-fn without_def(
+fn drop_checked_definition(
     alloc: Global,
     at: usize,
     from: usize,
@@ -220,17 +217,17 @@ fn without_def(
     says: &Node<'_>,
 ) -> Result<Vec<u8>, EditFault>
     requires { (from ≤ to) × (to ≤ length old.now) }
-    ensures cut { IfOk result (λ text. CutOut Among.Definitions at from to (record { text = old.now; node = node_shown says.now }) text.items) }
+    ensures cut { IfOk result (λ text. HasItemCutOut ItemListKind.Definitions at from to (record { text = old.now; node = node_of_view says.now }) text.items) }
     ensures outcome { (n : ℕ) (lines : List LineOf) → MatchResult result
-        (λ text. with_less Among.Definitions at from to n (record { text = old.now; node = node_shown says.now }) lines ≡ with_changed n text.items (texts lines))
-        (λ fault. Refuses fault (with_less Among.Definitions at from to n (record { text = old.now; node = node_shown says.now }) lines)) }
+        (λ text. with_less ItemListKind.Definitions at from to n (record { text = old.now; node = node_of_view says.now }) lines ≡ lines_with_one_changed n text.items (texts_of_lines lines))
+        (λ fault. IsRefusalOrNoMemory fault (with_less ItemListKind.Definitions at from to n (record { text = old.now; node = node_of_view says.now }) lines)) }
 {
-    let text = line_without(alloc, old, from, to)?;
+    let text = drop_bytes_from_line(alloc, old, from, to)?;
     let Some(new) = read_line(alloc, text.as_slice())? else {
         return Err(EditFault::BadSplice);
     };
-    let one = OneMore { at, from, to };
-    if !one.is_more(Among::Definitions, says, &new.node()) {
+    let one = ExtraItem { at, from, to };
+    if !one.is_only_difference(ItemListKind::Definitions, says, &new.node()) {
         return Err(EditFault::BadSplice);
     }
     Ok(text)

@@ -1,82 +1,99 @@
 //! Members and definitions put in and taken out.
 ghost use Rattle.std.specs.Prelude.{◌≡◌, ◌≤◌, ◌<◌, ◌∷◌, [], length, option_map, slice_get, Some, Result, Ok, Err, List, ℕ, IfErr, IfOk, MatchResult};
-ghost use Rattle.sudoers_text.specs.Ended.{has_unended_inside};
-ghost use Rattle.sudoers_line.specs.Node.{Def as DefOf};
-ghost use Rattle.sudoers_line_rows.specs.View.{def_shown, defs_shown, node_shown};
-ghost use Rattle.sudoers_tree.specs.Changed.{replaced};
-ghost use Rattle.sudoers_tree.specs.Files.{lines_of};
-ghost use Rattle.sudoers_tree.specs.Line.{Line as LineOf, line_shown, lines_shown};
-ghost use Rattle.sudoers_tree.specs.Policy.{texts};
+ghost use Rattle.sudoers_text.specs.Ended.{has_inner_line_without_lf};
+ghost use Rattle.sudoers_grammar.specs.Node.{Def as DefOf};
+ghost use Rattle.sudoers_line_rows.specs.View.{alias_definition_of_view, alias_definitions_of_view, node_of_view};
+ghost use Rattle.sudoers_tree.specs.Changed.{lines_with_one_replaced};
+ghost use Rattle.sudoers_tree.specs.Files.{lines_of_numbered_file};
+ghost use Rattle.sudoers_tree.specs.Line.{Line as LineOf, line_of_view, lines_of_rows};
+ghost use Rattle.sudoers_tree.specs.Policy.{texts_of_lines};
 ghost use Rattle.sudoers_tree.specs.declared.place.Place.{Place as PlaceOf};
-ghost use Rattle.sudoers_edit.specs.Editing.{Refuses, at_alias};
-ghost use Rattle.sudoers_edit.specs.SpliceEdits.{defs_of, with_def, with_defs, cut_out as with_less, put_in as with_more, with_changed};
+ghost use Rattle.sudoers_edit.specs.Editing.{IsRefusalOrNoMemory, policy_with_alias_file_edited};
+ghost use Rattle.sudoers_edit.specs.SpliceEdits.{definitions_of_alias_line, result_with_definition_at, result_with_line_definitions, lines_with_item_cut_out as with_less, lines_with_item_put_in as with_more, lines_with_one_changed};
 ghost use Rattle.sudoers_edit.specs.declared.fault.EditFault.{EditFault as Refusal};
-ghost use Rattle.sudoers_edit.specs.Landing.{Lines};
-ghost use Rattle.sudoers_edit.specs.internal.Leading.{Plans};
-ghost use Rattle.sudoers_edit.specs.internal.Splicing.{IsDefIn, ReplacesIn};
-ghost use Rattle.sudoers_edit.specs.internal.OneMore.{CutOut, PutIn};
-ghost use Rattle.sudoers_edit.specs.internal.LeadingInFile.{texts_of};
+ghost use Rattle.sudoers_edit.specs.Landing.{LineTexts};
+ghost use Rattle.sudoers_edit.specs.internal.Leading.{IsPlanOutcome};
+ghost use Rattle.sudoers_edit.specs.internal.Splicing.{IsAliasDefinedAt, EditReplacesFileLine};
+ghost use Rattle.sudoers_edit.specs.internal.OneMore.{HasItemCutOut, HasItemPutIn};
+ghost use Rattle.sudoers_edit.specs.internal.LeadingInFile.{line_texts_of_file};
 ghost use Rattle.sudoers_edit_script.specs.declared.edit.Edit.{Edit as AnEdit};
 
+use crate::edit_plan::{EditPlan, allocator_of, line_count, plan_swap_change};
+use crate::extra_item::{ExtraItem, ItemListKind};
 use crate::fault::EditFault;
-use crate::one_more::{Among, OneMore};
-use crate::plan::{Plan, allocator_of, line_count, swap};
-use crate::splice::{line_with, line_without, place_to_add, place_to_drop};
+use crate::owned_bytes::{
+    drop_bytes_from_line, find_bytes_to_drop_item, find_offset_to_add_item, insert_splice_into_line,
+};
 use std::alloc::{AllocError, Global};
 use sudoers_edit_script::{Edit, Edits, Text};
 use sudoers_text::{LINE_LIMIT, ends_in_lf};
-use sudoers_tree::{Def, DefRow, FilePlace, Kind, Line, LineRow, Node, Policy, Rows, read_line};
+use sudoers_tree::{
+    AliasDefinitionRow, Def, DefinitionFilePlace, Kind, Line, LineRow, Node, Policy, RowsOfTable,
+    read_line,
+};
 
 /// Plans that the bytes `splice` bring a definition, at the place `at` of the line `line` of the file `file`.
-pub fn def_added(
+pub fn plan_definition_addition(
     policy: &Policy,
     file: u32,
     line: u32,
     at: u32,
     splice: &[u8],
-) -> Result<Plan, EditFault>
-    ensures { Plans (Edit.AddDef file line at splice.now) policy.now result }
+) -> Result<EditPlan, EditFault>
+    ensures { IsPlanOutcome (Edit.AddDef file line at splice.now) policy.now result }
 {
     if file as usize >= policy.files() {
         return Err(EditFault::NoFile);
     }
     let alloc = allocator_of(policy);
-    let lines = policy.file_lines(file as usize);
-    let (old, defs) = match defs_at(&lines, line as usize) {
+    let lines = policy.lines_of_file(file as usize);
+    let (old, defs) = match find_definitions_of_line(&lines, line as usize) {
         Ok(found) => found,
         Err(fault) => return Err(fault),
     };
-    let from = match place_to_add(&defs, at as usize) {
+    let from = match find_offset_to_add_item(&defs, at as usize) {
         Ok(from) => from,
         Err(fault) => return Err(fault),
     };
-    let text = match put_in(alloc, Among::Definitions, at as usize, from, splice, &old) {
+    let text = match add_item_to_line(
+        alloc,
+        ItemListKind::Definitions,
+        at as usize,
+        from,
+        splice,
+        &old,
+    ) {
         Ok(text) => text,
         Err(fault) => return Err(fault),
     };
-    let inverse = Edits::one(alloc, Edit::DropDef { file, line, at })?;
-    line_replaced(policy, file as usize, line as usize, text, inverse)
+    let inverse = Edits::list_of_one_item(alloc, Edit::DropDef { file, line, at })?;
+    plan_line_replacement(policy, file as usize, line as usize, text, inverse)
 }
 
 /// Plans that the definition at the place `at` of the line `line` of the file `file` is taken out.
-pub fn def_dropped(policy: &Policy, file: u32, line: u32, at: u32) -> Result<Plan, EditFault>
-    ensures { Plans (Edit.DropDef file line at) policy.now result }
+pub fn plan_definition_drop(
+    policy: &Policy,
+    file: u32,
+    line: u32,
+    at: u32,
+) -> Result<EditPlan, EditFault>
+    ensures { IsPlanOutcome (Edit.DropDef file line at) policy.now result }
 {
     if file as usize >= policy.files() {
         return Err(EditFault::NoFile);
     }
     let alloc = allocator_of(policy);
-    let lines = policy.file_lines(file as usize);
-    let (old, defs) = match defs_at(&lines, line as usize) {
+    let lines = policy.lines_of_file(file as usize);
+    let (old, defs) = match find_definitions_of_line(&lines, line as usize) {
         Ok(found) => found,
         Err(fault) => return Err(fault),
     };
-    let (from, to) = match place_to_drop(&defs, at as usize) {
+    let (from, to) = match find_bytes_to_drop_item(&defs, at as usize) {
         Ok(bytes) => bytes,
         Err(fault) => return Err(fault),
     };
-    let among = Among::Definitions;
-    let text = match cut_out(alloc, among, at as usize, from, to, old.text, &old.node) {
+    let among = ItemListKind::Definitions;
+    let text = match cut_item_from_line(alloc, among, at as usize, from, to, old.text, &old.node) {
         Ok(text) => text,
         Err(fault) => return Err(fault),
     };
@@ -87,63 +104,68 @@ pub fn def_dropped(policy: &Policy, file: u32, line: u32, at: u32) -> Result<Pla
         at,
         splice,
     };
-    let inverse = Edits::one(alloc, back)?;
-    line_replaced(policy, file as usize, line as usize, text, inverse)
+    let inverse = Edits::list_of_one_item(alloc, back)?;
+    plan_line_replacement(policy, file as usize, line as usize, text, inverse)
 }
 
 /// Plans that the bytes `splice` bring a member, at the place `at` of the list of the alias `name` of the kind `kind`.
-pub fn member_added(
+pub fn plan_member_addition(
     policy: &Policy,
     kind: Kind,
     name: &[u8],
     at: u32,
     splice: &[u8],
-) -> Result<Plan, EditFault>
-    ensures { Plans (Edit.AddMember kind name.now at splice.now) policy.now result }
+) -> Result<EditPlan, EditFault>
+    ensures { IsPlanOutcome (Edit.AddMember kind name.now at splice.now) policy.now result }
 {
     let alloc = allocator_of(policy);
-    let (place, old, def) = match def_at(policy, kind, name) {
+    let (place, old, def) = match find_alias_definition(policy, kind, name) {
         Ok(found) => found,
         Err(fault) => return Err(fault),
     };
-    let from = match place_to_add(&def.members, at as usize) {
+    let from = match find_offset_to_add_item(&def.members, at as usize) {
         Ok(from) => from,
         Err(fault) => return Err(fault),
     };
-    let among = Among::Members { def: place.def };
-    let text = match put_in(alloc, among, at as usize, from, splice, &old) {
+    let among = ItemListKind::Members { def: place.def };
+    let text = match add_item_to_line(alloc, among, at as usize, from, splice, &old) {
         Ok(text) => text,
         Err(fault) => return Err(fault),
     };
     let name = Text::from_slice(alloc, name)?;
-    let inverse = Edits::one(alloc, Edit::DropMember { kind, name, at })?;
-    line_replaced(policy, place.file, place.line, text, inverse)
+    let inverse = Edits::list_of_one_item(alloc, Edit::DropMember { kind, name, at })?;
+    plan_line_replacement(policy, place.file, place.line, text, inverse)
 }
 
 /// Plans that the member at the place `at` of the list of the alias `name` of the kind `kind` is taken out.
-pub fn member_dropped(policy: &Policy, kind: Kind, name: &[u8], at: u32) -> Result<Plan, EditFault>
-    ensures { Plans (Edit.DropMember kind name.now at) policy.now result }
+pub fn plan_member_drop(
+    policy: &Policy,
+    kind: Kind,
+    name: &[u8],
+    at: u32,
+) -> Result<EditPlan, EditFault>
+    ensures { IsPlanOutcome (Edit.DropMember kind name.now at) policy.now result }
 {
     let alloc = allocator_of(policy);
-    let (place, old, def) = match def_at(policy, kind, name) {
+    let (place, old, def) = match find_alias_definition(policy, kind, name) {
         Ok(found) => found,
         Err(fault) => return Err(fault),
     };
-    let (from, to) = match place_to_drop(&def.members, at as usize) {
+    let (from, to) = match find_bytes_to_drop_item(&def.members, at as usize) {
         Ok(bytes) => bytes,
         Err(fault) => return Err(fault),
     };
-    let among = Among::Members { def: place.def };
-    let text = match cut_out(alloc, among, at as usize, from, to, old.text, &old.node) {
+    let among = ItemListKind::Members { def: place.def };
+    let text = match cut_item_from_line(alloc, among, at as usize, from, to, old.text, &old.node) {
         Ok(text) => text,
         Err(fault) => return Err(fault),
     };
-    let inverse = member_again(alloc, kind, name, at, &old.text[from..to])?;
-    line_replaced(policy, place.file, place.line, text, inverse)
+    let inverse = inverse_of_member_drop(alloc, kind, name, at, &old.text[from..to])?;
+    plan_line_replacement(policy, place.file, place.line, text, inverse)
 }
 
 /// Returns the edit that puts a member in again.
-fn member_again(
+fn inverse_of_member_drop(
     alloc: Global,
     kind: Kind,
     name: &[u8],
@@ -160,46 +182,46 @@ fn member_again(
         at,
         splice,
     };
-    Edits::one(alloc, back)
+    Edits::list_of_one_item(alloc, back)
 }
 
 /// Returns where an alias is defined on the walk: its place in a file, its line and its definition.
-fn def_at<'a>(
+fn find_alias_definition<'a>(
     policy: &'a Policy,
     kind: Kind,
     name: &[u8],
-) -> Result<(FilePlace, Line<'a>, Def<'a>), EditFault>
-    ensures found { IfOk result (λ found. IsDefIn kind name.now policy.now found.0 (line_shown found.1) (def_shown found.2)) }
-    ensures refused { IfErr result (λ fault. (next : List LineOf → PlaceOf → LineOf → DefOf → Result Lines Refusal)
-        → at_alias kind name.now policy.now (λ place lines. with_def (Some place) lines (next lines)) ≡ Err fault) }
+) -> Result<(DefinitionFilePlace, Line<'a>, Def<'a>), EditFault>
+    ensures found { IfOk result (λ found. IsAliasDefinedAt kind name.now policy.now found.0 (line_of_view found.1) (alias_definition_of_view found.2)) }
+    ensures refused { IfErr result (λ fault. (next : List LineOf → PlaceOf → LineOf → DefOf → Result LineTexts Refusal)
+        → policy_with_alias_file_edited kind name.now policy.now (λ place lines. result_with_definition_at (Some place) lines (next lines)) ≡ Err fault) }
 {
     let Some(place) = policy.definition(kind, name) else {
         return Err(EditFault::NoAlias);
     };
-    let Some(line) = policy.line(place.file, place.line) else {
+    let Some(line) = policy.parsed_line(place.file, place.line) else {
         return Err(EditFault::NoAlias);
     };
     let Node::Alias { defs, .. } = line.node else {
         return Err(EditFault::NoAlias);
     };
     match defs.rows.get(place.def) {
-        Some(row) => Ok((place, line, defs.tables.def(row))),
+        Some(row) => Ok((place, line, defs.tables.alias_definition_of_row(row))),
         None => Err(EditFault::NoAlias),
     }
 }
 
 /// Returns the line of a number, and its definitions.
-fn defs_at<'a>(
-    lines: &Rows<'a, LineRow>,
+fn find_definitions_of_line<'a>(
+    lines: &RowsOfTable<'a, LineRow>,
     number: usize,
-) -> Result<(Line<'a>, Rows<'a, DefRow>), EditFault>
-    ensures outcome { (next : LineOf → List DefOf → Result Lines Refusal) → MatchResult result
-        (λ found. with_defs number (lines_shown lines.now) next ≡ next (line_shown found.0) (defs_shown found.1))
-        (λ fault. with_defs number (lines_shown lines.now) next ≡ Err fault) }
-    ensures found { IfOk result (λ found. (slice_get (lines_shown lines.now) number ≡ Some (line_shown found.0))
-        × (defs_of (line_shown found.0).node ≡ Some (defs_shown found.1))) }
+) -> Result<(Line<'a>, RowsOfTable<'a, AliasDefinitionRow>), EditFault>
+    ensures outcome { (next : LineOf → List DefOf → Result LineTexts Refusal) → MatchResult result
+        (λ found. result_with_line_definitions number (lines_of_rows lines.now) next ≡ next (line_of_view found.0) (alias_definitions_of_view found.1))
+        (λ fault. result_with_line_definitions number (lines_of_rows lines.now) next ≡ Err fault) }
+    ensures found { IfOk result (λ found. (slice_get (lines_of_rows lines.now) number ≡ Some (line_of_view found.0))
+        × (definitions_of_alias_line (line_of_view found.0).node ≡ Some (alias_definitions_of_view found.1))) }
 {
-    let Some(line) = line_in(lines, number) else {
+    let Some(line) = line_of_rows_at(lines, number) else {
         return Err(EditFault::NoLine);
     };
     match line.node {
@@ -209,38 +231,38 @@ fn defs_at<'a>(
 }
 
 /// Returns the line of a number.
-fn line_in<'a>(lines: &Rows<'a, LineRow>, number: usize) -> Option<Line<'a>>
-    ensures { option_map line_shown result ≡ slice_get (lines_shown lines.now) number }
+fn line_of_rows_at<'a>(lines: &RowsOfTable<'a, LineRow>, number: usize) -> Option<Line<'a>>
+    ensures { option_map line_of_view result ≡ slice_get (lines_of_rows lines.now) number }
 {
     match lines.rows.get(number) {
-        Some(row) => Some(Line::of(lines.tables, row)),
+        Some(row) => Some(Line::from_line_row(lines.tables, row)),
         None => None,
     }
 }
 
 /// Returns the line `old` with one more member or definition at the place `at`. That one owns the bytes `splice`, which are put in at the
 /// offset `from`.
-fn put_in(
+fn add_item_to_line(
     alloc: Global,
-    among: Among,
+    among: ItemListKind,
     at: usize,
     from: usize,
     splice: &[u8],
     old: &Line<'_>,
 ) -> Result<Vec<u8>, EditFault>
-    requires { from ≤ length (line_shown old.now).text }
-    ensures put { IfOk result (λ text. PutIn among at from splice.now (line_shown old.now) text.items) }
+    requires { from ≤ length (line_of_view old.now).text }
+    ensures put { IfOk result (λ text. HasItemPutIn among at from splice.now (line_of_view old.now) text.items) }
     ensures outcome { (n : ℕ) (lines : List LineOf) → MatchResult result
-        (λ text. with_more among at from n splice.now (line_shown old.now) lines ≡ with_changed n text.items (texts lines))
-        (λ fault. Refuses fault (with_more among at from n splice.now (line_shown old.now) lines)) }
+        (λ text. with_more among at from n splice.now (line_of_view old.now) lines ≡ lines_with_one_changed n text.items (texts_of_lines lines))
+        (λ fault. IsRefusalOrNoMemory fault (with_more among at from n splice.now (line_of_view old.now) lines)) }
 {
-    let text = line_with(alloc, old.text, from, splice)?;
+    let text = insert_splice_into_line(alloc, old.text, from, splice)?;
     let Some(new) = read_line(alloc, text.as_slice())? else {
         return Err(EditFault::BadSplice);
     };
     let to = from + splice.len();
-    let one = OneMore { at, from, to };
-    if !one.is_more(among, &new.node(), &old.node) {
+    let one = ExtraItem { at, from, to };
+    if !one.is_only_difference(among, &new.node(), &old.node) {
         return Err(EditFault::BadSplice);
     }
     Ok(text)
@@ -248,9 +270,9 @@ fn put_in(
 
 /// Returns the line `old`, which says `says`, without the member or definition at the place `at`, which owns the bytes from `from` up
 /// to `to`.
-pub fn cut_out(
+pub fn cut_item_from_line(
     alloc: Global,
-    among: Among,
+    among: ItemListKind,
     at: usize,
     from: usize,
     to: usize,
@@ -258,47 +280,47 @@ pub fn cut_out(
     says: &Node<'_>,
 ) -> Result<Vec<u8>, EditFault>
     requires { (from ≤ to) × (to ≤ length old.now) }
-    ensures cut { IfOk result (λ text. CutOut among at from to (record { text = old.now; node = node_shown says.now }) text.items) }
+    ensures cut { IfOk result (λ text. HasItemCutOut among at from to (record { text = old.now; node = node_of_view says.now }) text.items) }
     ensures outcome { (n : ℕ) (lines : List LineOf) → MatchResult result
-        (λ text. with_less among at from to n (record { text = old.now; node = node_shown says.now }) lines ≡ with_changed n text.items (texts lines))
-        (λ fault. Refuses fault (with_less among at from to n (record { text = old.now; node = node_shown says.now }) lines)) }
+        (λ text. with_less among at from to n (record { text = old.now; node = node_of_view says.now }) lines ≡ lines_with_one_changed n text.items (texts_of_lines lines))
+        (λ fault. IsRefusalOrNoMemory fault (with_less among at from to n (record { text = old.now; node = node_of_view says.now }) lines)) }
 {
-    let text = line_without(alloc, old, from, to)?;
+    let text = drop_bytes_from_line(alloc, old, from, to)?;
     let Some(new) = read_line(alloc, text.as_slice())? else {
         return Err(EditFault::BadSplice);
     };
-    let one = OneMore { at, from, to };
-    if !one.is_more(among, says, &new.node()) {
+    let one = ExtraItem { at, from, to };
+    if !one.is_only_difference(among, says, &new.node()) {
         return Err(EditFault::BadSplice);
     }
     Ok(text)
 }
 
 /// Plans that `text`, which reads as it should, stands in the place of the line `at` of the file `file`.
-fn line_replaced(
+fn plan_line_replacement(
     policy: &Policy,
     file: usize,
     at: usize,
     text: Vec<u8>,
     inverse: Edits,
-) -> Result<Plan, EditFault>
-    requires { at < length (lines_of policy.now.files file) }
-    ensures { (edit back : AnEdit) → ReplacesIn edit back inverse policy.now file at text.items → Plans edit policy.now result }
+) -> Result<EditPlan, EditFault>
+    requires { at < length (lines_of_numbered_file policy.now.files file) }
+    ensures { (edit back : AnEdit) → EditReplacesFileLine edit back inverse policy.now file at text.items → IsPlanOutcome edit policy.now result }
 {
     if text.len() > LINE_LIMIT {
         return Err(EditFault::TooLarge);
     }
-    if leaves_open(policy, file, at, text.as_slice()) {
+    if leaves_open_line_after_replace(policy, file, at, text.as_slice()) {
         return Err(EditFault::OpenLine);
     }
     let text = Text::from_vec(text);
-    Ok(swap(allocator_of(policy), file, at, text, inverse)?)
+    Ok(plan_swap_change(allocator_of(policy), file, at, text, inverse)?)
 }
 
 /// Returns whether a line without LF would stand before another once the text stands in the place of a line of a file.
-fn leaves_open(policy: &Policy, file: usize, at: usize, text: &[u8]) -> bool
-    requires { at < length (lines_of policy.now.files file) }
-    ensures { result ≡ has_unended_inside (replaced at text.now (texts_of policy.now file)) }
+fn leaves_open_line_after_replace(policy: &Policy, file: usize, at: usize, text: &[u8]) -> bool
+    requires { at < length (lines_of_numbered_file policy.now.files file) }
+    ensures { result ≡ has_inner_line_without_lf (lines_with_one_replaced at text.now (line_texts_of_file policy.now file)) }
 {
     let count = line_count(policy, file);
     if ends_in_lf(text) {

@@ -4,64 +4,64 @@ use Rattle.std.specs.List.{flat_map}
 use Rattle.std.proofs.lemmas.Grind.{flat_map-append}
 use Rattle.sudoers_text.specs.Ended.{ends_in_lf}
 use Rattle.sudoers_edit_script.specs.Physical.{physical_lines}
-use Rattle.sudoers_edit_script.specs.Script.{payload, payload_line, spell}
-use Rattle.sudoers_edit_script.specs.ScriptReading.{with_text}
-use Rattle.sudoers_edit_script.specs.declared.draft.Draft.{Draft}
-use Rattle.sudoers_edit_script.proofs.PhysicalLemmas.{IsLine, join, lines-one, lines-append, lacks_line, lacks_unended, push_lacks}
-use Rattle.sudoers_edit_script.proofs.LineLemmas.{line_of, spell_texted}
+use Rattle.sudoers_edit_script.specs.Script.{payload_of_text, payload_line_of_text_line, spelling_of_edit}
+use Rattle.sudoers_edit_script.specs.ScriptReading.{edit_completed_with_text}
+use Rattle.sudoers_edit_script.specs.declared.edit_awaiting_text.EditAwaitingText.{EditAwaitingText}
+use Rattle.sudoers_edit_script.proofs.PhysicalLemmas.{IsPhysicalLine, text_of_joined_lines, line_is_its_only_physical_line, ended_text_and_more_have_appended_lines, nonempty_text_without_lf_is_line, text_without_lf_is_unended, line_before_final_lf_has_no_lf}
+use Rattle.sudoers_edit_script.proofs.LineLemmas.{command_line_of_edit, texted_edit_is_command_line_and_payload}
 
 -- the payload of a line with its LF
-pub payload_ended : (t : List ℕ) → IsLine t → ends_in_lf t ≡ true → payload t ≡ 124 ∷ t
-payload_ended [] is h = absurd is
-payload_ended (b ∷ bs) is h =
-    ap (flat_map payload_line) (lines-one (b ∷ bs) is) ∙ append-nil (payload_line (b ∷ bs)) ∙ rw h refl
+pub ended_line_has_bar_line_as_payload : (t : List ℕ) → IsPhysicalLine t → ends_in_lf t ≡ true → payload_of_text t ≡ 124 ∷ t
+ended_line_has_bar_line_as_payload [] is h = absurd is
+ended_line_has_bar_line_as_payload (b ∷ bs) is h =
+    ap (flat_map payload_line_of_text_line) (line_is_its_only_physical_line (b ∷ bs) is) ∙ append-nil (payload_line_of_text_line (b ∷ bs)) ∙ rw h refl
 
 -- the payload of the rest of a text, which may be empty
-pub payload_unended : (t : List ℕ) → IsLine (62 ∷ t ++ 10 ∷ []) → payload t ≡ 62 ∷ t ++ 10 ∷ []
-payload_unended [] is = refl
-payload_unended (b ∷ bs) is =
-    let lacks = push_lacks (62 ∷ b ∷ bs) is in
-    let h : ends_in_lf (b ∷ bs) ≡ false = lacks_unended (b ∷ bs) lacks in
-    ap (flat_map payload_line) (lines-one (b ∷ bs) (lacks_line b bs lacks)) ∙ append-nil (payload_line (b ∷ bs)) ∙ rw h refl
+pub payload_of_unended_line_is_angle_line : (t : List ℕ) → IsPhysicalLine (62 ∷ t ++ 10 ∷ []) → payload_of_text t ≡ 62 ∷ t ++ 10 ∷ []
+payload_of_unended_line_is_angle_line [] is = refl
+payload_of_unended_line_is_angle_line (b ∷ bs) is =
+    let lacks = line_before_final_lf_has_no_lf (62 ∷ b ∷ bs) is in
+    let h : ends_in_lf (b ∷ bs) ≡ false = text_without_lf_is_unended (b ∷ bs) lacks in
+    ap (flat_map payload_line_of_text_line) (line_is_its_only_physical_line (b ∷ bs) (nonempty_text_without_lf_is_line b bs lacks)) ∙ append-nil (payload_line_of_text_line (b ∷ bs)) ∙ rw h refl
 
 -- the payload of a text that is not empty
-payload_some : (t : List ℕ) → (t ≡ [] → ⊥) → payload t ≡ flat_map payload_line (physical_lines t)
-payload_some [] some = absurd (some refl)
-payload_some (b ∷ bs) some = refl
+payload_of_nonempty_text_is_its_lines : (t : List ℕ) → (t ≡ [] → ⊥) → payload_of_text t ≡ flat_map payload_line_of_text_line (physical_lines t)
+payload_of_nonempty_text_is_its_lines [] some = absurd (some refl)
+payload_of_nonempty_text_is_its_lines (b ∷ bs) some = refl
 
 -- more behind a text that ends in LF
-payload-append : (a t : List ℕ) → ends_in_lf a ≡ true → (t ≡ [] → ⊥) → payload (a ++ t) ≡ payload a ++ payload t
-payload-append [] t h some = cc
-payload-append (a ∷ bs) t h some =
-    ap (flat_map payload_line) (lines-append (a ∷ bs) t h)
-    ∙ flat_map-append payload_line (physical_lines (a ∷ bs)) (physical_lines t)
-    ∙ ap (λ (z : List ℕ). payload (a ∷ bs) ++ z) (sym (payload_some t some))
+payload_after_ended_text_is_appended : (a t : List ℕ) → ends_in_lf a ≡ true → (t ≡ [] → ⊥) → payload_of_text (a ++ t) ≡ payload_of_text a ++ payload_of_text t
+payload_after_ended_text_is_appended [] t h some = cc
+payload_after_ended_text_is_appended (a ∷ bs) t h some =
+    ap (flat_map payload_line_of_text_line) (ended_text_and_more_have_appended_lines (a ∷ bs) t h)
+    ∙ flat_map-append payload_line_of_text_line (physical_lines (a ∷ bs)) (physical_lines t)
+    ∙ ap (λ (z : List ℕ). payload_of_text (a ∷ bs) ++ z) (sym (payload_of_nonempty_text_is_its_lines t some))
 
 -- a line behind `|` is one
-pub more_line : (t : List ℕ) → ends_in_lf t ≡ true → IsLine (124 ∷ t) → IsLine t
-more_line [] h is = cc
-more_line (b ∷ bs) h is = is.1
+pub line_after_bar_is_line : (t : List ℕ) → ends_in_lf t ≡ true → IsPhysicalLine (124 ∷ t) → IsPhysicalLine t
+line_after_bar_is_line [] h is = cc
+line_after_bar_is_line (b ∷ bs) h is = is.1
 
 -- a line is not empty
-pub line_some : (t : List ℕ) → IsLine t → t ≡ [] → ⊥
-line_some [] is e = is
-line_some (b ∷ bs) is e = cc
+pub line_is_not_empty : (t : List ℕ) → IsPhysicalLine t → t ≡ [] → ⊥
+line_is_not_empty [] is e = is
+line_is_not_empty (b ∷ bs) is e = cc
 
 -- what ends in LF ends any text in it
-pub ended_append : (a t : List ℕ) → ends_in_lf t ≡ true → ends_in_lf (a ++ t) ≡ true
-ended_append [] t h = h
-ended_append (a ∷ []) [] h = cc
-ended_append (a ∷ []) (b ∷ bs) h = h
-ended_append (a ∷ b ∷ bs) t h = ended_append (b ∷ bs) t h
+pub appended_ended_text_ends_in_lf : (a t : List ℕ) → ends_in_lf t ≡ true → ends_in_lf (a ++ t) ≡ true
+appended_ended_text_ends_in_lf [] t h = h
+appended_ended_text_ends_in_lf (a ∷ []) [] h = cc
+appended_ended_text_ends_in_lf (a ∷ []) (b ∷ bs) h = h
+appended_ended_text_ends_in_lf (a ∷ b ∷ bs) t h = appended_ended_text_ends_in_lf (b ∷ bs) t h
 
 -- the spelling of an open edit whose text grows by a line
-pub grown : (so_far l t : List ℕ) (begun : Draft) (lines : List (List ℕ)) → ends_in_lf so_far ≡ true → (t ≡ [] → ⊥) → l ≡ payload t → spell (with_text begun so_far) ++ (l ++ join lines) ≡ spell (with_text begun (so_far ++ t)) ++ join lines
-grown so_far l t begun lines ended some e =
-    sym (append_assoc (spell (with_text begun so_far)) l (join lines))
-    ∙ ap (λ (z : List ℕ). z ++ join lines) (
-    ap (λ (z : List ℕ). z ++ l) (spell_texted begun so_far)
-    ∙ ap (λ (z : List ℕ). (line_of (with_text begun []) ++ payload so_far) ++ z) e
-    ∙ append_assoc (line_of (with_text begun [])) (payload so_far) (payload t)
-    ∙ ap (λ (z : List ℕ). line_of (with_text begun []) ++ z) (sym (payload-append so_far t ended some))
-    ∙ sym (spell_texted begun (so_far ++ t))
+pub payload_line_extends_spelling_of_open_edit : (so_far l t : List ℕ) (begun : EditAwaitingText) (lines : List (List ℕ)) → ends_in_lf so_far ≡ true → (t ≡ [] → ⊥) → l ≡ payload_of_text t → spelling_of_edit (edit_completed_with_text begun so_far) ++ (l ++ text_of_joined_lines lines) ≡ spelling_of_edit (edit_completed_with_text begun (so_far ++ t)) ++ text_of_joined_lines lines
+payload_line_extends_spelling_of_open_edit so_far l t begun lines ended some e =
+    sym (append_assoc (spelling_of_edit (edit_completed_with_text begun so_far)) l (text_of_joined_lines lines))
+    ∙ ap (λ (z : List ℕ). z ++ text_of_joined_lines lines) (
+    ap (λ (z : List ℕ). z ++ l) (texted_edit_is_command_line_and_payload begun so_far)
+    ∙ ap (λ (z : List ℕ). (command_line_of_edit (edit_completed_with_text begun []) ++ payload_of_text so_far) ++ z) e
+    ∙ append_assoc (command_line_of_edit (edit_completed_with_text begun [])) (payload_of_text so_far) (payload_of_text t)
+    ∙ ap (λ (z : List ℕ). command_line_of_edit (edit_completed_with_text begun []) ++ z) (sym (payload_after_ended_text_is_appended so_far t ended some))
+    ∙ sym (texted_edit_is_command_line_and_payload begun (so_far ++ t))
     )

@@ -2,64 +2,64 @@
 use Rattle.std.proofs.Common.{◌≡◌, ℕ, ◌+◌, List, [], ◌∷◌, ◌++◌, length, refl, sym, ap, ◌∙◌, append_assoc}
 use Rattle.std.specs.Prelude.{Result, Ok, Err, OnOk, IfErr}
 use Rattle.std.proofs.lemmas.List.{length-append}
-use Rattle.sudoers_edit_script.specs.declared.draft.Draft.{Draft}
+use Rattle.sudoers_edit_script.specs.declared.edit_awaiting_text.EditAwaitingText.{EditAwaitingText}
 use Rattle.sudoers_edit_script.specs.declared.edit.Edit.{Edit}
-use Rattle.sudoers_edit_script.specs.declared.script_line.Said.{Said}
-use Rattle.sudoers_edit_script.specs.declared.script_line.Said.TheVariants as says
+use Rattle.sudoers_edit_script.specs.declared.script_line.ParsedScriptLine.{ParsedScriptLine}
+use Rattle.sudoers_edit_script.specs.declared.script_line.ParsedScriptLine.TheVariants as says
 use Rattle.sudoers_edit_script.specs.declared.script.ScriptFault.{ScriptFault}
-use Rattle.sudoers_edit_script.specs.declared.script.Reading.{Reading}
-use Rattle.sudoers_edit_script.specs.ScriptReading.{Rest, before, with_text, command_line, later_line, Tells}
-use Rattle.sudoers_edit_script.specs.internal.ScriptStanding.{behind, next}
+use Rattle.sudoers_edit_script.specs.declared.script.ScriptReader.{ScriptReader}
+use Rattle.sudoers_edit_script.specs.ScriptReading.{ReadingOfRemainingLines, edit_before_result, edit_completed_with_text, result_at_command_line, result_at_later_payload_line, IsFaultOrNoMemory}
+use Rattle.sudoers_edit_script.specs.internal.ScriptStanding.{result_after_edits, result_from_reader_state}
 
 -- an edit more stands behind those so far
-pub behind-before : (edits : List Edit) (edit : Edit) (r : Result (List Edit) ScriptFault) → behind edits (before edit r) ≡ behind (edits ++ edit ∷ []) r
-behind-before edits edit (Ok more) = ap Ok (sym (append_assoc edits (edit ∷ []) more))
-behind-before edits edit (Err fault) = refl
+pub edit_before_result_joins_edits_so_far : (edits : List Edit) (edit : Edit) (r : Result (List Edit) ScriptFault) → result_after_edits edits (edit_before_result edit r) ≡ result_after_edits (edits ++ edit ∷ []) r
+edit_before_result_joins_edits_so_far edits edit (Ok more) = ap Ok (sym (append_assoc edits (edit ∷ []) more))
+edit_before_result_joins_edits_so_far edits edit (Err fault) = refl
 
 -- The line is none of a text.
-pub record IsNoText (said : Said) : Type 0 where
+pub record IsNoPayloadLine (said : ParsedScriptLine) : Type 0 where
   pub more : said ≡ says.More → ⊥
   pub last : said ≡ says.Last → ⊥
   pub unended : said ≡ says.Unended → ⊥
 
 -- it stands behind a text as behind nothing
-pub later_line-command : (rest : Rest) (last line count : ℕ) (begun : Draft) (so_far text : List ℕ) (said : Said) → IsNoText said
-    → later_line rest last line count begun so_far text said ≡ before (with_text begun so_far) (command_line rest last line count said)
-later_line-command rest last line count begun so_far text says.More none = absurd (none.more refl)
-later_line-command rest last line count begun so_far [] says.Last none = absurd (none.last refl)
-later_line-command rest last line count begun so_far (b ∷ text) says.Last none = absurd (none.last refl)
-later_line-command rest last line count begun so_far text says.Unended none = absurd (none.unended refl)
-later_line-command rest last line count begun so_far text (says.Begin other) none = refl
-later_line-command rest last line count begun so_far text (says.Whole edit) none = refl
-later_line-command rest last line count begun so_far text (says.Flawed f) none = refl
-later_line-command rest last line count begun so_far text (says.File file) none = refl
-later_line-command rest last line count begun so_far text says.Other none = refl
+pub command_after_text_completes_open_edit : (rest : ReadingOfRemainingLines) (last line count : ℕ) (begun : EditAwaitingText) (so_far text : List ℕ) (said : ParsedScriptLine) → IsNoPayloadLine said
+    → result_at_later_payload_line rest last line count begun so_far text said ≡ edit_before_result (edit_completed_with_text begun so_far) (result_at_command_line rest last line count said)
+command_after_text_completes_open_edit rest last line count begun so_far text says.More none = absurd (none.more refl)
+command_after_text_completes_open_edit rest last line count begun so_far [] says.Last none = absurd (none.last refl)
+command_after_text_completes_open_edit rest last line count begun so_far (b ∷ text) says.Last none = absurd (none.last refl)
+command_after_text_completes_open_edit rest last line count begun so_far text says.Unended none = absurd (none.unended refl)
+command_after_text_completes_open_edit rest last line count begun so_far text (says.Begin other) none = refl
+command_after_text_completes_open_edit rest last line count begun so_far text (says.Whole edit) none = refl
+command_after_text_completes_open_edit rest last line count begun so_far text (says.Flawed f) none = refl
+command_after_text_completes_open_edit rest last line count begun so_far text (says.File file) none = refl
+command_after_text_completes_open_edit rest last line count begun so_far text says.Other none = refl
 
 -- the same behind the edits so far
-later_step : (rest : Rest) (edits : List Edit) (last line : ℕ) (begun : Draft) (so_far text : List ℕ) (said : Said) → IsNoText said
-    → behind edits (later_line rest last line (length edits + 1) begun so_far text said)
-    ≡ behind (edits ++ with_text begun so_far ∷ []) (command_line rest last line (length (edits ++ with_text begun so_far ∷ [])) said)
-later_step rest edits last line begun so_far text said none =
-    let e : length edits + 1 ≡ length (edits ++ with_text begun so_far ∷ []) = sym (length-append edits (with_text begun so_far ∷ [])) in
-    ap (behind edits) (later_line-command rest last line (length edits + 1) begun so_far text said none)
-    ∙ behind-before edits (with_text begun so_far) (command_line rest last line (length edits + 1) said)
-    ∙ ap (λ (n : ℕ). behind (edits ++ with_text begun so_far ∷ []) (command_line rest last line n said)) e
+command_after_text_adds_open_edit : (rest : ReadingOfRemainingLines) (edits : List Edit) (last line : ℕ) (begun : EditAwaitingText) (so_far text : List ℕ) (said : ParsedScriptLine) → IsNoPayloadLine said
+    → result_after_edits edits (result_at_later_payload_line rest last line (length edits + 1) begun so_far text said)
+    ≡ result_after_edits (edits ++ edit_completed_with_text begun so_far ∷ []) (result_at_command_line rest last line (length (edits ++ edit_completed_with_text begun so_far ∷ [])) said)
+command_after_text_adds_open_edit rest edits last line begun so_far text said none =
+    let e : length edits + 1 ≡ length (edits ++ edit_completed_with_text begun so_far ∷ []) = sym (length-append edits (edit_completed_with_text begun so_far ∷ [])) in
+    ap (result_after_edits edits) (command_after_text_completes_open_edit rest last line (length edits + 1) begun so_far text said none)
+    ∙ edit_before_result_joins_edits_so_far edits (edit_completed_with_text begun so_far) (result_at_command_line rest last line (length edits + 1) said)
+    ∙ ap (λ (n : ℕ). result_after_edits (edits ++ edit_completed_with_text begun so_far ∷ []) (result_at_command_line rest last line n said)) e
 
 -- what taking such a line as a command does
-pub later_ok : (result : Result (Unit {0}) ScriptFault) (edits more : List Edit) (last line : ℕ) (begun : Draft) (so_far text : List ℕ) (said : Said) (new : Reading)
-    → IsNoText said → more ≡ edits ++ with_text begun so_far ∷ []
-    → OnOk result ((rest : Rest) → behind more (command_line rest last line (length more) said) ≡ next rest new)
-    → OnOk result ((rest : Rest) → behind edits (later_line rest last line (length edits + 1) begun so_far text said) ≡ next rest new)
-later_ok (Ok _) edits more last line begun so_far text said new none e h =
-    λ rest. later_step rest edits last line begun so_far text said none
-    ∙ ap (λ (es : List Edit). behind es (command_line rest last line (length es) said)) (sym e) ∙ h rest
-later_ok (Err _) edits more last line begun so_far text said new none e h = h
+pub command_after_text_keeps_reader_state : (result : Result (Unit {0}) ScriptFault) (edits more : List Edit) (last line : ℕ) (begun : EditAwaitingText) (so_far text : List ℕ) (said : ParsedScriptLine) (new : ScriptReader)
+    → IsNoPayloadLine said → more ≡ edits ++ edit_completed_with_text begun so_far ∷ []
+    → OnOk result ((rest : ReadingOfRemainingLines) → result_after_edits more (result_at_command_line rest last line (length more) said) ≡ result_from_reader_state rest new)
+    → OnOk result ((rest : ReadingOfRemainingLines) → result_after_edits edits (result_at_later_payload_line rest last line (length edits + 1) begun so_far text said) ≡ result_from_reader_state rest new)
+command_after_text_keeps_reader_state (Ok _) edits more last line begun so_far text said new none e h =
+    λ rest. command_after_text_adds_open_edit rest edits last line begun so_far text said none
+    ∙ ap (λ (es : List Edit). result_after_edits es (result_at_command_line rest last line (length es) said)) (sym e) ∙ h rest
+command_after_text_keeps_reader_state (Err _) edits more last line begun so_far text said new none e h = h
 
 -- and which fault it tells
-pub later_err : (result : Result (Unit {0}) ScriptFault) (edits more : List Edit) (last line : ℕ) (begun : Draft) (so_far text : List ℕ) (said : Said)
-    → IsNoText said → more ≡ edits ++ with_text begun so_far ∷ []
-    → IfErr result (λ fault. (rest : Rest) → Tells fault (behind more (command_line rest last line (length more) said)))
-    → IfErr result (λ fault. (rest : Rest) → Tells fault (behind edits (later_line rest last line (length edits + 1) begun so_far text said)))
-later_err (Ok _) edits more last line begun so_far text said none e h = h
-later_err (Err fault) edits more last line begun so_far text said none e h =
-    λ rest. rw (later_step rest edits last line begun so_far text said none, ← e) (h rest)
+pub command_after_text_keeps_reported_fault : (result : Result (Unit {0}) ScriptFault) (edits more : List Edit) (last line : ℕ) (begun : EditAwaitingText) (so_far text : List ℕ) (said : ParsedScriptLine)
+    → IsNoPayloadLine said → more ≡ edits ++ edit_completed_with_text begun so_far ∷ []
+    → IfErr result (λ fault. (rest : ReadingOfRemainingLines) → IsFaultOrNoMemory fault (result_after_edits more (result_at_command_line rest last line (length more) said)))
+    → IfErr result (λ fault. (rest : ReadingOfRemainingLines) → IsFaultOrNoMemory fault (result_after_edits edits (result_at_later_payload_line rest last line (length edits + 1) begun so_far text said)))
+command_after_text_keeps_reported_fault (Ok _) edits more last line begun so_far text said none e h = h
+command_after_text_keeps_reported_fault (Err fault) edits more last line begun so_far text said none e h =
+    λ rest. rw (command_after_text_adds_open_edit rest edits last line begun so_far text said none, ← e) (h rest)

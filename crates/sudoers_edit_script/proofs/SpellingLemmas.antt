@@ -4,310 +4,310 @@ use Rattle.std.specs.Prelude.{Result, Ok, Err, nat_le, if◌then◌else◌}
 use Rattle.std.specs.List.{flat_map}
 use Rattle.std.specs.Option.{is_some}
 use Rattle.std.proofs.lemmas.Bool.{true≢false, cases_Bool, lt-leb, or_parts}
-use Rattle.sudoers_text.specs.Ended.{ends_in_lf, has_unended_inside}
+use Rattle.sudoers_text.specs.Ended.{ends_in_lf, has_inner_line_without_lf}
 use Rattle.sudoers_edit_script.specs.Physical.{physical_lines}
-use Rattle.sudoers_edit_script.specs.Script.{payload, payload_line, text_lines, spell, file_in, file_line, set_behind, spelling_since, spelling, IsSpellable, AreSpellable, edit_limit}
-use Rattle.sudoers_edit_script.specs.ScriptReading.{Between, Filed, Begun, Going, Rest, before, with_room, with_text, command_line, filed_line, first_line, later_line, edits_from, sense, text_in, reading}
-use Rattle.sudoers_edit_script.specs.declared.draft.Draft.{Draft}
+use Rattle.sudoers_edit_script.specs.Script.{payload_of_text, payload_line_of_text_line, payload_lines_of_edit, spelling_of_edit, file_named_by_edit, file_setting_line, file_set_after_edit, spelling_with_file_set, spelling_of_edits, IsSpellable, AreSpellable, edit_limit}
+use Rattle.sudoers_edit_script.specs.ScriptReading.{Between, Filed, Begun, Going, ReadingOfRemainingLines, edit_before_result, result_within_edit_limit, edit_completed_with_text, result_at_command_line, result_after_file_line, result_at_first_payload_line, result_at_later_payload_line, edits_from_position, parsed_script_line, text_of_payload_line, edits_spelled_by_text}
+use Rattle.sudoers_edit_script.specs.declared.edit_awaiting_text.EditAwaitingText.{EditAwaitingText}
 use Rattle.sudoers_edit_script.specs.declared.edit.Edit.{Edit}
-use Rattle.sudoers_edit_script.specs.declared.script_line.Said.{Said}
-use Rattle.sudoers_edit_script.specs.declared.script_line.Said.TheVariants as says
+use Rattle.sudoers_edit_script.specs.declared.script_line.ParsedScriptLine.{ParsedScriptLine}
+use Rattle.sudoers_edit_script.specs.declared.script_line.ParsedScriptLine.TheVariants as says
 use Rattle.sudoers_edit_script.specs.declared.script.ScriptFault.{ScriptFault}
 use Rattle.sudoers_edit_script.specs.declared.script.ScriptFault.TheVariants as faults
-use Rattle.sudoers_edit_script.proofs.FileLemmas.{IsSet, sets, set_fits, set_to, lines_spelled_edit}
-use Rattle.sudoers_edit_script.proofs.PhysicalLemmas.{IsLine, AreLines, join, lines-each, unended_lacks}
-use Rattle.sudoers_edit_script.proofs.ReadingLemmas.{IsNoText, later_line-command}
-use Rattle.sudoers_edit_script.proofs.LineLemmas.{line_of, said_of, by_text, texted, sense-command, sense-file, names-command, lines-file, lines-more, sense-more, lines-last, sense-last, text-last}
+use Rattle.sudoers_edit_script.proofs.FileLemmas.{NeedsFileLine, edit_needs_file_line_or_none, file_set_after_edit_fits, file_line_sets_file_of_its_edit, edit_spelling_begins_with_command_line}
+use Rattle.sudoers_edit_script.proofs.PhysicalLemmas.{IsPhysicalLine, ArePhysicalLines, text_of_joined_lines, physical_lines_are_lines_of_text, unended_line_has_no_lf}
+use Rattle.sudoers_edit_script.proofs.ReadingLemmas.{IsNoPayloadLine, command_after_text_completes_open_edit}
+use Rattle.sudoers_edit_script.proofs.LineLemmas.{command_line_of_edit, parsed_line_of_edit, property_of_texted_and_whole_edits_holds, edit_with_text_has_its_command, command_line_of_edit_is_read_back, file_line_is_read_back, command_line_names_file_if_edit_does, file_line_is_first_physical_line, bar_line_is_first_physical_line, bar_line_parses_as_further_payload, angle_line_is_first_physical_line, angle_line_parses_as_last_payload, text_of_angle_line_is_read_back}
 
 -- with room for one command more
-room : (count : ℕ) (r : Result (List Edit) ScriptFault) → count < 65536 → with_room count r ≡ r
-room count r h = let e : nat_le 65536 count ≡ false = lt-leb 65536 count h in rw e refl
+result_below_edit_limit_is_kept : (count : ℕ) (r : Result (List Edit) ScriptFault) → count < 65536 → result_within_edit_limit count r ≡ r
+result_below_edit_limit_is_kept count r h = let e : nat_le 65536 count ≡ false = lt-leb 65536 count h in rw e refl
 
 -- The lines behind give these edits where a command has to come and this file is set.
-abbrev GivesBetween : List ℕ → ℕ → ℕ → List Edit → Type 0
-GivesBetween rest last count edits = (line : ℕ) → edits_from (physical_lines rest) line Between last count ≡ Ok edits
+abbrev ReadsAsEditsBetweenCommands : List ℕ → ℕ → ℕ → List Edit → Type 0
+ReadsAsEditsBetweenCommands rest last count edits = (line : ℕ) → edits_from_position (physical_lines rest) line Between last count ≡ Ok edits
 
 -- The lines behind give these edits behind the text of an edit, whatever it is.
-abbrev GivesGoing : List ℕ → ℕ → ℕ → List Edit → Type 0
-GivesGoing rest last count edits =
-    (line : ℕ) (begun : Draft) (so_far : List ℕ) → edits_from (physical_lines rest) line (Going begun so_far) last count ≡ Ok (with_text begun so_far ∷ edits)
+abbrev ReadsAsEditsAfterPayload : List ℕ → ℕ → ℕ → List Edit → Type 0
+ReadsAsEditsAfterPayload rest last count edits =
+    (line : ℕ) (begun : EditAwaitingText) (so_far : List ℕ) → edits_from_position (physical_lines rest) line (Going begun so_far) last count ≡ Ok (edit_completed_with_text begun so_far ∷ edits)
 
 -- a line that is a command or a `file` line, behind a text
-going_command : (text : List ℕ) (lines : List (List ℕ)) (line last count : ℕ) (begun : Draft) (so_far : List ℕ) (edits : List Edit)
-    → IsNoText (sense last text) → edits_from (text ∷ lines) line Between last count ≡ Ok edits
-    → edits_from (text ∷ lines) line (Going begun so_far) last count ≡ Ok (with_text begun so_far ∷ edits)
-going_command text lines line last count begun so_far edits none e =
-    later_line-command (edits_from lines (line + 1)) last line count begun so_far (text_in (sense last text) text) (sense last text) none
-    ∙ ap (before (with_text begun so_far)) e
+command_line_after_payload_is_read : (text : List ℕ) (lines : List (List ℕ)) (line last count : ℕ) (begun : EditAwaitingText) (so_far : List ℕ) (edits : List Edit)
+    → IsNoPayloadLine (parsed_script_line last text) → edits_from_position (text ∷ lines) line Between last count ≡ Ok edits
+    → edits_from_position (text ∷ lines) line (Going begun so_far) last count ≡ Ok (edit_completed_with_text begun so_far ∷ edits)
+command_line_after_payload_is_read text lines line last count begun so_far edits none e =
+    command_after_text_completes_open_edit (edits_from_position lines (line + 1)) last line count begun so_far (text_of_payload_line (parsed_script_line last text) text) (parsed_script_line last text) none
+    ∙ ap (edit_before_result (edit_completed_with_text begun so_far)) e
 
 -- the command of an edit that wants a text is no line of one
-begin_no_text : (said : Said) (begun : Draft) → said ≡ says.Begin begun → IsNoText said
-begin_no_text said begun e = record { more = λ f. cc; last = λ f. cc; unended = λ f. cc }
+begun_command_is_no_payload_line : (said : ParsedScriptLine) (begun : EditAwaitingText) → said ≡ says.Begin begun → IsNoPayloadLine said
+begun_command_is_no_payload_line said begun e = record { more = λ f. cc; last = λ f. cc; unended = λ f. cc }
 
 -- nor is one that is all of its edit
-whole_no_text : (said : Said) (edit : Edit) → said ≡ says.Whole edit → IsNoText said
-whole_no_text said edit e = record { more = λ f. cc; last = λ f. cc; unended = λ f. cc }
+whole_command_is_no_payload_line : (said : ParsedScriptLine) (edit : Edit) → said ≡ says.Whole edit → IsNoPayloadLine said
+whole_command_is_no_payload_line said edit e = record { more = λ f. cc; last = λ f. cc; unended = λ f. cc }
 
 -- so a command is none
-no_text : (edit : Edit) → IsNoText (said_of edit)
-no_text edit =
-    by_text (λ e. IsNoText (said_of e)) (λ begun text. begin_no_text (said_of (with_text begun text)) begun (texted begun text).said) (λ e said lines. whole_no_text (said_of e) e said) edit
+parsed_command_is_no_payload_line : (edit : Edit) → IsNoPayloadLine (parsed_line_of_edit edit)
+parsed_command_is_no_payload_line edit =
+    property_of_texted_and_whole_edits_holds (λ e. IsNoPayloadLine (parsed_line_of_edit e)) (λ begun text. begun_command_is_no_payload_line (parsed_line_of_edit (edit_completed_with_text begun text)) begun (edit_with_text_has_its_command begun text).said) (λ e said lines. whole_command_is_no_payload_line (parsed_line_of_edit e) e said) edit
 
 -- nor is a `file` line
-file_no_text : (said : Said) (file : Option ℕ) → said ≡ says.File file → IsNoText said
-file_no_text said file e = record { more = λ f. cc; last = λ f. cc; unended = λ f. cc }
+parsed_file_line_is_no_payload_line : (said : ParsedScriptLine) (file : Option ℕ) → said ≡ says.File file → IsNoPayloadLine said
+parsed_file_line_is_no_payload_line said file e = record { more = λ f. cc; last = λ f. cc; unended = λ f. cc }
 
 -- The first line of a spelling, which is none of a text, and the lines behind it.
-pub record IsBegun (last : ℕ) (text : List ℕ) : Type 0 where
+pub record BeginsWithNonpayloadLine (last : ℕ) (text : List ℕ) : Type 0 where
   pub line : List ℕ
   pub more : List (List ℕ)
   pub lines : physical_lines text ≡ line ∷ more
-  pub none : IsNoText (sense last line)
+  pub none : IsNoPayloadLine (parsed_script_line last line)
 
 -- the lines of a spelling that begins with a `file` line
-lines_set : (file : ℕ) (edit : Edit) (rest : List ℕ) → file + 1 ≤ 2 ^ 32 → IsSpellable edit
-    → physical_lines (file_line file ++ (spell edit ++ rest)) ≡ file_line file ∷ line_of edit ∷ physical_lines (text_lines edit ++ rest)
-lines_set file edit rest fits h =
-    lines-file file (spell edit ++ rest) fits ∙ ap (λ (ls : List (List ℕ)). file_line file ∷ ls) (lines_spelled_edit edit rest h)
+file_line_and_command_are_first_lines : (file : ℕ) (edit : Edit) (rest : List ℕ) → file + 1 ≤ 2 ^ 32 → IsSpellable edit
+    → physical_lines (file_setting_line file ++ (spelling_of_edit edit ++ rest)) ≡ file_setting_line file ∷ command_line_of_edit edit ∷ physical_lines (payload_lines_of_edit edit ++ rest)
+file_line_and_command_are_first_lines file edit rest fits h =
+    file_line_is_first_physical_line file (spelling_of_edit edit ++ rest) fits ∙ ap (λ (ls : List (List ℕ)). file_setting_line file ∷ ls) (edit_spelling_begins_with_command_line edit rest h)
 
 -- a file that a `file` line sets has a number that fits
-pub to_fits : (last : ℕ) (edit : Edit) (s : IsSet last (file_in edit)) → last + 1 ≤ 2 ^ 32 → IsSpellable edit → s.to + 1 ≤ 2 ^ 32
-to_fits last edit s fits h = subst (λ (f : ℕ). f + 1 ≤ 2 ^ 32) (set_to last edit s) (set_fits last edit fits h.0)
+pub file_set_by_file_line_fits : (last : ℕ) (edit : Edit) (s : NeedsFileLine last (file_named_by_edit edit)) → last + 1 ≤ 2 ^ 32 → IsSpellable edit → s.to + 1 ≤ 2 ^ 32
+file_set_by_file_line_fits last edit s fits h = subst (λ (f : ℕ). f + 1 ≤ 2 ^ 32) (file_line_sets_file_of_its_edit last edit s) (file_set_after_edit_fits last edit fits h.0)
 
 -- a spelling begins with such a line
-pub spelling_begun : (last : ℕ) (edit : Edit) (edits : List Edit) → last + 1 ≤ 2 ^ 32 → IsSpellable edit → IsBegun last (spelling_since last (edit ∷ edits))
-spelling_begun last edit edits fits h =
-    let rest : List ℕ = spelling_since (set_behind last edit) edits in
-    elim (sets last (file_in edit)) [
+pub spelling_begins_with_nonpayload_line : (last : ℕ) (edit : Edit) (edits : List Edit) → last + 1 ≤ 2 ^ 32 → IsSpellable edit → BeginsWithNonpayloadLine last (spelling_with_file_set last (edit ∷ edits))
+spelling_begins_with_nonpayload_line last edit edits fits h =
+    let rest : List ℕ = spelling_with_file_set (file_set_after_edit last edit) edits in
+    elim (edit_needs_file_line_or_none last (file_named_by_edit edit)) [
       | inl u ↦ record {
-        line = line_of edit;
-        more = physical_lines (text_lines edit ++ rest);
-        lines = ap (λ (z : List ℕ). physical_lines (z ++ (spell edit ++ rest))) u.none ∙ lines_spelled_edit edit rest h;
-        none = subst IsNoText (sym (sense-command last edit h)
-            ∙ ap (λ (f : ℕ). sense f (line_of edit)) u.same) (no_text edit);
+        line = command_line_of_edit edit;
+        more = physical_lines (payload_lines_of_edit edit ++ rest);
+        lines = ap (λ (z : List ℕ). physical_lines (z ++ (spelling_of_edit edit ++ rest))) u.none ∙ edit_spelling_begins_with_command_line edit rest h;
+        none = subst IsNoPayloadLine (sym (command_line_of_edit_is_read_back last edit h)
+            ∙ ap (λ (f : ℕ). parsed_script_line f (command_line_of_edit edit)) u.same) (parsed_command_is_no_payload_line edit);
       }
       | inr s ↦ record {
-        line = file_line s.to;
-        more = line_of edit ∷ physical_lines (text_lines edit ++ rest);
-        lines = ap (λ (z : List ℕ). physical_lines (z ++ (spell edit ++ rest))) s.line ∙ lines_set s.to edit rest (to_fits last edit s fits h) h;
-        none = file_no_text (sense last (file_line s.to)) (Some s.to) (sense-file last s.to (to_fits last edit s fits h));
+        line = file_setting_line s.to;
+        more = command_line_of_edit edit ∷ physical_lines (payload_lines_of_edit edit ++ rest);
+        lines = ap (λ (z : List ℕ). physical_lines (z ++ (spelling_of_edit edit ++ rest))) s.line ∙ file_line_and_command_are_first_lines s.to edit rest (file_set_by_file_line_fits last edit s fits h) h;
+        none = parsed_file_line_is_no_payload_line (parsed_script_line last (file_setting_line s.to)) (Some s.to) (file_line_is_read_back last s.to (file_set_by_file_line_fits last edit s fits h));
       }
     ]
 
 -- a spelling that gives its edits where a command has to come gives them behind a text too
-gives_going : (edits : List Edit) (last count : ℕ) → last + 1 ≤ 2 ^ 32 → AreSpellable edits → GivesBetween (spelling_since last edits) last count edits
-    → GivesGoing (spelling_since last edits) last count edits
-gives_going [] last count fits n h = λ line begun so_far. refl
-gives_going (edit ∷ edits) last count fits n h =
+spelling_read_between_is_read_after_payload : (edits : List Edit) (last count : ℕ) → last + 1 ≤ 2 ^ 32 → AreSpellable edits → ReadsAsEditsBetweenCommands (spelling_with_file_set last edits) last count edits
+    → ReadsAsEditsAfterPayload (spelling_with_file_set last edits) last count edits
+spelling_read_between_is_read_after_payload [] last count fits n h = λ line begun so_far. refl
+spelling_read_between_is_read_after_payload (edit ∷ edits) last count fits n h =
     λ line begun so_far.
-    let b = spelling_begun last edit edits fits n.0 in
-    ap (λ (ls : List (List ℕ)). edits_from ls line (Going begun so_far) last count) b.lines
-    ∙ going_command b.line b.more line last count begun so_far (edit ∷ edits) b.none
-    (sym (ap (λ (ls : List (List ℕ)). edits_from ls line Between last count) b.lines) ∙ h line)
+    let b = spelling_begins_with_nonpayload_line last edit edits fits n.0 in
+    ap (λ (ls : List (List ℕ)). edits_from_position ls line (Going begun so_far) last count) b.lines
+    ∙ command_line_after_payload_is_read b.line b.more line last count begun so_far (edit ∷ edits) b.none
+    (sym (ap (λ (ls : List (List ℕ)). edits_from_position ls line Between last count) b.lines) ∙ h line)
 
 -- behind a `file` line the line of an edit in its file is read with that file set
-read_set : (edit : Edit) (last : ℕ) (s : IsSet last (file_in edit)) (ls : List (List ℕ)) (line count : ℕ) → s.to + 1 ≤ 2 ^ 32 → IsSpellable edit
-    → edits_from (file_line s.to ∷ line_of edit ∷ ls) line Between last count ≡ edits_from (line_of edit ∷ ls) (line + 1) Between s.to count
-read_set edit last s ls line count fits h =
-    let rest : Rest = edits_from (line_of edit ∷ ls) (line + 1) in
-    let gives : ℕ → Result (List Edit) ScriptFault = λ f. command_line (edits_from ls (line + 1 + 1)) f (line + 1) count (sense f (line_of edit)) in
-    ap (command_line rest last line count) (sense-file last s.to fits)
+edit_after_file_line_is_read : (edit : Edit) (last : ℕ) (s : NeedsFileLine last (file_named_by_edit edit)) (ls : List (List ℕ)) (line count : ℕ) → s.to + 1 ≤ 2 ^ 32 → IsSpellable edit
+    → edits_from_position (file_setting_line s.to ∷ command_line_of_edit edit ∷ ls) line Between last count ≡ edits_from_position (command_line_of_edit edit ∷ ls) (line + 1) Between s.to count
+edit_after_file_line_is_read edit last s ls line count fits h =
+    let rest : ReadingOfRemainingLines = edits_from_position (command_line_of_edit edit ∷ ls) (line + 1) in
+    let gives : ℕ → Result (List Edit) ScriptFault = λ f. result_at_command_line (edits_from_position ls (line + 1 + 1)) f (line + 1) count (parsed_script_line f (command_line_of_edit edit)) in
+    ap (result_at_command_line rest last line count) (file_line_is_read_back last s.to fits)
     ∙ ap (λ (b : Bool). if b then Err (faults.BadWord line) else rest (Filed (Some s.to) line) last count) s.other
-    ∙ ap (filed_line gives line (Some s.to)) (names-command edit h ∙ ap is_some s.is)
+    ∙ ap (result_after_file_line gives line (Some s.to)) (command_line_names_file_if_edit_does edit h ∙ ap is_some s.is)
 
 -- PAYLOADS
 
 -- a line with its LF in a payload
-ended_payload : (k : List ℕ) → ends_in_lf k ≡ true → payload_line k ≡ 124 ∷ k
-ended_payload k h = rw h refl
+ended_line_has_bar_payload_line : (k : List ℕ) → ends_in_lf k ≡ true → payload_line_of_text_line k ≡ 124 ∷ k
+ended_line_has_bar_payload_line k h = rw h refl
 
 -- a line without LF in a payload
-unended_payload : (k : List ℕ) → ends_in_lf k ≡ false → payload_line k ≡ 62 ∷ k ++ 10 ∷ []
-unended_payload k h = rw h refl
+unended_line_has_angle_payload_line : (k : List ℕ) → ends_in_lf k ≡ false → payload_line_of_text_line k ≡ 62 ∷ k ++ 10 ∷ []
+unended_line_has_angle_payload_line k h = rw h refl
 
 -- a line with its LF, and more behind
-lines_payload_more : (k : List ℕ) (ks : List (List ℕ)) (rest : List ℕ) → IsLine k → ends_in_lf k ≡ true → physical_lines (flat_map payload_line (k ∷ ks) ++ rest) ≡ (124 ∷ k) ∷ physical_lines (flat_map payload_line ks ++ rest)
-lines_payload_more k ks rest is ended =
-    ap (λ (z : List ℕ). physical_lines ((z ++ flat_map payload_line ks) ++ rest)) (ended_payload k ended)
-    ∙ ap physical_lines (append_assoc (124 ∷ k) (flat_map payload_line ks) rest)
-    ∙ lines-more k (flat_map payload_line ks ++ rest) is ended
+ended_payload_begins_with_bar_line : (k : List ℕ) (ks : List (List ℕ)) (rest : List ℕ) → IsPhysicalLine k → ends_in_lf k ≡ true → physical_lines (flat_map payload_line_of_text_line (k ∷ ks) ++ rest) ≡ (124 ∷ k) ∷ physical_lines (flat_map payload_line_of_text_line ks ++ rest)
+ended_payload_begins_with_bar_line k ks rest is ended =
+    ap (λ (z : List ℕ). physical_lines ((z ++ flat_map payload_line_of_text_line ks) ++ rest)) (ended_line_has_bar_payload_line k ended)
+    ∙ ap physical_lines (append_assoc (124 ∷ k) (flat_map payload_line_of_text_line ks) rest)
+    ∙ bar_line_is_first_physical_line k (flat_map payload_line_of_text_line ks ++ rest) is ended
 
 -- the last line, without LF
-lines_payload_last : (k rest : List ℕ) → IsLine k → ends_in_lf k ≡ false → physical_lines (flat_map payload_line (k ∷ []) ++ rest) ≡ (62 ∷ k ++ 10 ∷ []) ∷ physical_lines rest
-lines_payload_last k rest is unended =
-    ap (λ (z : List ℕ). physical_lines (z ++ rest)) (append-nil (payload_line k) ∙ unended_payload k unended)
-    ∙ lines-last k rest (unended_lacks k is unended)
+unended_payload_begins_with_angle_line : (k rest : List ℕ) → IsPhysicalLine k → ends_in_lf k ≡ false → physical_lines (flat_map payload_line_of_text_line (k ∷ []) ++ rest) ≡ (62 ∷ k ++ 10 ∷ []) ∷ physical_lines rest
+unended_payload_begins_with_angle_line k rest is unended =
+    ap (λ (z : List ℕ). physical_lines (z ++ rest)) (append-nil (payload_line_of_text_line k) ∙ unended_line_has_angle_payload_line k unended)
+    ∙ angle_line_is_first_physical_line k rest (unended_line_has_no_lf k is unended)
 
 -- a line with LF grows a text
-later_more : (rest : Rest) (last line count : ℕ) (begun : Draft) (so_far k : List ℕ) (said : Said) → said ≡ says.More
-    → later_line rest last line count begun so_far (text_in said (124 ∷ k)) said ≡ rest (Going begun (so_far ++ k)) last count
-later_more rest last line count begun so_far k said e = rw e refl
+later_bar_line_extends_open_text : (rest : ReadingOfRemainingLines) (last line count : ℕ) (begun : EditAwaitingText) (so_far k : List ℕ) (said : ParsedScriptLine) → said ≡ says.More
+    → result_at_later_payload_line rest last line count begun so_far (text_of_payload_line said (124 ∷ k)) said ≡ rest (Going begun (so_far ++ k)) last count
+later_bar_line_extends_open_text rest last line count begun so_far k said e = rw e refl
 
 -- a line with LF begins a text
-first_more : (rest : Rest) (last line count : ℕ) (begun : Draft) (at : ℕ) (k : List ℕ) (said : Said) → said ≡ says.More
-    → first_line rest last line count begun at (text_in said (124 ∷ k)) said ≡ rest (Going begun k) last count
-first_more rest last line count begun at k said e = rw e refl
+first_bar_line_begins_open_text : (rest : ReadingOfRemainingLines) (last line count : ℕ) (begun : EditAwaitingText) (at : ℕ) (k : List ℕ) (said : ParsedScriptLine) → said ≡ says.More
+    → result_at_first_payload_line rest last line count begun at (text_of_payload_line said (124 ∷ k)) said ≡ rest (Going begun k) last count
+first_bar_line_begins_open_text rest last line count begun at k said e = rw e refl
 
 -- a line without LF ends a text
-later_last_some : (rest : Rest) (last line count : ℕ) (begun : Draft) (so_far k : List ℕ) → IsLine k
-    → later_line rest last line count begun so_far k says.Last ≡ before (with_text begun (so_far ++ k)) (rest Between last count)
-later_last_some rest last line count begun so_far [] is = absurd is
-later_last_some rest last line count begun so_far (b ∷ bs) is = refl
+nonempty_last_line_completes_open_edit : (rest : ReadingOfRemainingLines) (last line count : ℕ) (begun : EditAwaitingText) (so_far k : List ℕ) → IsPhysicalLine k
+    → result_at_later_payload_line rest last line count begun so_far k says.Last ≡ edit_before_result (edit_completed_with_text begun (so_far ++ k)) (rest Between last count)
+nonempty_last_line_completes_open_edit rest last line count begun so_far [] is = absurd is
+nonempty_last_line_completes_open_edit rest last line count begun so_far (b ∷ bs) is = refl
 
 -- so it does as it is spelled
-later_last : (rest : Rest) (last line count : ℕ) (begun : Draft) (so_far k : List ℕ) → IsLine k
-    → later_line rest last line count begun so_far (text_in (sense last (62 ∷ k ++ 10 ∷ [])) (62 ∷ k ++ 10 ∷ [])) (sense last (62 ∷ k ++ 10 ∷ [])) ≡ before (with_text begun (so_far ++ k)) (rest Between last count)
-later_last rest last line count begun so_far k is =
-    ap (λ (s : Said). later_line rest last line count begun so_far (text_in s (62 ∷ k ++ 10 ∷ [])) s) (sense-last last k)
-    ∙ ap (λ (t : List ℕ). later_line rest last line count begun so_far t says.Last) (text-last k)
-    ∙ later_last_some rest last line count begun so_far k is
+later_angle_line_completes_open_edit : (rest : ReadingOfRemainingLines) (last line count : ℕ) (begun : EditAwaitingText) (so_far k : List ℕ) → IsPhysicalLine k
+    → result_at_later_payload_line rest last line count begun so_far (text_of_payload_line (parsed_script_line last (62 ∷ k ++ 10 ∷ [])) (62 ∷ k ++ 10 ∷ [])) (parsed_script_line last (62 ∷ k ++ 10 ∷ [])) ≡ edit_before_result (edit_completed_with_text begun (so_far ++ k)) (rest Between last count)
+later_angle_line_completes_open_edit rest last line count begun so_far k is =
+    ap (λ (s : ParsedScriptLine). result_at_later_payload_line rest last line count begun so_far (text_of_payload_line s (62 ∷ k ++ 10 ∷ [])) s) (angle_line_parses_as_last_payload last k)
+    ∙ ap (λ (t : List ℕ). result_at_later_payload_line rest last line count begun so_far t says.Last) (text_of_angle_line_is_read_back k)
+    ∙ nonempty_last_line_completes_open_edit rest last line count begun so_far k is
 
 -- a line without LF alone is a text
-first_last : (rest : Rest) (last line count : ℕ) (begun : Draft) (at : ℕ) (k : List ℕ)
-    → first_line rest last line count begun at (text_in (sense last (62 ∷ k ++ 10 ∷ [])) (62 ∷ k ++ 10 ∷ [])) (sense last (62 ∷ k ++ 10 ∷ [])) ≡ before (with_text begun k) (rest Between last count)
-first_last rest last line count begun at k =
-    ap (λ (s : Said). first_line rest last line count begun at (text_in s (62 ∷ k ++ 10 ∷ [])) s) (sense-last last k)
-    ∙ ap (λ (t : List ℕ). first_line rest last line count begun at t says.Last) (text-last k)
+first_angle_line_completes_open_edit : (rest : ReadingOfRemainingLines) (last line count : ℕ) (begun : EditAwaitingText) (at : ℕ) (k : List ℕ)
+    → result_at_first_payload_line rest last line count begun at (text_of_payload_line (parsed_script_line last (62 ∷ k ++ 10 ∷ [])) (62 ∷ k ++ 10 ∷ [])) (parsed_script_line last (62 ∷ k ++ 10 ∷ [])) ≡ edit_before_result (edit_completed_with_text begun k) (rest Between last count)
+first_angle_line_completes_open_edit rest last line count begun at k =
+    ap (λ (s : ParsedScriptLine). result_at_first_payload_line rest last line count begun at (text_of_payload_line s (62 ∷ k ++ 10 ∷ [])) s) (angle_line_parses_as_last_payload last k)
+    ∙ ap (λ (t : List ℕ). result_at_first_payload_line rest last line count begun at t says.Last) (text_of_angle_line_is_read_back k)
 
 -- a line without LF is the last
-unended_alone : (k next : List ℕ) (ks : List (List ℕ)) → ends_in_lf k ≡ false → has_unended_inside (k ∷ next ∷ ks) ≡ false → ⊥
-unended_alone k next ks u h = let p : true ≡ false = rw u at h in true≢false p
+unended_line_has_no_line_after_it : (k next : List ℕ) (ks : List (List ℕ)) → ends_in_lf k ≡ false → has_inner_line_without_lf (k ∷ next ∷ ks) ≡ false → ⊥
+unended_line_has_no_line_after_it k next ks u h = let p : true ≡ false = rw u at h in true≢false p
 
 -- more lines of a text, behind these
-read_more : (ks : List (List ℕ)) (rest : List ℕ) (last count : ℕ) (edits : List Edit) → AreLines ks → has_unended_inside ks ≡ false
-    → GivesBetween rest last count edits → GivesGoing rest last count edits → (line : ℕ) (begun : Draft) (so_far : List ℕ)
-    → edits_from (physical_lines (flat_map payload_line ks ++ rest)) line (Going begun so_far) last count ≡ Ok (with_text begun (so_far ++ join ks) ∷ edits)
-read_more [] rest last count edits each ended between going line begun so_far =
-    going line begun so_far ∙ ap (λ (t : List ℕ). Ok (with_text begun t ∷ edits)) (sym (append-nil so_far))
-read_more (k ∷ []) rest last count edits each ended between going line begun so_far =
+later_payload_lines_are_read_back : (ks : List (List ℕ)) (rest : List ℕ) (last count : ℕ) (edits : List Edit) → ArePhysicalLines ks → has_inner_line_without_lf ks ≡ false
+    → ReadsAsEditsBetweenCommands rest last count edits → ReadsAsEditsAfterPayload rest last count edits → (line : ℕ) (begun : EditAwaitingText) (so_far : List ℕ)
+    → edits_from_position (physical_lines (flat_map payload_line_of_text_line ks ++ rest)) line (Going begun so_far) last count ≡ Ok (edit_completed_with_text begun (so_far ++ text_of_joined_lines ks) ∷ edits)
+later_payload_lines_are_read_back [] rest last count edits each ended between going line begun so_far =
+    going line begun so_far ∙ ap (λ (t : List ℕ). Ok (edit_completed_with_text begun t ∷ edits)) (sym (append-nil so_far))
+later_payload_lines_are_read_back (k ∷ []) rest last count edits each ended between going line begun so_far =
     elim (cases_Bool (ends_in_lf k)) [
       | inl t ↦
-          ap (λ (ls : List (List ℕ)). edits_from ls line (Going begun so_far) last count) (lines_payload_more k [] rest each.0 t)
-          ∙ later_more (edits_from (physical_lines rest) (line + 1)) last line count begun so_far k (sense last (124 ∷ k)) (sense-more last k t)
+          ap (λ (ls : List (List ℕ)). edits_from_position ls line (Going begun so_far) last count) (ended_payload_begins_with_bar_line k [] rest each.0 t)
+          ∙ later_bar_line_extends_open_text (edits_from_position (physical_lines rest) (line + 1)) last line count begun so_far k (parsed_script_line last (124 ∷ k)) (bar_line_parses_as_further_payload last k t)
           ∙ going (line + 1) begun (so_far ++ k)
-          ∙ ap (λ (t : List ℕ). Ok (with_text begun (so_far ++ t) ∷ edits)) (sym (append-nil k))
+          ∙ ap (λ (t : List ℕ). Ok (edit_completed_with_text begun (so_far ++ t) ∷ edits)) (sym (append-nil k))
       | inr f ↦
-          ap (λ (ls : List (List ℕ)). edits_from ls line (Going begun so_far) last count) (lines_payload_last k rest each.0 f)
-          ∙ later_last (edits_from (physical_lines rest) (line + 1)) last line count begun so_far k each.0
-          ∙ ap (before (with_text begun (so_far ++ k))) (between (line + 1))
-          ∙ ap (λ (t : List ℕ). Ok (with_text begun (so_far ++ t) ∷ edits)) (sym (append-nil k))
+          ap (λ (ls : List (List ℕ)). edits_from_position ls line (Going begun so_far) last count) (unended_payload_begins_with_angle_line k rest each.0 f)
+          ∙ later_angle_line_completes_open_edit (edits_from_position (physical_lines rest) (line + 1)) last line count begun so_far k each.0
+          ∙ ap (edit_before_result (edit_completed_with_text begun (so_far ++ k))) (between (line + 1))
+          ∙ ap (λ (t : List ℕ). Ok (edit_completed_with_text begun (so_far ++ t) ∷ edits)) (sym (append-nil k))
     ]
-read_more (k ∷ next ∷ ks) rest last count edits each ended between going line begun so_far =
+later_payload_lines_are_read_back (k ∷ next ∷ ks) rest last count edits each ended between going line begun so_far =
     elim (cases_Bool (ends_in_lf k)) [
       | inl t ↦
-          ap (λ (ls : List (List ℕ)). edits_from ls line (Going begun so_far) last count) (lines_payload_more k (next ∷ ks) rest each.0 t)
-          ∙ later_more (edits_from (physical_lines (flat_map payload_line (next ∷ ks) ++ rest)) (line + 1)) last line count begun so_far k (sense last (124 ∷ k)) (sense-more last k t)
-          ∙ read_more (next ∷ ks) rest last count edits each.1 (or_parts (not (ends_in_lf k)) (has_unended_inside (next ∷ ks)) ended).1 between going (line + 1) begun (so_far ++ k)
-          ∙ ap (λ (t : List ℕ). Ok (with_text begun t ∷ edits)) (append_assoc so_far k (join (next ∷ ks)))
-      | inr f ↦ absurd (unended_alone k next ks f ended)
+          ap (λ (ls : List (List ℕ)). edits_from_position ls line (Going begun so_far) last count) (ended_payload_begins_with_bar_line k (next ∷ ks) rest each.0 t)
+          ∙ later_bar_line_extends_open_text (edits_from_position (physical_lines (flat_map payload_line_of_text_line (next ∷ ks) ++ rest)) (line + 1)) last line count begun so_far k (parsed_script_line last (124 ∷ k)) (bar_line_parses_as_further_payload last k t)
+          ∙ later_payload_lines_are_read_back (next ∷ ks) rest last count edits each.1 (or_parts (not (ends_in_lf k)) (has_inner_line_without_lf (next ∷ ks)) ended).1 between going (line + 1) begun (so_far ++ k)
+          ∙ ap (λ (t : List ℕ). Ok (edit_completed_with_text begun t ∷ edits)) (append_assoc so_far k (text_of_joined_lines (next ∷ ks)))
+      | inr f ↦ absurd (unended_line_has_no_line_after_it k next ks f ended)
     ]
 
 -- the lines of a text, right behind its command
-read_first : (ks : List (List ℕ)) (rest : List ℕ) (last count : ℕ) (edits : List Edit) → AreLines ks → (ks ≡ [] → ⊥) → has_unended_inside ks ≡ false
-    → GivesBetween rest last count edits → GivesGoing rest last count edits → (line : ℕ) (begun : Draft) (at : ℕ)
-    → edits_from (physical_lines (flat_map payload_line ks ++ rest)) line (Begun begun at) last count ≡ Ok (with_text begun (join ks) ∷ edits)
-read_first [] rest last count edits each some ended between going line begun at = absurd (some refl)
-read_first (k ∷ []) rest last count edits each some ended between going line begun at =
+first_payload_lines_are_read_back : (ks : List (List ℕ)) (rest : List ℕ) (last count : ℕ) (edits : List Edit) → ArePhysicalLines ks → (ks ≡ [] → ⊥) → has_inner_line_without_lf ks ≡ false
+    → ReadsAsEditsBetweenCommands rest last count edits → ReadsAsEditsAfterPayload rest last count edits → (line : ℕ) (begun : EditAwaitingText) (at : ℕ)
+    → edits_from_position (physical_lines (flat_map payload_line_of_text_line ks ++ rest)) line (Begun begun at) last count ≡ Ok (edit_completed_with_text begun (text_of_joined_lines ks) ∷ edits)
+first_payload_lines_are_read_back [] rest last count edits each some ended between going line begun at = absurd (some refl)
+first_payload_lines_are_read_back (k ∷ []) rest last count edits each some ended between going line begun at =
     elim (cases_Bool (ends_in_lf k)) [
       | inl t ↦
-          ap (λ (ls : List (List ℕ)). edits_from ls line (Begun begun at) last count) (lines_payload_more k [] rest each.0 t)
-          ∙ first_more (edits_from (physical_lines rest) (line + 1)) last line count begun at k (sense last (124 ∷ k)) (sense-more last k t)
+          ap (λ (ls : List (List ℕ)). edits_from_position ls line (Begun begun at) last count) (ended_payload_begins_with_bar_line k [] rest each.0 t)
+          ∙ first_bar_line_begins_open_text (edits_from_position (physical_lines rest) (line + 1)) last line count begun at k (parsed_script_line last (124 ∷ k)) (bar_line_parses_as_further_payload last k t)
           ∙ going (line + 1) begun k
-          ∙ ap (λ (t : List ℕ). Ok (with_text begun t ∷ edits)) (sym (append-nil k))
+          ∙ ap (λ (t : List ℕ). Ok (edit_completed_with_text begun t ∷ edits)) (sym (append-nil k))
       | inr f ↦
-          ap (λ (ls : List (List ℕ)). edits_from ls line (Begun begun at) last count) (lines_payload_last k rest each.0 f)
-          ∙ first_last (edits_from (physical_lines rest) (line + 1)) last line count begun at k
-          ∙ ap (before (with_text begun k)) (between (line + 1))
-          ∙ ap (λ (t : List ℕ). Ok (with_text begun t ∷ edits)) (sym (append-nil k))
+          ap (λ (ls : List (List ℕ)). edits_from_position ls line (Begun begun at) last count) (unended_payload_begins_with_angle_line k rest each.0 f)
+          ∙ first_angle_line_completes_open_edit (edits_from_position (physical_lines rest) (line + 1)) last line count begun at k
+          ∙ ap (edit_before_result (edit_completed_with_text begun k)) (between (line + 1))
+          ∙ ap (λ (t : List ℕ). Ok (edit_completed_with_text begun t ∷ edits)) (sym (append-nil k))
     ]
-read_first (k ∷ next ∷ ks) rest last count edits each some ended between going line begun at =
+first_payload_lines_are_read_back (k ∷ next ∷ ks) rest last count edits each some ended between going line begun at =
     elim (cases_Bool (ends_in_lf k)) [
       | inl t ↦
-          ap (λ (ls : List (List ℕ)). edits_from ls line (Begun begun at) last count) (lines_payload_more k (next ∷ ks) rest each.0 t)
-          ∙ first_more (edits_from (physical_lines (flat_map payload_line (next ∷ ks) ++ rest)) (line + 1)) last line count begun at k (sense last (124 ∷ k)) (sense-more last k t)
-          ∙ read_more (next ∷ ks) rest last count edits each.1 (or_parts (not (ends_in_lf k)) (has_unended_inside (next ∷ ks)) ended).1 between going (line + 1) begun k
-      | inr f ↦ absurd (unended_alone k next ks f ended)
+          ap (λ (ls : List (List ℕ)). edits_from_position ls line (Begun begun at) last count) (ended_payload_begins_with_bar_line k (next ∷ ks) rest each.0 t)
+          ∙ first_bar_line_begins_open_text (edits_from_position (physical_lines (flat_map payload_line_of_text_line (next ∷ ks) ++ rest)) (line + 1)) last line count begun at k (parsed_script_line last (124 ∷ k)) (bar_line_parses_as_further_payload last k t)
+          ∙ later_payload_lines_are_read_back (next ∷ ks) rest last count edits each.1 (or_parts (not (ends_in_lf k)) (has_inner_line_without_lf (next ∷ ks)) ended).1 between going (line + 1) begun k
+      | inr f ↦ absurd (unended_line_has_no_line_after_it k next ks f ended)
     ]
 
 -- a payload is read as its text
-read_payload : (text rest : List ℕ) (last count : ℕ) (edits : List Edit) → GivesBetween rest last count edits → GivesGoing rest last count edits
-    → (line : ℕ) (begun : Draft) (at : ℕ)
-    → edits_from (physical_lines (payload text ++ rest)) line (Begun begun at) last count ≡ Ok (with_text begun text ∷ edits)
-read_payload [] rest last count edits between going line begun at =
-    ap (λ (ls : List (List ℕ)). edits_from ls line (Begun begun at) last count) (lines-last [] rest refl)
-    ∙ first_last (edits_from (physical_lines rest) (line + 1)) last line count begun at []
-    ∙ ap (before (with_text begun [])) (between (line + 1))
-read_payload (b ∷ bs) rest last count edits between going line begun at =
-    let p = lines-each (b ∷ bs) in
-    let some : physical_lines (b ∷ bs) ≡ [] → ⊥ = λ e. (let same : [] ≡ b ∷ bs = sym (ap join e) ∙ p.2 in cc) in
-    read_first (physical_lines (b ∷ bs)) rest last count edits p.0 some p.1 between going line begun at
-    ∙ ap (λ (t : List ℕ). Ok (with_text begun t ∷ edits)) p.2
+payload_is_read_back : (text rest : List ℕ) (last count : ℕ) (edits : List Edit) → ReadsAsEditsBetweenCommands rest last count edits → ReadsAsEditsAfterPayload rest last count edits
+    → (line : ℕ) (begun : EditAwaitingText) (at : ℕ)
+    → edits_from_position (physical_lines (payload_of_text text ++ rest)) line (Begun begun at) last count ≡ Ok (edit_completed_with_text begun text ∷ edits)
+payload_is_read_back [] rest last count edits between going line begun at =
+    ap (λ (ls : List (List ℕ)). edits_from_position ls line (Begun begun at) last count) (angle_line_is_first_physical_line [] rest refl)
+    ∙ first_angle_line_completes_open_edit (edits_from_position (physical_lines rest) (line + 1)) last line count begun at []
+    ∙ ap (edit_before_result (edit_completed_with_text begun [])) (between (line + 1))
+payload_is_read_back (b ∷ bs) rest last count edits between going line begun at =
+    let p = physical_lines_are_lines_of_text (b ∷ bs) in
+    let some : physical_lines (b ∷ bs) ≡ [] → ⊥ = λ e. (let same : [] ≡ b ∷ bs = sym (ap text_of_joined_lines e) ∙ p.2 in cc) in
+    first_payload_lines_are_read_back (physical_lines (b ∷ bs)) rest last count edits p.0 some p.1 between going line begun at
+    ∙ ap (λ (t : List ℕ). Ok (edit_completed_with_text begun t ∷ edits)) p.2
 
 -- An edit, where its file is set, and the lines behind it are read, with room for it.
-abbrev IsEditRead : ℕ → ℕ → List Edit → Edit → Type 0
-IsEditRead last count edits edit =
-    IsSpellable edit → (rest : List ℕ) → GivesBetween rest (set_behind last edit) (count + 1) edits → GivesGoing rest (set_behind last edit) (count + 1) edits
-    → GivesBetween (spell edit ++ rest) (set_behind last edit) count (edit ∷ edits)
+abbrev IsEditReadBackInItsFile : ℕ → ℕ → List Edit → Edit → Type 0
+IsEditReadBackInItsFile last count edits edit =
+    IsSpellable edit → (rest : List ℕ) → ReadsAsEditsBetweenCommands rest (file_set_after_edit last edit) (count + 1) edits → ReadsAsEditsAfterPayload rest (file_set_after_edit last edit) (count + 1) edits
+    → ReadsAsEditsBetweenCommands (spelling_of_edit edit ++ rest) (file_set_after_edit last edit) count (edit ∷ edits)
 
 -- an edit with a text is read
-read_texted : (last count : ℕ) (edits : List Edit) → count < 65536 → (begun : Draft) (text : List ℕ) → IsEditRead last count edits (with_text begun text)
-read_texted last count edits fits begun text n rest between going line =
-    let edit : Edit = with_text begun text in
-    let t = texted begun text in
-    let file : ℕ = set_behind last edit in
-    let lines : Rest = edits_from (physical_lines (payload text ++ rest)) (line + 1) in
-    ap (λ (ls : List (List ℕ)). edits_from ls line Between file count) (lines_spelled_edit edit rest n)
-    ∙ ap (λ (z : List ℕ). command_line (edits_from (physical_lines (z ++ rest)) (line + 1)) file line count (sense file (line_of edit))) t.lines
-    ∙ ap (command_line lines file line count) (sense-command last edit n ∙ t.said)
-    ∙ room count (lines (Begun begun line) file (count + 1)) fits
-    ∙ read_payload text rest file (count + 1) edits between going (line + 1) begun line
+edit_with_text_is_read_back : (last count : ℕ) (edits : List Edit) → count < 65536 → (begun : EditAwaitingText) (text : List ℕ) → IsEditReadBackInItsFile last count edits (edit_completed_with_text begun text)
+edit_with_text_is_read_back last count edits fits begun text n rest between going line =
+    let edit : Edit = edit_completed_with_text begun text in
+    let t = edit_with_text_has_its_command begun text in
+    let file : ℕ = file_set_after_edit last edit in
+    let lines : ReadingOfRemainingLines = edits_from_position (physical_lines (payload_of_text text ++ rest)) (line + 1) in
+    ap (λ (ls : List (List ℕ)). edits_from_position ls line Between file count) (edit_spelling_begins_with_command_line edit rest n)
+    ∙ ap (λ (z : List ℕ). result_at_command_line (edits_from_position (physical_lines (z ++ rest)) (line + 1)) file line count (parsed_script_line file (command_line_of_edit edit))) t.lines
+    ∙ ap (result_at_command_line lines file line count) (command_line_of_edit_is_read_back last edit n ∙ t.said)
+    ∙ result_below_edit_limit_is_kept count (lines (Begun begun line) file (count + 1)) fits
+    ∙ payload_is_read_back text rest file (count + 1) edits between going (line + 1) begun line
 
 -- so is one whose command is all of it
-read_whole : (last count : ℕ) (edits : List Edit) → count < 65536 → (edit : Edit) → said_of edit ≡ says.Whole edit → text_lines edit ≡ []
-    → IsEditRead last count edits edit
-read_whole last count edits fits edit said none n rest between going line =
-    let file : ℕ = set_behind last edit in
-    let lines : Rest = edits_from (physical_lines rest) (line + 1) in
-    ap (λ (ls : List (List ℕ)). edits_from ls line Between file count) (lines_spelled_edit edit rest n)
-    ∙ ap (λ (z : List ℕ). command_line (edits_from (physical_lines (z ++ rest)) (line + 1)) file line count (sense file (line_of edit))) none
-    ∙ ap (command_line lines file line count) (sense-command last edit n ∙ said)
-    ∙ room count (before edit (lines Between file (count + 1))) fits
-    ∙ ap (before edit) (between (line + 1))
+edit_without_text_is_read_back : (last count : ℕ) (edits : List Edit) → count < 65536 → (edit : Edit) → parsed_line_of_edit edit ≡ says.Whole edit → payload_lines_of_edit edit ≡ []
+    → IsEditReadBackInItsFile last count edits edit
+edit_without_text_is_read_back last count edits fits edit said none n rest between going line =
+    let file : ℕ = file_set_after_edit last edit in
+    let lines : ReadingOfRemainingLines = edits_from_position (physical_lines rest) (line + 1) in
+    ap (λ (ls : List (List ℕ)). edits_from_position ls line Between file count) (edit_spelling_begins_with_command_line edit rest n)
+    ∙ ap (λ (z : List ℕ). result_at_command_line (edits_from_position (physical_lines (z ++ rest)) (line + 1)) file line count (parsed_script_line file (command_line_of_edit edit))) none
+    ∙ ap (result_at_command_line lines file line count) (command_line_of_edit_is_read_back last edit n ∙ said)
+    ∙ result_below_edit_limit_is_kept count (edit_before_result edit (lines Between file (count + 1))) fits
+    ∙ ap (edit_before_result edit) (between (line + 1))
 
 -- so each is
-read_edit : (last count : ℕ) (edits : List Edit) → count < 65536 → (edit : Edit) → IsEditRead last count edits edit
-read_edit last count edits fits edit =
-    by_text (IsEditRead last count edits) (read_texted last count edits fits) (read_whole last count edits fits) edit
+edit_is_read_back_in_its_file : (last count : ℕ) (edits : List Edit) → count < 65536 → (edit : Edit) → IsEditReadBackInItsFile last count edits edit
+edit_is_read_back_in_its_file last count edits fits edit =
+    property_of_texted_and_whole_edits_holds (IsEditReadBackInItsFile last count edits) (edit_with_text_is_read_back last count edits fits) (edit_without_text_is_read_back last count edits fits) edit
 
 -- and so it is where its file is not set
-read_since : (last count : ℕ) (edit : Edit) (edits : List Edit) → last + 1 ≤ 2 ^ 32 → IsSpellable edit
-    → GivesBetween (spell edit ++ spelling_since (set_behind last edit) edits) (set_behind last edit) count (edit ∷ edits)
-    → GivesBetween (spelling_since last (edit ∷ edits)) last count (edit ∷ edits)
-read_since last count edit edits fits n gives line =
-    let rest : List ℕ = spelling_since (set_behind last edit) edits in
-    elim (sets last (file_in edit)) [
+edit_with_file_line_is_read_back : (last count : ℕ) (edit : Edit) (edits : List Edit) → last + 1 ≤ 2 ^ 32 → IsSpellable edit
+    → ReadsAsEditsBetweenCommands (spelling_of_edit edit ++ spelling_with_file_set (file_set_after_edit last edit) edits) (file_set_after_edit last edit) count (edit ∷ edits)
+    → ReadsAsEditsBetweenCommands (spelling_with_file_set last (edit ∷ edits)) last count (edit ∷ edits)
+edit_with_file_line_is_read_back last count edit edits fits n gives line =
+    let rest : List ℕ = spelling_with_file_set (file_set_after_edit last edit) edits in
+    elim (edit_needs_file_line_or_none last (file_named_by_edit edit)) [
       | inl u ↦
-          ap (λ (z : List ℕ). edits_from (physical_lines (z ++ (spell edit ++ rest))) line Between last count) u.none
-          ∙ subst (λ (f : ℕ). edits_from (physical_lines (spell edit ++ rest)) line Between f count ≡ Ok (edit ∷ edits)) u.same (gives line)
+          ap (λ (z : List ℕ). edits_from_position (physical_lines (z ++ (spelling_of_edit edit ++ rest))) line Between last count) u.none
+          ∙ subst (λ (f : ℕ). edits_from_position (physical_lines (spelling_of_edit edit ++ rest)) line Between f count ≡ Ok (edit ∷ edits)) u.same (gives line)
       | inr s ↦
-          ap (λ (z : List ℕ). edits_from (physical_lines (z ++ (spell edit ++ rest))) line Between last count) s.line
-          ∙ ap (λ (ls : List (List ℕ)). edits_from ls line Between last count) (lines_set s.to edit rest (to_fits last edit s fits n) n)
-          ∙ read_set edit last s (physical_lines (text_lines edit ++ rest)) line count (to_fits last edit s fits n) n
-          ∙ sym (ap (λ (ls : List (List ℕ)). edits_from ls (line + 1) Between s.to count) (lines_spelled_edit edit rest n))
-          ∙ subst (λ (f : ℕ). edits_from (physical_lines (spell edit ++ rest)) (line + 1) Between f count ≡ Ok (edit ∷ edits)) (set_to last edit s) (gives (line + 1))
+          ap (λ (z : List ℕ). edits_from_position (physical_lines (z ++ (spelling_of_edit edit ++ rest))) line Between last count) s.line
+          ∙ ap (λ (ls : List (List ℕ)). edits_from_position ls line Between last count) (file_line_and_command_are_first_lines s.to edit rest (file_set_by_file_line_fits last edit s fits n) n)
+          ∙ edit_after_file_line_is_read edit last s (physical_lines (payload_lines_of_edit edit ++ rest)) line count (file_set_by_file_line_fits last edit s fits n) n
+          ∙ sym (ap (λ (ls : List (List ℕ)). edits_from_position ls (line + 1) Between s.to count) (edit_spelling_begins_with_command_line edit rest n))
+          ∙ subst (λ (f : ℕ). edits_from_position (physical_lines (spelling_of_edit edit ++ rest)) (line + 1) Between f count ≡ Ok (edit ∷ edits)) (file_line_sets_file_of_its_edit last edit s) (gives (line + 1))
     ]
 
 -- a spelling is read, with room for it
-read_spelled : (edits : List Edit) → AreSpellable edits → (last count : ℕ) → last + 1 ≤ 2 ^ 32 → length edits + count ≤ 65536
-    → GivesBetween (spelling_since last edits) last count edits
-read_spelled [] n last count set fits = λ line. refl
-read_spelled (edit ∷ edits) n last count set fits =
-    let file : ℕ = set_behind last edit in
-    let set_file : file + 1 ≤ 2 ^ 32 = set_fits last edit set n.0.0 in
-    let behind : GivesBetween (spelling_since file edits) file (count + 1) edits = read_spelled edits n.1 file (count + 1) set_file (omega (arith, fits)) in
-    read_since last count edit edits set n.0
-    (read_edit last count edits (omega (arith, fits)) edit n.0 (spelling_since file edits) behind (gives_going edits file (count + 1) set_file n.1 behind))
+spelling_with_file_set_is_read_back : (edits : List Edit) → AreSpellable edits → (last count : ℕ) → last + 1 ≤ 2 ^ 32 → length edits + count ≤ 65536
+    → ReadsAsEditsBetweenCommands (spelling_with_file_set last edits) last count edits
+spelling_with_file_set_is_read_back [] n last count set fits = λ line. refl
+spelling_with_file_set_is_read_back (edit ∷ edits) n last count set fits =
+    let file : ℕ = file_set_after_edit last edit in
+    let set_file : file + 1 ≤ 2 ^ 32 = file_set_after_edit_fits last edit set n.0.0 in
+    let behind : ReadsAsEditsBetweenCommands (spelling_with_file_set file edits) file (count + 1) edits = spelling_with_file_set_is_read_back edits n.1 file (count + 1) set_file (omega (arith, fits)) in
+    edit_with_file_line_is_read_back last count edit edits set n.0
+    (edit_is_read_back_in_its_file last count edits (omega (arith, fits)) edit n.0 (spelling_with_file_set file edits) behind (spelling_read_between_is_read_after_payload edits file (count + 1) set_file n.1 behind))
 
 -- THE LAW: the spelling of a list of edits is read as that list
-pub spelling_read : (edits : List Edit) → AreSpellable edits → length edits ≤ edit_limit → reading (spelling edits) ≡ Ok edits
-spelling_read edits n fits = read_spelled edits n 0 0 (omega arith) (omega (arith, fits)) 1
+pub spelling_of_edits_is_read_back : (edits : List Edit) → AreSpellable edits → length edits ≤ edit_limit → edits_spelled_by_text (spelling_of_edits edits) ≡ Ok edits
+spelling_of_edits_is_read_back edits n fits = spelling_with_file_set_is_read_back edits n 0 0 (omega arith) (omega (arith, fits)) 1

@@ -3,37 +3,37 @@ use Rattle.std.proofs.Common.{◌≡◌, ℕ, ◌+◌, ◌^◌, ◌<◌, ◌≤�
 use Rattle.std.specs.Prelude.{Result, Ok, Err, nat_le, codes}
 use Rattle.std.proofs.lemmas.Bool.{cases_Bool, leb-true, leb-false}
 use Rattle.sudoers_text.specs.Ended.{ends_in_lf}
-use Rattle.sudoers_edit_script.specs.Script.{command_words, spaced, number}
-use Rattle.sudoers_edit_script.specs.ScriptReading.{Standing, Between, Filed, Begun, Going, Rest, before, with_room, with_text, fault_of, file_line_at, command_line, filed_line, first_line, later_line, edits_from, sense, names_lines, text_in}
-use Rattle.sudoers_edit_script.specs.declared.draft.Draft.{Draft}
+use Rattle.sudoers_edit_script.specs.Script.{command_words_of_edit, words_joined_by_spaces, one_based_decimal}
+use Rattle.sudoers_edit_script.specs.ScriptReading.{ScriptPosition, Between, Filed, Begun, Going, ReadingOfRemainingLines, edit_before_result, result_within_edit_limit, edit_completed_with_text, fault_of_flawed_line, result_at_file_line, result_at_command_line, result_after_file_line, result_at_first_payload_line, result_at_later_payload_line, edits_from_position, parsed_script_line, has_file_scoped_command, text_of_payload_line}
+use Rattle.sudoers_edit_script.specs.declared.edit_awaiting_text.EditAwaitingText.{EditAwaitingText}
 use Rattle.sudoers_edit_script.specs.declared.edit.Edit.{Edit}
-use Rattle.sudoers_edit_script.specs.declared.script_line.Said.{Said}
-use Rattle.sudoers_edit_script.specs.declared.script_line.Said.TheVariants as says
+use Rattle.sudoers_edit_script.specs.declared.script_line.ParsedScriptLine.{ParsedScriptLine}
+use Rattle.sudoers_edit_script.specs.declared.script_line.ParsedScriptLine.TheVariants as says
 use Rattle.sudoers_edit_script.specs.declared.script.ScriptFault.{ScriptFault}
 use Rattle.sudoers_edit_script.specs.declared.script.ScriptFault.TheVariants as faults
-use Rattle.sudoers_edit_script.proofs.CommandLemmas.{IsCommand, command_sense}
-use Rattle.sudoers_edit_script.proofs.LineLemmas.{Commands, Says, says_sense}
-use Rattle.sudoers_edit_script.proofs.ToldLemmas.{Fails, IsFailure, IsLive, Steps, bad_word, before-behind, before_one, behind_none, ended_bar, ended_by, flawed_step, has_room, no_room, step, told_elsewhere, too_many}
+use Rattle.sudoers_edit_script.proofs.CommandLemmas.{IsParsedCommandOrFlaw, line_with_file_command_parses_as_command}
+use Rattle.sudoers_edit_script.proofs.LineLemmas.{IsCommandLineOfEdit, DoesLineMeanParsed, line_means_what_it_parses_to}
+use Rattle.sudoers_edit_script.proofs.ToldLemmas.{FailsAtLine, IsFaultReportedAsResult, IsLivePosition, GoesOnOrFailsAtLine, line_with_bad_word_fails, edit_before_edits_joins_them, edit_before_result_is_result_after_one, result_after_no_edits_is_result, bar_before_ended_text_ends_in_lf, body_and_lf_end_in_lf, flawed_line_fails, count_below_limit_keeps_result, count_at_limit_gives_too_many, result_at_line_from_position, fault_between_commands_is_reported_elsewhere, command_beyond_limit_fails}
 
 -- COMMANDS
 
 -- the line of a command ends in LF
-command_ended : (last : ℕ) (edit : Edit) (text : List ℕ) → Commands last edit text → ends_in_lf text ≡ true
-command_ended last edit text told = ended_by text (spaced (command_words edit)) told.0
+command_line_of_edit_ends_in_lf : (last : ℕ) (edit : Edit) (text : List ℕ) → IsCommandLineOfEdit last edit text → ends_in_lf text ≡ true
+command_line_of_edit_ends_in_lf last edit text told = body_and_lf_end_in_lf text (words_joined_by_spaces (command_words_of_edit edit)) told.0
 
 -- the line of a command that is all of its edit
-whole_step : (edit : Edit) (text : List ℕ) (last line count : ℕ) → last + 1 ≤ 2 ^ 32 → Commands last edit text → count ≤ 65536
-    → Steps (λ rest. with_room count (before edit (rest Between last (count + 1)))) text Between last line count
-whole_step edit text last line count set told fits =
+whole_command_line_goes_on_or_fails : (edit : Edit) (text : List ℕ) (last line count : ℕ) → last + 1 ≤ 2 ^ 32 → IsCommandLineOfEdit last edit text → count ≤ 65536
+    → GoesOnOrFailsAtLine (λ rest. result_within_edit_limit count (edit_before_result edit (rest Between last (count + 1)))) text Between last line count
+whole_command_line_goes_on_or_fails edit text last line count set told fits =
     elim (cases_Bool (nat_le 65536 count)) [
-      | inl t ↦ inr (too_many _ last line count fits t (λ rest. no_room count (before edit (rest Between last (count + 1))) t))
+      | inl t ↦ inr (command_beyond_limit_fails _ last line count fits t (λ rest. count_at_limit_gives_too_many count (edit_before_result edit (rest Between last (count + 1))) t))
       | inr f ↦ inl (record {
         edits = edit ∷ [];
         next = Between;
         file = last;
         total = count + 1;
-        gives = λ rest. has_room count (before edit (rest Between last (count + 1))) f ∙ before_one edit (rest Between last (count + 1));
-        ended = command_ended last edit text told;
+        gives = λ rest. count_below_limit_keeps_result count (edit_before_result edit (rest Between last (count + 1))) f ∙ edit_before_result_is_result_after_one edit (rest Between last (count + 1));
+        ended = command_line_of_edit_ends_in_lf last edit text told;
         live = tt;
         set = set;
         fits = (let h : count < 65536 = leb-false 65536 count f in omega arith);
@@ -44,55 +44,55 @@ whole_step edit text last line count set told fits =
 -- FILE LINES
 
 -- a command behind a `file` line is one too many
-full_command : (rest : Rest) (file line count : ℕ) (said : Said) → IsCommand said → nat_le 65536 count ≡ true
-    → command_line rest file line count said ≡ Err faults.TooMany
-full_command rest file line count (says.Begin begun) is t = no_room count (rest (Begun begun line) file (count + 1)) t
-full_command rest file line count (says.Whole edit) is t = no_room count (before edit (rest Between file (count + 1))) t
-full_command rest file line count (says.Flawed f) is t = no_room count (Err (fault_of f line)) t
-full_command rest file line count (says.File f) is t = absurd is
-full_command rest file line count says.More is t = absurd is
-full_command rest file line count says.Last is t = absurd is
-full_command rest file line count says.Unended is t = absurd is
-full_command rest file line count says.Other is t = absurd is
+command_beyond_limit_is_too_many : (rest : ReadingOfRemainingLines) (file line count : ℕ) (said : ParsedScriptLine) → IsParsedCommandOrFlaw said → nat_le 65536 count ≡ true
+    → result_at_command_line rest file line count said ≡ Err faults.TooMany
+command_beyond_limit_is_too_many rest file line count (says.Begin begun) is t = count_at_limit_gives_too_many count (rest (Begun begun line) file (count + 1)) t
+command_beyond_limit_is_too_many rest file line count (says.Whole edit) is t = count_at_limit_gives_too_many count (edit_before_result edit (rest Between file (count + 1))) t
+command_beyond_limit_is_too_many rest file line count (says.Flawed f) is t = count_at_limit_gives_too_many count (Err (fault_of_flawed_line f line)) t
+command_beyond_limit_is_too_many rest file line count (says.File f) is t = absurd is
+command_beyond_limit_is_too_many rest file line count says.More is t = absurd is
+command_beyond_limit_is_too_many rest file line count says.Last is t = absurd is
+command_beyond_limit_is_too_many rest file line count says.Unended is t = absurd is
+command_beyond_limit_is_too_many rest file line count says.Other is t = absurd is
 
 -- what a line gives right behind a `file` line that no command may follow
-filed_full : (lines : List (List ℕ)) (file last line count : ℕ) → count ≤ 65536 → nat_le 65536 count ≡ true
-    → IsFailure (edits_from lines (line + 1) (Filed (Some file) line) last count) Between last line count
-filed_full [] file last line count fits t = record { fault = faults.BadWord line; gives = refl; told = inl refl }
-filed_full (text ∷ lines) file last line count fits t =
-    let gives : ℕ → Result (List Edit) ScriptFault = λ f. command_line (edits_from lines (line + 1 + 1)) f (line + 1) count (sense f text) in
-    elim (cases_Bool (names_lines text)) [
+reading_after_file_line_at_limit_fails : (lines : List (List ℕ)) (file last line count : ℕ) → count ≤ 65536 → nat_le 65536 count ≡ true
+    → IsFaultReportedAsResult (edits_from_position lines (line + 1) (Filed (Some file) line) last count) Between last line count
+reading_after_file_line_at_limit_fails [] file last line count fits t = record { fault = faults.BadWord line; gives = refl; told = inl refl }
+reading_after_file_line_at_limit_fails (text ∷ lines) file last line count fits t =
+    let gives : ℕ → Result (List Edit) ScriptFault = λ f. result_at_command_line (edits_from_position lines (line + 1 + 1)) f (line + 1) count (parsed_script_line f text) in
+    elim (cases_Bool (has_file_scoped_command text)) [
       | inl y ↦ record {
         fault = faults.TooMany;
-        gives = ap (filed_line gives line (Some file)) y
-            ∙ full_command (edits_from lines (line + 1 + 1)) file (line + 1) count (sense file text) (command_sense file text y) t;
+        gives = ap (result_after_file_line gives line (Some file)) y
+            ∙ command_beyond_limit_is_too_many (edits_from_position lines (line + 1 + 1)) file (line + 1) count (parsed_script_line file text) (line_with_file_command_parses_as_command file text y) t;
         told = (let full : 65536 ≤ count = leb-true 65536 count t in ([], refl, omega arith));
       }
-      | inr n ↦ record { fault = faults.BadWord line; gives = ap (filed_line gives line (Some file)) n; told = inl refl }
+      | inr n ↦ record { fault = faults.BadWord line; gives = ap (result_after_file_line gives line (Some file)) n; told = inl refl }
     ]
 
 -- and behind one whose number is none
-filed_none : (lines : List (List ℕ)) (last line count : ℕ) → IsFailure (edits_from lines (line + 1) (Filed None line) last count) Between last line count
-filed_none [] last line count = record { fault = faults.BadWord line; gives = refl; told = inl refl }
-filed_none (text ∷ lines) last line count =
-    let gives : ℕ → Result (List Edit) ScriptFault = λ f. command_line (edits_from lines (line + 1 + 1)) f (line + 1) count (sense f text) in
-    elim (cases_Bool (names_lines text)) [
-      | inl y ↦ record { fault = faults.BadNumber line; gives = ap (filed_line gives line None) y; told = refl }
-      | inr n ↦ record { fault = faults.BadWord line; gives = ap (filed_line gives line None) n; told = inl refl }
+reading_after_file_line_without_number_fails : (lines : List (List ℕ)) (last line count : ℕ) → IsFaultReportedAsResult (edits_from_position lines (line + 1) (Filed None line) last count) Between last line count
+reading_after_file_line_without_number_fails [] last line count = record { fault = faults.BadWord line; gives = refl; told = inl refl }
+reading_after_file_line_without_number_fails (text ∷ lines) last line count =
+    let gives : ℕ → Result (List Edit) ScriptFault = λ f. result_at_command_line (edits_from_position lines (line + 1 + 1)) f (line + 1) count (parsed_script_line f text) in
+    elim (cases_Bool (has_file_scoped_command text)) [
+      | inl y ↦ record { fault = faults.BadNumber line; gives = ap (result_after_file_line gives line None) y; told = refl }
+      | inr n ↦ record { fault = faults.BadWord line; gives = ap (result_after_file_line gives line None) n; told = inl refl }
     ]
 
 -- a `file` line that sets another file
-set_step : (file : ℕ) (text : List ℕ) (last line count : ℕ) → last + 1 ≤ 2 ^ 32 → ends_in_lf text ≡ true → file + 1 ≤ 2 ^ 32 → 0 < line → count ≤ 65536
-    → Steps (λ rest. rest (Filed (Some file) line) last count) text Between last line count
-set_step file text last line count set ended proper pos fits =
+other_file_line_goes_on_or_fails : (file : ℕ) (text : List ℕ) (last line count : ℕ) → last + 1 ≤ 2 ^ 32 → ends_in_lf text ≡ true → file + 1 ≤ 2 ^ 32 → 0 < line → count ≤ 65536
+    → GoesOnOrFailsAtLine (λ rest. rest (Filed (Some file) line) last count) text Between last line count
+other_file_line_goes_on_or_fails file text last line count set ended proper pos fits =
     elim (cases_Bool (nat_le 65536 count)) [
-      | inl t ↦ inr (λ lines. filed_full lines file last line count fits t)
+      | inl t ↦ inr (λ lines. reading_after_file_line_at_limit_fails lines file last line count fits t)
       | inr f ↦ inl (record {
         edits = [];
         next = Filed (Some file) line;
         file = last;
         total = count;
-        gives = λ rest. behind_none (rest (Filed (Some file) line) last count);
+        gives = λ rest. result_after_no_edits_is_result (rest (Filed (Some file) line) last count);
         ended = ended;
         live = (refl, pos, proper, leb-false 65536 count f);
         set = set;
@@ -102,62 +102,62 @@ set_step file text last line count set ended proper pos fits =
     ]
 
 -- a `file` line
-file_step : (file : ℕ) (text : List ℕ) (last line count : ℕ) → last + 1 ≤ 2 ^ 32 → ends_in_lf text ≡ true → file + 1 ≤ 2 ^ 32 → 0 < line → count ≤ 65536
-    → Steps (λ rest. file_line_at rest last line count (Some file)) text Between last line count
-file_step file text last line count set ended proper pos fits =
+file_line_goes_on_or_fails : (file : ℕ) (text : List ℕ) (last line count : ℕ) → last + 1 ≤ 2 ^ 32 → ends_in_lf text ≡ true → file + 1 ≤ 2 ^ 32 → 0 < line → count ≤ 65536
+    → GoesOnOrFailsAtLine (λ rest. result_at_file_line rest last line count (Some file)) text Between last line count
+file_line_goes_on_or_fails file text last line count set ended proper pos fits =
     elim (cases_Bool (file == last)) [
-      | inl t ↦ inr (bad_word (λ rest. file_line_at rest last line count (Some file)) Between last line count (λ rest. rw t refl))
-      | inr f ↦ rw f (set_step file text last line count set ended proper pos fits)
+      | inl t ↦ inr (line_with_bad_word_fails (λ rest. result_at_file_line rest last line count (Some file)) Between last line count (λ rest. rw t refl))
+      | inr f ↦ rw f (other_file_line_goes_on_or_fails file text last line count set ended proper pos fits)
     ]
 
 -- A LINE WHERE A COMMAND HAS TO COME
 
 -- After a line that says this where a command has to come the reading goes on, or it fails there.
-abbrev CommandSteps : Said → List ℕ → ℕ → ℕ → ℕ → Type 0
-CommandSteps said text last line count = Steps (λ rest. command_line rest last line count said) text Between last line count
+abbrev CommandLineGoesOnOrFails : ParsedScriptLine → List ℕ → ℕ → ℕ → ℕ → Type 0
+CommandLineGoesOnOrFails said text last line count = GoesOnOrFailsAtLine (λ rest. result_at_command_line rest last line count said) text Between last line count
 
 -- so it is for each line
-command_step : (said : Said) (text : List ℕ) (last line count : ℕ) → last + 1 ≤ 2 ^ 32 → Says last said text → 0 < line → count ≤ 65536
-    → CommandSteps said text last line count
-command_step (says.Begin begun) text last line count set told pos fits =
+command_line_goes_on_or_fails : (said : ParsedScriptLine) (text : List ℕ) (last line count : ℕ) → last + 1 ≤ 2 ^ 32 → DoesLineMeanParsed last said text → 0 < line → count ≤ 65536
+    → CommandLineGoesOnOrFails said text last line count
+command_line_goes_on_or_fails (says.Begin begun) text last line count set told pos fits =
     elim (cases_Bool (nat_le 65536 count)) [
-      | inl t ↦ inr (too_many _ last line count fits t (λ rest. no_room count (rest (Begun begun line) last (count + 1)) t))
+      | inl t ↦ inr (command_beyond_limit_fails _ last line count fits t (λ rest. count_at_limit_gives_too_many count (rest (Begun begun line) last (count + 1)) t))
       | inr f ↦ inl (record {
         edits = [];
         next = Begun begun line;
         file = last;
         total = count + 1;
-        gives = λ rest. has_room count (rest (Begun begun line) last (count + 1)) f ∙ behind_none (rest (Begun begun line) last (count + 1));
-        ended = command_ended last (with_text begun []) text told;
+        gives = λ rest. count_below_limit_keeps_result count (rest (Begun begun line) last (count + 1)) f ∙ result_after_no_edits_is_result (rest (Begun begun line) last (count + 1));
+        ended = command_line_of_edit_ends_in_lf last (edit_completed_with_text begun []) text told;
         live = (refl, pos);
         set = set;
         fits = (let h : count < 65536 = leb-false 65536 count f in omega arith);
         sum = omega arith;
       })
     ]
-command_step (says.Whole edit) text last line count set told pos fits = whole_step edit text last line count set told.0 fits
-command_step (says.Flawed f) text last line count set told pos fits =
+command_line_goes_on_or_fails (says.Whole edit) text last line count set told pos fits = whole_command_line_goes_on_or_fails edit text last line count set told.0 fits
+command_line_goes_on_or_fails (says.Flawed f) text last line count set told pos fits =
     elim (cases_Bool (nat_le 65536 count)) [
-      | inl t ↦ inr (too_many _ last line count fits t (λ rest. no_room count (Err (fault_of f line)) t))
-      | inr g ↦ inr (flawed_step f _ last line count (λ rest. has_room count (Err (fault_of f line)) g))
+      | inl t ↦ inr (command_beyond_limit_fails _ last line count fits t (λ rest. count_at_limit_gives_too_many count (Err (fault_of_flawed_line f line)) t))
+      | inr g ↦ inr (flawed_line_fails f _ last line count (λ rest. count_below_limit_keeps_result count (Err (fault_of_flawed_line f line)) g))
     ]
-command_step (says.File (Some file)) text last line count set told pos fits =
-    file_step file text last line count set (ended_by text (spaced (codes "file" ∷ number file ∷ [])) told.0) told.1 pos fits
-command_step (says.File None) text last line count set told pos fits = inr (λ lines. filed_none lines last line count)
-command_step says.More text last line count set told pos fits = inr (bad_word _ Between last line count (λ rest. refl))
-command_step says.Last text last line count set told pos fits = inr (bad_word _ Between last line count (λ rest. refl))
-command_step says.Unended text last line count set told pos fits = inr (bad_word _ Between last line count (λ rest. refl))
-command_step says.Other text last line count set told pos fits = inr (bad_word _ Between last line count (λ rest. refl))
+command_line_goes_on_or_fails (says.File (Some file)) text last line count set told pos fits =
+    file_line_goes_on_or_fails file text last line count set (body_and_lf_end_in_lf text (words_joined_by_spaces (codes "file" ∷ one_based_decimal file ∷ [])) told.0) told.1 pos fits
+command_line_goes_on_or_fails (says.File None) text last line count set told pos fits = inr (λ lines. reading_after_file_line_without_number_fails lines last line count)
+command_line_goes_on_or_fails says.More text last line count set told pos fits = inr (line_with_bad_word_fails _ Between last line count (λ rest. refl))
+command_line_goes_on_or_fails says.Last text last line count set told pos fits = inr (line_with_bad_word_fails _ Between last line count (λ rest. refl))
+command_line_goes_on_or_fails says.Unended text last line count set told pos fits = inr (line_with_bad_word_fails _ Between last line count (λ rest. refl))
+command_line_goes_on_or_fails says.Other text last line count set told pos fits = inr (line_with_bad_word_fails _ Between last line count (λ rest. refl))
 
 -- A LINE BEHIND A `FILE` LINE
 
 -- a line right behind a `file` line
-filed_step : (text : List ℕ) (file at last line count : ℕ) (names : Bool) → names_lines text ≡ names → 0 < line → IsLive (Filed (Some file) at) line count
-    → Steps (λ rest. filed_line (λ f. command_line rest f line count (sense f text)) at (Some file) names) text (Filed (Some file) at) last line count
-filed_step text file at last line count false names pos live =
+filed_line_goes_on_or_fails : (text : List ℕ) (file at last line count : ℕ) (names : Bool) → has_file_scoped_command text ≡ names → 0 < line → IsLivePosition (Filed (Some file) at) line count
+    → GoesOnOrFailsAtLine (λ rest. result_after_file_line (λ f. result_at_command_line rest f line count (parsed_script_line f text)) at (Some file) names) text (Filed (Some file) at) last line count
+filed_line_goes_on_or_fails text file at last line count false names pos live =
     inr (λ lines. record { fault = faults.BadWord at; gives = refl; told = inr (live.0, live.1, refl) })
-filed_step text file at last line count true names pos live =
-    elim (command_step (sense file text) text file line count live.2 (says_sense file text live.2) pos (omega (arith, live.3))) [
+filed_line_goes_on_or_fails text file at last line count true names pos live =
+    elim (command_line_goes_on_or_fails (parsed_script_line file text) text file line count live.2 (line_means_what_it_parses_to file text live.2) pos (omega (arith, live.3))) [
       | inl g ↦ inl (record {
         edits = g.edits;
         next = g.next;
@@ -173,7 +173,7 @@ filed_step text file at last line count true names pos live =
       | inr f ↦ inr (λ lines. record {
         fault = (f lines).fault;
         gives = (f lines).gives;
-        told = told_elsewhere (f lines).fault line count (Err (faults.BadWord at)) (Filed (Some file) at) (f lines).told
+        told = fault_between_commands_is_reported_elsewhere (f lines).fault line count (Err (faults.BadWord at)) (Filed (Some file) at) (f lines).told
             (λ full. absurd (omega (arith, full, live.3)));
       })
     ]
@@ -181,125 +181,125 @@ filed_step text file at last line count true names pos live =
 -- THE FIRST LINE OF A TEXT
 
 -- no text behind a command
-no_payload : (result : Rest → Result (List Edit) ScriptFault) (last line count : ℕ) (begun : Draft) (at : ℕ) → (at + 1 ≡ line) × (0 < at)
-    → ((rest : Rest) → result rest ≡ Err (faults.NoPayload at)) → Fails result (Begun begun at) last line count
-no_payload result last line count begun at placed gives lines = record { fault = faults.NoPayload at; gives = gives (edits_from lines (line + 1)); told = (placed.0, placed.1, refl) }
+missing_payload_fails : (result : ReadingOfRemainingLines → Result (List Edit) ScriptFault) (last line count : ℕ) (begun : EditAwaitingText) (at : ℕ) → (at + 1 ≡ line) × (0 < at)
+    → ((rest : ReadingOfRemainingLines) → result rest ≡ Err (faults.NoPayload at)) → FailsAtLine result (Begun begun at) last line count
+missing_payload_fails result last line count begun at placed gives lines = record { fault = faults.NoPayload at; gives = gives (edits_from_position lines (line + 1)); told = (placed.0, placed.1, refl) }
 
 -- a line right behind a command that wants a text
-first_step : (said : Said) (text t : List ℕ) (last line count : ℕ) (begun : Draft) (at : ℕ) → last + 1 ≤ 2 ^ 32 → Says last said text
+first_payload_line_goes_on_or_fails : (said : ParsedScriptLine) (text t : List ℕ) (last line count : ℕ) (begun : EditAwaitingText) (at : ℕ) → last + 1 ≤ 2 ^ 32 → DoesLineMeanParsed last said text
     → (at + 1 ≡ line) × (0 < at) → count ≤ 65536
-    → Steps (λ rest. first_line rest last line count begun at t said) text (Begun begun at) last line count
-first_step says.More text t last line count begun at set told placed fits =
+    → GoesOnOrFailsAtLine (λ rest. result_at_first_payload_line rest last line count begun at t said) text (Begun begun at) last line count
+first_payload_line_goes_on_or_fails says.More text t last line count begun at set told placed fits =
     inl (record {
       edits = [];
       next = Going begun t;
       file = last;
       total = count;
-      gives = λ rest. behind_none (rest (Going begun t) last count);
-      ended = ended_bar text told.0 told.1 told.2;
+      gives = λ rest. result_after_no_edits_is_result (rest (Going begun t) last count);
+      ended = bar_before_ended_text_ends_in_lf text told.0 told.1 told.2;
       live = tt;
       set = set;
       fits = fits;
       sum = omega arith;
     })
-first_step says.Last text t last line count begun at set told placed fits =
+first_payload_line_goes_on_or_fails says.Last text t last line count begun at set told placed fits =
     inl (record {
-      edits = with_text begun t ∷ [];
+      edits = edit_completed_with_text begun t ∷ [];
       next = Between;
       file = last;
       total = count;
-      gives = λ rest. before_one (with_text begun t) (rest Between last count);
-      ended = ended_by text (62 ∷ told.0) told.1;
+      gives = λ rest. edit_before_result_is_result_after_one (edit_completed_with_text begun t) (rest Between last count);
+      ended = body_and_lf_end_in_lf text (62 ∷ told.0) told.1;
       live = tt;
       set = set;
       fits = fits;
       sum = omega arith;
     })
-first_step says.Unended text t last line count begun at set told placed fits = inr (bad_word _ (Begun begun at) last line count (λ rest. refl))
-first_step (says.Begin _) text t last line count begun at set told placed fits = inr (no_payload _ last line count begun at placed (λ rest. refl))
-first_step (says.Whole _) text t last line count begun at set told placed fits = inr (no_payload _ last line count begun at placed (λ rest. refl))
-first_step (says.Flawed _) text t last line count begun at set told placed fits = inr (no_payload _ last line count begun at placed (λ rest. refl))
-first_step (says.File _) text t last line count begun at set told placed fits = inr (no_payload _ last line count begun at placed (λ rest. refl))
-first_step says.Other text t last line count begun at set told placed fits = inr (no_payload _ last line count begun at placed (λ rest. refl))
+first_payload_line_goes_on_or_fails says.Unended text t last line count begun at set told placed fits = inr (line_with_bad_word_fails _ (Begun begun at) last line count (λ rest. refl))
+first_payload_line_goes_on_or_fails (says.Begin _) text t last line count begun at set told placed fits = inr (missing_payload_fails _ last line count begun at placed (λ rest. refl))
+first_payload_line_goes_on_or_fails (says.Whole _) text t last line count begun at set told placed fits = inr (missing_payload_fails _ last line count begun at placed (λ rest. refl))
+first_payload_line_goes_on_or_fails (says.Flawed _) text t last line count begun at set told placed fits = inr (missing_payload_fails _ last line count begun at placed (λ rest. refl))
+first_payload_line_goes_on_or_fails (says.File _) text t last line count begun at set told placed fits = inr (missing_payload_fails _ last line count begun at placed (λ rest. refl))
+first_payload_line_goes_on_or_fails says.Other text t last line count begun at set told placed fits = inr (missing_payload_fails _ last line count begun at placed (λ rest. refl))
 
 -- A LATER LINE
 
 -- a command behind a text
-going_step : (said : Said) (text : List ℕ) (last line count : ℕ) (begun : Draft) (so_far : List ℕ) → CommandSteps said text last line count
-    → Steps (λ rest. before (with_text begun so_far) (command_line rest last line count said)) text (Going begun so_far) last line count
-going_step said text last line count begun so_far (inl g) =
+command_after_payload_goes_on_or_fails : (said : ParsedScriptLine) (text : List ℕ) (last line count : ℕ) (begun : EditAwaitingText) (so_far : List ℕ) → CommandLineGoesOnOrFails said text last line count
+    → GoesOnOrFailsAtLine (λ rest. edit_before_result (edit_completed_with_text begun so_far) (result_at_command_line rest last line count said)) text (Going begun so_far) last line count
+command_after_payload_goes_on_or_fails said text last line count begun so_far (inl g) =
     inl (record {
-      edits = with_text begun so_far ∷ g.edits;
+      edits = edit_completed_with_text begun so_far ∷ g.edits;
       next = g.next;
       file = g.file;
       total = g.total;
-      gives = λ rest. ap (before (with_text begun so_far)) (g.gives rest) ∙ before-behind (with_text begun so_far) g.edits (rest g.next g.file g.total);
+      gives = λ rest. ap (edit_before_result (edit_completed_with_text begun so_far)) (g.gives rest) ∙ edit_before_edits_joins_them (edit_completed_with_text begun so_far) g.edits (rest g.next g.file g.total);
       ended = g.ended;
       live = g.live;
       set = g.set;
       fits = g.fits;
       sum = omega (arith, g.sum);
     })
-going_step said text last line count begun so_far (inr f) =
+command_after_payload_goes_on_or_fails said text last line count begun so_far (inr f) =
     inr (λ lines. record {
       fault = (f lines).fault;
-      gives = ap (before (with_text begun so_far)) (f lines).gives;
-      told = told_elsewhere (f lines).fault line count (Ok (with_text begun so_far ∷ [])) (Going begun so_far) (f lines).told
-          (λ full. (with_text begun so_far ∷ [], refl, omega (arith, full)));
+      gives = ap (edit_before_result (edit_completed_with_text begun so_far)) (f lines).gives;
+      told = fault_between_commands_is_reported_elsewhere (f lines).fault line count (Ok (edit_completed_with_text begun so_far ∷ [])) (Going begun so_far) (f lines).told
+          (λ full. (edit_completed_with_text begun so_far ∷ [], refl, omega (arith, full)));
     })
 
 -- a line behind a part of a text
-later_step : (said : Said) (text t : List ℕ) (last line count : ℕ) (begun : Draft) (so_far : List ℕ) → last + 1 ≤ 2 ^ 32 → Says last said text → 0 < line
+later_payload_line_goes_on_or_fails : (said : ParsedScriptLine) (text t : List ℕ) (last line count : ℕ) (begun : EditAwaitingText) (so_far : List ℕ) → last + 1 ≤ 2 ^ 32 → DoesLineMeanParsed last said text → 0 < line
     → count ≤ 65536
-    → Steps (λ rest. later_line rest last line count begun so_far t said) text (Going begun so_far) last line count
-later_step says.More text t last line count begun so_far set told pos fits =
+    → GoesOnOrFailsAtLine (λ rest. result_at_later_payload_line rest last line count begun so_far t said) text (Going begun so_far) last line count
+later_payload_line_goes_on_or_fails says.More text t last line count begun so_far set told pos fits =
     inl (record {
       edits = [];
       next = Going begun (so_far ++ t);
       file = last;
       total = count;
-      gives = λ rest. behind_none (rest (Going begun (so_far ++ t)) last count);
-      ended = ended_bar text told.0 told.1 told.2;
+      gives = λ rest. result_after_no_edits_is_result (rest (Going begun (so_far ++ t)) last count);
+      ended = bar_before_ended_text_ends_in_lf text told.0 told.1 told.2;
       live = tt;
       set = set;
       fits = fits;
       sum = omega arith;
     })
-later_step says.Last text [] last line count begun so_far set told pos fits = inr (bad_word _ (Going begun so_far) last line count (λ rest. refl))
-later_step says.Last text (b ∷ t) last line count begun so_far set told pos fits =
+later_payload_line_goes_on_or_fails says.Last text [] last line count begun so_far set told pos fits = inr (line_with_bad_word_fails _ (Going begun so_far) last line count (λ rest. refl))
+later_payload_line_goes_on_or_fails says.Last text (b ∷ t) last line count begun so_far set told pos fits =
     inl (record {
-      edits = with_text begun (so_far ++ b ∷ t) ∷ [];
+      edits = edit_completed_with_text begun (so_far ++ b ∷ t) ∷ [];
       next = Between;
       file = last;
       total = count;
-      gives = λ rest. before_one (with_text begun (so_far ++ b ∷ t)) (rest Between last count);
-      ended = ended_by text (62 ∷ told.0) told.1;
+      gives = λ rest. edit_before_result_is_result_after_one (edit_completed_with_text begun (so_far ++ b ∷ t)) (rest Between last count);
+      ended = body_and_lf_end_in_lf text (62 ∷ told.0) told.1;
       live = tt;
       set = set;
       fits = fits;
       sum = omega arith;
     })
-later_step says.Unended text t last line count begun so_far set told pos fits = inr (bad_word _ (Going begun so_far) last line count (λ rest. refl))
-later_step (says.Begin other) text t last line count begun so_far set told pos fits =
-    going_step (says.Begin other) text last line count begun so_far (command_step (says.Begin other) text last line count set told pos fits)
-later_step (says.Whole edit) text t last line count begun so_far set told pos fits =
-    going_step (says.Whole edit) text last line count begun so_far (command_step (says.Whole edit) text last line count set told pos fits)
-later_step (says.Flawed f) text t last line count begun so_far set told pos fits =
-    going_step (says.Flawed f) text last line count begun so_far (command_step (says.Flawed f) text last line count set told pos fits)
-later_step (says.File file) text t last line count begun so_far set told pos fits =
-    going_step (says.File file) text last line count begun so_far (command_step (says.File file) text last line count set told pos fits)
-later_step says.Other text t last line count begun so_far set told pos fits =
-    going_step says.Other text last line count begun so_far (command_step says.Other text last line count set told pos fits)
+later_payload_line_goes_on_or_fails says.Unended text t last line count begun so_far set told pos fits = inr (line_with_bad_word_fails _ (Going begun so_far) last line count (λ rest. refl))
+later_payload_line_goes_on_or_fails (says.Begin other) text t last line count begun so_far set told pos fits =
+    command_after_payload_goes_on_or_fails (says.Begin other) text last line count begun so_far (command_line_goes_on_or_fails (says.Begin other) text last line count set told pos fits)
+later_payload_line_goes_on_or_fails (says.Whole edit) text t last line count begun so_far set told pos fits =
+    command_after_payload_goes_on_or_fails (says.Whole edit) text last line count begun so_far (command_line_goes_on_or_fails (says.Whole edit) text last line count set told pos fits)
+later_payload_line_goes_on_or_fails (says.Flawed f) text t last line count begun so_far set told pos fits =
+    command_after_payload_goes_on_or_fails (says.Flawed f) text last line count begun so_far (command_line_goes_on_or_fails (says.Flawed f) text last line count set told pos fits)
+later_payload_line_goes_on_or_fails (says.File file) text t last line count begun so_far set told pos fits =
+    command_after_payload_goes_on_or_fails (says.File file) text last line count begun so_far (command_line_goes_on_or_fails (says.File file) text last line count set told pos fits)
+later_payload_line_goes_on_or_fails says.Other text t last line count begun so_far set told pos fits =
+    command_after_payload_goes_on_or_fails says.Other text last line count begun so_far (command_line_goes_on_or_fails says.Other text last line count set told pos fits)
 
 -- EACH LINE
 
 -- after a line the reading goes on, or it fails there
-pub one_step : (standing : Standing) (text : List ℕ) (last line count : ℕ) → 0 < line → last + 1 ≤ 2 ^ 32 → IsLive standing line count → count ≤ 65536
-    → Steps (step standing last line count text) text standing last line count
-one_step Between text last line count pos set live fits = command_step (sense last text) text last line count set (says_sense last text set) pos fits
-one_step (Filed None at) text last line count pos set live fits = absurd live
-one_step (Filed (Some file) at) text last line count pos set live fits = filed_step text file at last line count (names_lines text) refl pos live
-one_step (Begun begun at) text last line count pos set live fits =
-    first_step (sense last text) text (text_in (sense last text) text) last line count begun at set (says_sense last text set) live fits
-one_step (Going begun so_far) text last line count pos set live fits =
-    later_step (sense last text) text (text_in (sense last text) text) last line count begun so_far set (says_sense last text set) pos fits
+pub script_line_goes_on_or_fails : (standing : ScriptPosition) (text : List ℕ) (last line count : ℕ) → 0 < line → last + 1 ≤ 2 ^ 32 → IsLivePosition standing line count → count ≤ 65536
+    → GoesOnOrFailsAtLine (result_at_line_from_position standing last line count text) text standing last line count
+script_line_goes_on_or_fails Between text last line count pos set live fits = command_line_goes_on_or_fails (parsed_script_line last text) text last line count set (line_means_what_it_parses_to last text set) pos fits
+script_line_goes_on_or_fails (Filed None at) text last line count pos set live fits = absurd live
+script_line_goes_on_or_fails (Filed (Some file) at) text last line count pos set live fits = filed_line_goes_on_or_fails text file at last line count (has_file_scoped_command text) refl pos live
+script_line_goes_on_or_fails (Begun begun at) text last line count pos set live fits =
+    first_payload_line_goes_on_or_fails (parsed_script_line last text) text (text_of_payload_line (parsed_script_line last text) text) last line count begun at set (line_means_what_it_parses_to last text set) live fits
+script_line_goes_on_or_fails (Going begun so_far) text last line count pos set live fits =
+    later_payload_line_goes_on_or_fails (parsed_script_line last text) text (text_of_payload_line (parsed_script_line last text) text) last line count begun so_far set (line_means_what_it_parses_to last text set) pos fits

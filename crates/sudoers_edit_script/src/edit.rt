@@ -2,7 +2,7 @@
 ghost use Rattle.std.specs.Prelude.{◌≡◌, IfOk};
 
 use std::alloc::{AllocError, Global};
-use sudoers_line::{Items, Kind};
+use sudoers_grammar::{Items, Kind};
 
 /// An edit of a policy. Files, lines, and places of members and definitions count from 0. `file` is the file whose lines
 /// an edit names.
@@ -85,7 +85,7 @@ impl Edit {
     /// # Errors
     ///
     /// Want of memory alone.
-    pub fn copied(&self, alloc: Global) -> Result<Edit, AllocError>
+    pub fn copy_edit(&self, alloc: Global) -> Result<Edit, AllocError>
         ensures { IfOk result (λ edit. edit ≡ self.now) }
     {
         match self {

@@ -1,16 +1,16 @@
 //! Scripts: the edits of a sudoers policy, and the text that spells a list of them.
 #![tactic(auto)]
 
-mod command;
-mod draft;
+mod command_words;
 mod edit;
+mod edit_awaiting_text;
 pub mod laws;
-mod physical;
+mod physical_lines;
 mod script;
 mod script_line;
 mod spelling;
 
 pub use edit::{Edit, Edits, Text};
-pub use physical::first_line_len;
+pub use physical_lines::first_physical_line_len;
 pub use script::{MAX_EDITS, ScriptFault, read_script};
 pub use spelling::write_script;

@@ -1,13 +1,15 @@
 //! Reading a script, the text of a list of edits.
 ghost use Rattle.std.specs.Prelude.{◌≡◌, ◌+◌, ◌^◌, ◌<◌, ◌≤◌, ◌∷◌, ℕ, List, [], length, Option, IfOk, IfErr, OnOk};
-ghost use Rattle.sudoers_edit_script.specs.Script.{spelling, edit_limit};
-ghost use Rattle.sudoers_edit_script.specs.ScriptReading.{reading, Reads, Tells, Rest, Between, before, with_room, command_line, file_line_at, first_line, later_line};
-ghost use Rattle.sudoers_edit_script.specs.internal.ScriptStanding.{behind, next, outcome};
+ghost use Rattle.sudoers_edit_script.specs.Script.{spelling_of_edits, edit_limit};
+ghost use Rattle.sudoers_edit_script.specs.ScriptReading.{edits_spelled_by_text, MatchesScriptReading, IsFaultOrNoMemory, ReadingOfRemainingLines, Between, edit_before_result, result_within_edit_limit, result_at_command_line, result_at_file_line, result_at_first_payload_line, result_at_later_payload_line};
+ghost use Rattle.sudoers_edit_script.specs.internal.ScriptStanding.{result_after_edits, result_from_reader_state, result_of_remaining_lines};
 
-use crate::draft::Draft;
 use crate::edit::{Edit, Edits, Text};
-use crate::physical::first_line_len;
-use crate::script_line::{Flaw, Said, names_lines, sense_of, text_of};
+use crate::edit_awaiting_text::EditAwaitingText;
+use crate::physical_lines::first_physical_line_len;
+use crate::script_line::{
+    CommandFlaw, ParsedScriptLine, is_file_scoped_line, parse_script_line, payload_text_of_line,
+};
 use std::alloc::{AllocError, AllocFailed, Global};
 use std::mem::replace;
 use thiserror::Error;
@@ -60,29 +62,38 @@ impl<T: Drop> From<AllocFailed<T>> for ScriptFault {
 
 /// What may stand next in a script.
 #[derive(Drop)]
-enum Open {
+enum ScriptReaderState {
     /// A command.
     Nothing,
     /// A command that names lines, behind the `file` line on this line: it sets this file, or its number is none.
-    Filed { file: Option<u32>, line: usize },
+    Filed {
+        file: Option<u32>,
+        line: usize,
+    },
     /// The first line of the text that a command on this line wants.
-    Begun { draft: Draft, line: usize },
+    Begun {
+        draft: EditAwaitingText,
+        line: usize,
+    },
     /// More of that text, or a command.
-    Going { draft: Draft, text: Text },
+    Going {
+        draft: EditAwaitingText,
+        text: Text,
+    },
 }
 
 /// What has been read of a script, the file that is set, and the number of the next line.
 #[derive(Drop)]
-struct Reading {
+struct ScriptReader {
     edits: Edits,
-    pending: Open,
+    pending: ScriptReaderState,
     file: u32,
     line: usize,
 }
 
-impl Reading {
+impl ScriptReader {
     /// There is room for one edit more.
-    fn check_room(&self) -> Result<(), ScriptFault>
+    fn check_edit_limit(&self) -> Result<(), ScriptFault>
         ensures ok { OnOk result (length self.now.edits < edit_limit) }
         ensures err { IfErr result (λ fault. (fault ≡ ScriptFault.TooMany)
             × (edit_limit ≤ length self.now.edits)) }
@@ -94,200 +105,207 @@ impl Reading {
     }
 
     /// Takes an edit whose command is all of it.
-    fn take_edit(&mut self, edit: Edit) -> Result<(), ScriptFault>
-        requires { self.old.pending ≡ Open.Nothing }
-        ensures ok { OnOk result ((rest : Rest)
-            → behind self.old.edits (with_room (length self.old.edits) (before edit (rest Between self.old.file (length self.old.edits + 1))))
-            ≡ next rest self.new) }
-        ensures err { IfErr result (λ fault. (rest : Rest)
-            → Tells fault (behind self.old.edits (with_room (length self.old.edits) (before edit (rest Between self.old.file (length self.old.edits + 1)))))) }
+    fn push_complete_edit(&mut self, edit: Edit) -> Result<(), ScriptFault>
+        requires { self.old.pending ≡ ScriptReaderState.Nothing }
+        ensures ok { OnOk result ((rest : ReadingOfRemainingLines)
+            → result_after_edits self.old.edits (result_within_edit_limit (length self.old.edits) (edit_before_result edit (rest Between self.old.file (length self.old.edits + 1))))
+            ≡ result_from_reader_state rest self.new) }
+        ensures err { IfErr result (λ fault. (rest : ReadingOfRemainingLines)
+            → IsFaultOrNoMemory fault (result_after_edits self.old.edits (result_within_edit_limit (length self.old.edits) (edit_before_result edit (rest Between self.old.file (length self.old.edits + 1)))))) }
         ensures line { self.new.line ≡ self.old.line }
     {
-        self.check_room()?;
+        self.check_edit_limit()?;
         self.edits.push(edit)?;
         Ok(())
     }
 
     /// Takes a `file` line.
-    fn take_file(&mut self, file: Option<u32>) -> Result<(), ScriptFault>
-        requires { self.old.pending ≡ Open.Nothing }
-        ensures ok { OnOk result ((rest : Rest)
-            → behind self.old.edits (file_line_at rest self.old.file self.old.line (length self.old.edits) file)
-            ≡ next rest self.new) }
-        ensures err { IfErr result (λ fault. (rest : Rest)
-            → Tells fault (behind self.old.edits (file_line_at rest self.old.file self.old.line (length self.old.edits) file))) }
+    fn take_file_line(&mut self, file: Option<u32>) -> Result<(), ScriptFault>
+        requires { self.old.pending ≡ ScriptReaderState.Nothing }
+        ensures ok { OnOk result ((rest : ReadingOfRemainingLines)
+            → result_after_edits self.old.edits (result_at_file_line rest self.old.file self.old.line (length self.old.edits) file)
+            ≡ result_from_reader_state rest self.new) }
+        ensures err { IfErr result (λ fault. (rest : ReadingOfRemainingLines)
+            → IsFaultOrNoMemory fault (result_after_edits self.old.edits (result_at_file_line rest self.old.file self.old.line (length self.old.edits) file))) }
         ensures line { self.new.line ≡ self.old.line }
     {
         let line = self.line;
         if file == Some(self.file) {
             return Err(ScriptFault::BadWord { line });
         }
-        self.pending = Open::Filed { file, line };
+        self.pending = ScriptReaderState::Filed { file, line };
         Ok(())
     }
 
     /// Takes a line where a command has to come.
-    fn take_command(&mut self, said: Said) -> Result<(), ScriptFault>
-        requires { self.old.pending ≡ Open.Nothing }
-        ensures ok { OnOk result ((rest : Rest)
-            → behind self.old.edits (command_line rest self.old.file self.old.line (length self.old.edits) said)
-            ≡ next rest self.new) }
-        ensures err { IfErr result (λ fault. (rest : Rest)
-            → Tells fault (behind self.old.edits (command_line rest self.old.file self.old.line (length self.old.edits) said))) }
+    fn take_command_line(&mut self, said: ParsedScriptLine) -> Result<(), ScriptFault>
+        requires { self.old.pending ≡ ScriptReaderState.Nothing }
+        ensures ok { OnOk result ((rest : ReadingOfRemainingLines)
+            → result_after_edits self.old.edits (result_at_command_line rest self.old.file self.old.line (length self.old.edits) said)
+            ≡ result_from_reader_state rest self.new) }
+        ensures err { IfErr result (λ fault. (rest : ReadingOfRemainingLines)
+            → IsFaultOrNoMemory fault (result_after_edits self.old.edits (result_at_command_line rest self.old.file self.old.line (length self.old.edits) said))) }
         ensures line { self.new.line ≡ self.old.line }
     {
         let line = self.line;
         match said {
-            Said::Begin(draft) => {
-                self.check_room()?;
-                self.pending = Open::Begun { draft, line };
+            ParsedScriptLine::Begin(draft) => {
+                self.check_edit_limit()?;
+                self.pending = ScriptReaderState::Begun { draft, line };
                 Ok(())
             }
-            Said::Whole(edit) => self.take_edit(edit),
-            Said::Flawed(flaw) => {
-                self.check_room()?;
+            ParsedScriptLine::Whole(edit) => self.push_complete_edit(edit),
+            ParsedScriptLine::Flawed(flaw) => {
+                self.check_edit_limit()?;
                 match flaw {
-                    Flaw::Word => Err(ScriptFault::BadWord { line }),
-                    Flaw::Number => Err(ScriptFault::BadNumber { line }),
+                    CommandFlaw::Word => Err(ScriptFault::BadWord { line }),
+                    CommandFlaw::Number => Err(ScriptFault::BadNumber { line }),
                 }
             }
-            Said::File(file) => self.take_file(file),
-            Said::More | Said::Last | Said::Unended | Said::Other => {
-                Err(ScriptFault::BadWord { line })
-            }
+            ParsedScriptLine::File(file) => self.take_file_line(file),
+            ParsedScriptLine::More
+            | ParsedScriptLine::Last
+            | ParsedScriptLine::Unended
+            | ParsedScriptLine::Other => { Err(ScriptFault::BadWord { line }) }
         }
     }
 
     /// Takes the line right behind a command that wants a text.
-    fn take_first(
+    fn take_first_payload_line(
         &mut self,
         alloc: Global,
-        draft: Draft,
+        draft: EditAwaitingText,
         begun: usize,
         text: &[u8],
-        said: Said,
+        said: ParsedScriptLine,
     ) -> Result<(), ScriptFault>
-        requires { self.old.pending ≡ Open.Nothing }
-        ensures ok { OnOk result ((rest : Rest)
-            → behind self.old.edits (first_line rest self.old.file self.old.line (length self.old.edits + 1) draft begun text.now said)
-            ≡ next rest self.new) }
-        ensures err { IfErr result (λ fault. (rest : Rest)
-            → Tells fault (behind self.old.edits (first_line rest self.old.file self.old.line (length self.old.edits + 1) draft begun text.now said))) }
+        requires { self.old.pending ≡ ScriptReaderState.Nothing }
+        ensures ok { OnOk result ((rest : ReadingOfRemainingLines)
+            → result_after_edits self.old.edits (result_at_first_payload_line rest self.old.file self.old.line (length self.old.edits + 1) draft begun text.now said)
+            ≡ result_from_reader_state rest self.new) }
+        ensures err { IfErr result (λ fault. (rest : ReadingOfRemainingLines)
+            → IsFaultOrNoMemory fault (result_after_edits self.old.edits (result_at_first_payload_line rest self.old.file self.old.line (length self.old.edits + 1) draft begun text.now said))) }
         ensures line { self.new.line ≡ self.old.line }
     {
         match said {
-            Said::More => {
+            ParsedScriptLine::More => {
                 let text = Text::from_slice(alloc, text)?;
-                self.pending = Open::Going { draft, text };
+                self.pending = ScriptReaderState::Going { draft, text };
             }
-            Said::Last => {
+            ParsedScriptLine::Last => {
                 let text = Text::from_slice(alloc, text)?;
-                self.edits.push(draft.with_text(text))?;
+                self.edits.push(draft.into_edit_with_text(text))?;
             }
-            Said::Unended => return Err(ScriptFault::BadWord { line: self.line }),
+            ParsedScriptLine::Unended => return Err(ScriptFault::BadWord { line: self.line }),
             _ => return Err(ScriptFault::NoPayload { line: begun }),
         }
         Ok(())
     }
 
     /// Takes a line behind the first part of a text.
-    fn take_later(
+    fn take_later_payload_line(
         &mut self,
-        draft: Draft,
+        draft: EditAwaitingText,
         mut so_far: Text,
         text: &[u8],
-        said: Said,
+        said: ParsedScriptLine,
     ) -> Result<(), ScriptFault>
-        requires { self.old.pending ≡ Open.Nothing }
-        ensures ok { OnOk result ((rest : Rest)
-            → behind self.old.edits (later_line rest self.old.file self.old.line (length self.old.edits + 1) draft so_far text.now said)
-            ≡ next rest self.new) }
-        ensures err { IfErr result (λ fault. (rest : Rest)
-            → Tells fault (behind self.old.edits (later_line rest self.old.file self.old.line (length self.old.edits + 1) draft so_far text.now said))) }
+        requires { self.old.pending ≡ ScriptReaderState.Nothing }
+        ensures ok { OnOk result ((rest : ReadingOfRemainingLines)
+            → result_after_edits self.old.edits (result_at_later_payload_line rest self.old.file self.old.line (length self.old.edits + 1) draft so_far text.now said)
+            ≡ result_from_reader_state rest self.new) }
+        ensures err { IfErr result (λ fault. (rest : ReadingOfRemainingLines)
+            → IsFaultOrNoMemory fault (result_after_edits self.old.edits (result_at_later_payload_line rest self.old.file self.old.line (length self.old.edits + 1) draft so_far text.now said))) }
         ensures line { self.new.line ≡ self.old.line }
     {
         match said {
-            Said::More => {
+            ParsedScriptLine::More => {
                 so_far.extend_from_slice(text)?;
-                self.pending = Open::Going {
+                self.pending = ScriptReaderState::Going {
                     draft,
                     text: so_far,
                 };
                 Ok(())
             }
-            Said::Last if text.is_empty() => Err(ScriptFault::BadWord { line: self.line }),
-            Said::Last => {
+            ParsedScriptLine::Last if text.is_empty() => Err(ScriptFault::BadWord {
+                line: self.line,
+            }),
+            ParsedScriptLine::Last => {
                 so_far.extend_from_slice(text)?;
-                self.edits.push(draft.with_text(so_far))?;
+                self.edits.push(draft.into_edit_with_text(so_far))?;
                 Ok(())
             }
-            Said::Unended => Err(ScriptFault::BadWord { line: self.line }),
+            ParsedScriptLine::Unended => Err(ScriptFault::BadWord { line: self.line }),
             _ => {
-                self.edits.push(draft.with_text(so_far))?;
-                self.take_command(said)
+                self.edits.push(draft.into_edit_with_text(so_far))?;
+                self.take_command_line(said)
             }
         }
     }
 
     /// Sets the file of the `file` line before this line, if this line names lines.
-    fn set_file(&mut self, line: &[u8]) -> Result<(), ScriptFault>
-        ensures ok { OnOk result ((lines : List (List ℕ)) → outcome self.old (line.now ∷ lines) ≡ outcome self.new (line.now ∷ lines)) }
-        ensures err { IfErr result (λ fault. (lines : List (List ℕ)) → Tells fault (outcome self.old (line.now ∷ lines))) }
+    fn apply_pending_file_line(&mut self, line: &[u8]) -> Result<(), ScriptFault>
+        ensures ok { OnOk result ((lines : List (List ℕ)) → result_of_remaining_lines self.old (line.now ∷ lines) ≡ result_of_remaining_lines self.new (line.now ∷ lines)) }
+        ensures err { IfErr result (λ fault. (lines : List (List ℕ)) → IsFaultOrNoMemory fault (result_of_remaining_lines self.old (line.now ∷ lines))) }
         ensures line { self.new.line ≡ self.old.line }
-        ensures pending { OnOk result ((file : Option ℕ) (at : ℕ) → self.new.pending ≡ Open.Filed file at → ⊥) }
+        ensures pending { OnOk result ((file : Option ℕ) (at : ℕ) → self.new.pending ≡ ScriptReaderState.Filed file at → ⊥) }
     {
-        let Open::Filed { file, line: at } = self.pending else {
+        let ScriptReaderState::Filed { file, line: at } = self.pending else {
             return Ok(());
         };
-        if !names_lines(line) {
+        if !is_file_scoped_line(line) {
             return Err(ScriptFault::BadWord { line: at });
         }
         self.file = file.ok_or(ScriptFault::BadNumber { line: at })?;
-        self.pending = Open::Nothing;
+        self.pending = ScriptReaderState::Nothing;
         Ok(())
     }
 
     /// Takes the next line.
-    fn take_line(&mut self, alloc: Global, line: &[u8]) -> Result<(), ScriptFault>
+    fn take_script_line(&mut self, alloc: Global, line: &[u8]) -> Result<(), ScriptFault>
         requires { self.old.line < 2 ^ 63 }
-        ensures ok { OnOk result ((lines : List (List ℕ)) → outcome self.old (line.now ∷ lines)
-            ≡ outcome self.new lines) }
+        ensures ok { OnOk result ((lines : List (List ℕ)) → result_of_remaining_lines self.old (line.now ∷ lines)
+            ≡ result_of_remaining_lines self.new lines) }
         ensures err { IfErr result (λ fault. (lines : List (List ℕ))
-            → Tells fault (outcome self.old (line.now ∷ lines))) }
+            → IsFaultOrNoMemory fault (result_of_remaining_lines self.old (line.now ∷ lines))) }
         ensures line { OnOk result (self.new.line ≡ self.old.line + 1) }
     {
-        self.set_file(line)?;
-        let said = sense_of(alloc, self.file, line)?;
-        let text = text_of(line, &said);
-        match replace(&mut self.pending, Open::Nothing) {
-            // `set_file` leaves no `file` line pending.
-            Open::Nothing | Open::Filed { .. } => self.take_command(said)?,
-            Open::Begun { draft, line: begun } => {
-                self.take_first(alloc, draft, begun, text, said)?;
+        self.apply_pending_file_line(line)?;
+        let said = parse_script_line(alloc, self.file, line)?;
+        let text = payload_text_of_line(line, &said);
+        match replace(&mut self.pending, ScriptReaderState::Nothing) {
+            // `apply_pending_file_line` leaves no `file` line pending.
+            ScriptReaderState::Nothing | ScriptReaderState::Filed { .. } => self.take_command_line(
+                said,
+            )?,
+            ScriptReaderState::Begun { draft, line: begun } => {
+                self.take_first_payload_line(alloc, draft, begun, text, said)?;
             }
-            Open::Going {
+            ScriptReaderState::Going {
                 draft,
                 text: so_far,
-            } => self.take_later(draft, so_far, text, said)?,
+            } => self.take_later_payload_line(draft, so_far, text, said)?,
         }
         self.line += 1;
         Ok(())
     }
 
     /// The edits, where no line is left.
-    fn finish(self) -> Result<Edits, ScriptFault>
-        ensures { Reads result (outcome self []) }
+    fn finish_script(self) -> Result<Edits, ScriptFault>
+        ensures { MatchesScriptReading result (result_of_remaining_lines self []) }
     {
-        let Reading {
+        let ScriptReader {
             mut edits,
             pending,
             ..
         } = self;
         match pending {
-            Open::Nothing => {}
-            Open::Filed { line, .. } => return Err(ScriptFault::BadWord { line }),
-            Open::Begun { line, .. } => return Err(ScriptFault::NoPayload { line }),
-            Open::Going { draft, text } => edits.push(draft.with_text(text))?,
+            ScriptReaderState::Nothing => {}
+            ScriptReaderState::Filed { line, .. } => return Err(ScriptFault::BadWord { line }),
+            ScriptReaderState::Begun { line, .. } => return Err(ScriptFault::NoPayload { line }),
+            ScriptReaderState::Going { draft, text } => edits.push(draft.into_edit_with_text(
+                text,
+            ))?,
         }
         Ok(edits)
     }
@@ -299,20 +317,20 @@ impl Reading {
 ///
 /// The first cause of [`ScriptFault`], with the line where it is.
 pub fn read_script(alloc: Global, text: &[u8]) -> Result<Edits, ScriptFault>
-    ensures edits { IfOk result (λ edits. (text.now ≡ spelling edits) × (length edits ≤ edit_limit)) }
-    ensures reading { Reads result (reading text.now) }
+    ensures edits { IfOk result (λ edits. (text.now ≡ spelling_of_edits edits) × (length edits ≤ edit_limit)) }
+    ensures reading { MatchesScriptReading result (edits_spelled_by_text text.now) }
 {
-    let mut reading = Reading {
+    let mut reading = ScriptReader {
         edits: Edits::new(alloc),
-        pending: Open::Nothing,
+        pending: ScriptReaderState::Nothing,
         file: 0,
         line: 1,
     };
     let mut rest = text;
     while !rest.is_empty() {
-        let (line, behind) = rest.split_at(first_line_len(rest));
-        reading.take_line(alloc, line)?;
+        let (line, behind) = rest.split_at(first_physical_line_len(rest));
+        reading.take_script_line(alloc, line)?;
         rest = behind;
     }
-    reading.finish()
+    reading.finish_script()
 }

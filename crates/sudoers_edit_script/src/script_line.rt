@@ -1,17 +1,17 @@
 //! What a line of a script says.
 ghost use Rattle.std.specs.Prelude.{◌≡◌, ◌≤◌, ◌∷◌, ◌==◌, ◌||◌, [], length, take, drop, IfOk, MatchOption, MatchResult, Ok, Err};
 ghost use Rattle.std.specs.List.{list_any};
-ghost use Rattle.sudoers_line.specs.Piece.{looked_up};
-ghost use Rattle.sudoers_edit_script.specs.Script.{is_word as has_word};
-ghost use Rattle.sudoers_edit_script.specs.ScriptReading.{adding, alias_and_word, alone, dropping, file_said, kinds, names_lines as has_line_word, one_place, place_of_word, renaming, said_by, said_by_words, sense, text_in, two_places, without_end as line_body, words};
-ghost use Rattle.sudoers_edit_script.specs.internal.ScriptStanding.{words_behind};
+ghost use Rattle.sudoers_grammar.specs.Piece.{value_of_matching_row};
+ghost use Rattle.sudoers_edit_script.specs.Script.{is_spellable_word as has_word};
+ghost use Rattle.sudoers_edit_script.specs.ScriptReading.{parsed_add_command, parsed_alias_and_word, parsed_one_word_command, parsed_drop_command, parsed_file_line, alias_kinds_by_word, has_file_scoped_command as has_line_word, parsed_single_place, place_of_word, parsed_rename_command, parsed_command_arguments, parsed_words_of_line, parsed_script_line, text_of_payload_line, parsed_two_places, line_without_final_lf as line_body, words_between_spaces};
+ghost use Rattle.sudoers_edit_script.specs.internal.ScriptStanding.{words_after_first};
 
-use crate::command::{Command, command_of};
-use crate::draft::Draft;
+use crate::command_words::{EditCommand, command_of_word};
 use crate::edit::{Edit, Text};
+use crate::edit_awaiting_text::EditAwaitingText;
 use memchr::memchr;
 use std::alloc::{AllocError, Global};
-use sudoers_line::Kind;
+use sudoers_grammar::Kind;
 use sudoers_text::ends_in_lf;
 
 /// The greatest number of a line.
@@ -19,13 +19,13 @@ const MAX_NUMBER: u64 = 4_294_967_296;
 
 /// What a line of a script says.
 #[derive(Drop)]
-pub enum Said {
+pub enum ParsedScriptLine {
     /// The command of an edit that wants a text.
-    Begin(Draft),
+    Begin(EditAwaitingText),
     /// The command of an edit, which is all of it.
     Whole(Edit),
     /// It begins with the word of a command, and is none.
-    Flawed(Flaw),
+    Flawed(CommandFlaw),
     /// A `file` line, with the file that it sets, or none if its number is none.
     File(Option<u32>),
     /// `|`, and a line of a text with its LF.
@@ -40,7 +40,7 @@ pub enum Said {
 
 /// Why a line that begins with the word of a command is none.
 #[derive(Clone, Copy)]
-pub enum Flaw {
+pub enum CommandFlaw {
     /// Words are too few or too many, a kind or a name is none, or the line does not end in LF.
     Word,
     /// It is right but for a number.
@@ -48,8 +48,8 @@ pub enum Flaw {
 }
 
 /// The kind that a word stands for.
-fn kind_of(word: &[u8]) -> Option<Kind>
-    ensures { result ≡ looked_up kinds word.now }
+fn alias_kind_of_word(word: &[u8]) -> Option<Kind>
+    ensures { result ≡ value_of_matching_row alias_kinds_by_word word.now }
 {
     if word == b"user".as_slice() {
         Some(Kind::User)
@@ -65,21 +65,21 @@ fn kind_of(word: &[u8]) -> Option<Kind>
 }
 
 /// Whether a space or LF stands in a text.
-fn has_break(text: &[u8]) -> bool
+fn has_space_or_lf(text: &[u8]) -> bool
     ensures { result ≡ list_any (λ byte. (byte == 32) || (byte == 10)) text.now }
 {
     text.iter().any(|byte| *byte == b' ' || *byte == b'\n')
 }
 
 /// Whether a name has a spelling: one or more bytes other than space and LF.
-pub fn is_word(name: &[u8]) -> bool
+pub fn is_script_word(name: &[u8]) -> bool
     ensures { result ≡ has_word name.now }
 {
-    !name.is_empty() && !has_break(name)
+    !name.is_empty() && !has_space_or_lf(name)
 }
 
 /// The place that a word stands for.
-fn place_of(word: &[u8]) -> Option<u32>
+fn parse_place_number(word: &[u8]) -> Option<u32>
     ensures { result ≡ place_of_word word.now }
 {
     let mut number: u64 = 0;
@@ -101,7 +101,7 @@ fn place_of(word: &[u8]) -> Option<u32>
 /// How many bytes stand before the first space.
 fn first_word_len(text: &[u8]) -> usize
     ensures within { result ≤ length text.now }
-    ensures first { words text.now ≡ take result text.now ∷ words_behind (drop result text.now) }
+    ensures first { words_between_spaces text.now ≡ take result text.now ∷ words_after_first (drop result text.now) }
 {
     match memchr(b' ', text) {
         Some(at) => at,
@@ -110,189 +110,205 @@ fn first_word_len(text: &[u8]) -> usize
 }
 
 /// The word behind a space, and the rest behind that word; the whole is empty or begins with the space.
-fn next_word(rest: &[u8]) -> Option<(&[u8], &[u8])>
-    ensures { MatchOption result (words_behind rest.now ≡ [])
-        (λ next. words_behind rest.now ≡ next.0.now ∷ words_behind next.1.now) }
+fn split_next_word(rest: &[u8]) -> Option<(&[u8], &[u8])>
+    ensures { MatchOption result (words_after_first rest.now ≡ [])
+        (λ next. words_after_first rest.now ≡ next.0.now ∷ words_after_first next.1.now) }
 {
     let (_, text) = rest.split_first()?;
     Some(text.split_at(first_word_len(text)))
 }
 
 /// The one place behind the first word of a command.
-fn place_behind(rest: &[u8]) -> Result<u32, Flaw>
-    ensures { result ≡ one_place (words_behind rest.now) }
+fn parse_one_place(rest: &[u8]) -> Result<u32, CommandFlaw>
+    ensures { result ≡ parsed_single_place (words_after_first rest.now) }
 {
-    let Some((word, rest)) = next_word(rest) else {
-        return Err(Flaw::Word);
+    let Some((word, rest)) = split_next_word(rest) else {
+        return Err(CommandFlaw::Word);
     };
-    if next_word(rest).is_some() {
-        return Err(Flaw::Word);
+    if split_next_word(rest).is_some() {
+        return Err(CommandFlaw::Word);
     }
-    place_of(word).ok_or(Flaw::Number)
+    parse_place_number(word).ok_or(CommandFlaw::Number)
 }
 
 /// The two places behind the first word of a command.
-fn places_behind(rest: &[u8]) -> Result<(u32, u32), Flaw>
-    ensures { result ≡ two_places (words_behind rest.now) }
+fn parse_two_places(rest: &[u8]) -> Result<(u32, u32), CommandFlaw>
+    ensures { result ≡ parsed_two_places (words_after_first rest.now) }
 {
-    let Some((word, rest)) = next_word(rest) else {
-        return Err(Flaw::Word);
+    let Some((word, rest)) = split_next_word(rest) else {
+        return Err(CommandFlaw::Word);
     };
-    let Some((next, rest)) = next_word(rest) else {
-        return Err(Flaw::Word);
+    let Some((next, rest)) = split_next_word(rest) else {
+        return Err(CommandFlaw::Word);
     };
-    if next_word(rest).is_some() {
-        return Err(Flaw::Word);
+    if split_next_word(rest).is_some() {
+        return Err(CommandFlaw::Word);
     }
-    match (place_of(word), place_of(next)) {
+    match (parse_place_number(word), parse_place_number(next)) {
         (Some(first), Some(second)) => Ok((first, second)),
-        _ => Err(Flaw::Number),
+        _ => Err(CommandFlaw::Number),
     }
 }
 
 /// The kind and the name of an alias, and one word more, behind the first word of a command.
-fn alias_behind(rest: &[u8]) -> Result<(Kind, &[u8], &[u8]), Flaw>
-    ensures { MatchResult result (λ alias. alias_and_word (words_behind rest.now) ≡ Ok (alias.0, alias.1.now, alias.2.now))
-        (λ flaw. alias_and_word (words_behind rest.now) ≡ Err flaw) }
+fn parse_alias_and_word(rest: &[u8]) -> Result<(Kind, &[u8], &[u8]), CommandFlaw>
+    ensures { MatchResult result (λ alias. parsed_alias_and_word (words_after_first rest.now) ≡ Ok (alias.0, alias.1.now, alias.2.now))
+        (λ flaw. parsed_alias_and_word (words_after_first rest.now) ≡ Err flaw) }
 {
-    let Some((word, rest)) = next_word(rest) else {
-        return Err(Flaw::Word);
+    let Some((word, rest)) = split_next_word(rest) else {
+        return Err(CommandFlaw::Word);
     };
-    let Some((name, rest)) = next_word(rest) else {
-        return Err(Flaw::Word);
+    let Some((name, rest)) = split_next_word(rest) else {
+        return Err(CommandFlaw::Word);
     };
-    let Some((more, rest)) = next_word(rest) else {
-        return Err(Flaw::Word);
+    let Some((more, rest)) = split_next_word(rest) else {
+        return Err(CommandFlaw::Word);
     };
-    if next_word(rest).is_some() {
-        return Err(Flaw::Word);
+    if split_next_word(rest).is_some() {
+        return Err(CommandFlaw::Word);
     }
-    match kind_of(word) {
-        Some(kind) if is_word(name) => Ok((kind, name, more)),
-        _ => Err(Flaw::Word),
+    match alias_kind_of_word(word) {
+        Some(kind) if is_script_word(name) => Ok((kind, name, more)),
+        _ => Err(CommandFlaw::Word),
     }
 }
 
 /// What `add` says, by the rest of its line.
-fn add_said(alloc: Global, rest: &[u8]) -> Result<Said, AllocError>
-    ensures { IfOk result (λ said. said ≡ adding (words_behind rest.now)) }
+fn parse_add_command(alloc: Global, rest: &[u8]) -> Result<ParsedScriptLine, AllocError>
+    ensures { IfOk result (λ said. said ≡ parsed_add_command (words_after_first rest.now)) }
 {
-    match alias_behind(rest) {
-        Ok((kind, name, word)) => match place_of(word) {
+    match parse_alias_and_word(rest) {
+        Ok((kind, name, word)) => match parse_place_number(word) {
             Some(at) => {
                 let name = Text::from_slice(alloc, name)?;
-                Ok(Said::Begin(Draft::AddMember { kind, name, at }))
+                Ok(ParsedScriptLine::Begin(EditAwaitingText::AddMember { kind, name, at }))
             }
-            None => Ok(Said::Flawed(Flaw::Number)),
+            None => Ok(ParsedScriptLine::Flawed(CommandFlaw::Number)),
         },
-        Err(flaw) => Ok(Said::Flawed(flaw)),
+        Err(flaw) => Ok(ParsedScriptLine::Flawed(flaw)),
     }
 }
 
 /// What `drop` says, by the rest of its line.
-fn drop_said(alloc: Global, rest: &[u8]) -> Result<Said, AllocError>
-    ensures { IfOk result (λ said. said ≡ dropping (words_behind rest.now)) }
+fn parse_drop_command(alloc: Global, rest: &[u8]) -> Result<ParsedScriptLine, AllocError>
+    ensures { IfOk result (λ said. said ≡ parsed_drop_command (words_after_first rest.now)) }
 {
-    match alias_behind(rest) {
-        Ok((kind, name, word)) => match place_of(word) {
+    match parse_alias_and_word(rest) {
+        Ok((kind, name, word)) => match parse_place_number(word) {
             Some(at) => {
                 let name = Text::from_slice(alloc, name)?;
-                Ok(Said::Whole(Edit::DropMember { kind, name, at }))
+                Ok(ParsedScriptLine::Whole(Edit::DropMember { kind, name, at }))
             }
-            None => Ok(Said::Flawed(Flaw::Number)),
+            None => Ok(ParsedScriptLine::Flawed(CommandFlaw::Number)),
         },
-        Err(flaw) => Ok(Said::Flawed(flaw)),
+        Err(flaw) => Ok(ParsedScriptLine::Flawed(flaw)),
     }
 }
 
 /// What `rename` says, by the rest of its line.
-fn rename_said(alloc: Global, rest: &[u8]) -> Result<Said, AllocError>
-    ensures { IfOk result (λ said. said ≡ renaming (words_behind rest.now)) }
+fn parse_rename_command(alloc: Global, rest: &[u8]) -> Result<ParsedScriptLine, AllocError>
+    ensures { IfOk result (λ said. said ≡ parsed_rename_command (words_after_first rest.now)) }
 {
-    match alias_behind(rest) {
+    match parse_alias_and_word(rest) {
         Ok((kind, name, fresh)) => {
-            if !is_word(fresh) {
-                return Ok(Said::Flawed(Flaw::Word));
+            if !is_script_word(fresh) {
+                return Ok(ParsedScriptLine::Flawed(CommandFlaw::Word));
             }
             let name = Text::from_slice(alloc, name)?;
             let fresh = Text::from_slice(alloc, fresh)?;
-            Ok(Said::Whole(Edit::Rename { kind, name, fresh }))
+            Ok(ParsedScriptLine::Whole(Edit::Rename { kind, name, fresh }))
         }
-        Err(flaw) => Ok(Said::Flawed(flaw)),
+        Err(flaw) => Ok(ParsedScriptLine::Flawed(flaw)),
     }
 }
 
 /// What a command of one word says, by the rest of its line.
-fn alone_said(edit: Edit, rest: &[u8]) -> Said
-    ensures { result ≡ alone edit (words_behind rest.now) }
+fn parse_one_word_command(edit: Edit, rest: &[u8]) -> ParsedScriptLine
+    ensures { result ≡ parsed_one_word_command edit (words_after_first rest.now) }
 {
-    if next_word(rest).is_some() {
-        return Said::Flawed(Flaw::Word);
+    if split_next_word(rest).is_some() {
+        return ParsedScriptLine::Flawed(CommandFlaw::Word);
     }
-    Said::Whole(edit)
+    ParsedScriptLine::Whole(edit)
 }
 
 /// Returns what a command says where this file is set, by the rest of its line, which ends in LF.
-fn command_said(alloc: Global, file: u32, command: Command, rest: &[u8]) -> Result<Said, AllocError>
-    ensures { IfOk result (λ said. said ≡ said_by file command (words_behind rest.now)) }
+fn parse_command_arguments(
+    alloc: Global,
+    file: u32,
+    command: EditCommand,
+    rest: &[u8],
+) -> Result<ParsedScriptLine, AllocError>
+    ensures { IfOk result (λ said. said ≡ parsed_command_arguments file command (words_after_first rest.now)) }
 {
     match command {
-        Command::Insert => match place_behind(rest) {
-            Ok(at) => Ok(Said::Begin(Draft::Insert { file, at })),
-            Err(flaw) => Ok(Said::Flawed(flaw)),
+        EditCommand::Insert => match parse_one_place(rest) {
+            Ok(at) => Ok(ParsedScriptLine::Begin(EditAwaitingText::Insert { file, at })),
+            Err(flaw) => Ok(ParsedScriptLine::Flawed(flaw)),
         },
-        Command::Delete => match place_behind(rest) {
-            Ok(at) => Ok(Said::Whole(Edit::Delete { file, at })),
-            Err(flaw) => Ok(Said::Flawed(flaw)),
+        EditCommand::Delete => match parse_one_place(rest) {
+            Ok(at) => Ok(ParsedScriptLine::Whole(Edit::Delete { file, at })),
+            Err(flaw) => Ok(ParsedScriptLine::Flawed(flaw)),
         },
-        Command::Move => match places_behind(rest) {
-            Ok((from, to)) => Ok(Said::Whole(Edit::Move { file, from, to })),
-            Err(flaw) => Ok(Said::Flawed(flaw)),
+        EditCommand::Move => match parse_two_places(rest) {
+            Ok((from, to)) => Ok(ParsedScriptLine::Whole(Edit::Move { file, from, to })),
+            Err(flaw) => Ok(ParsedScriptLine::Flawed(flaw)),
         },
-        Command::AddDef => match places_behind(rest) {
-            Ok((line, at)) => Ok(Said::Begin(Draft::AddDef { file, line, at })),
-            Err(flaw) => Ok(Said::Flawed(flaw)),
+        EditCommand::AddDef => match parse_two_places(rest) {
+            Ok((line, at)) => Ok(ParsedScriptLine::Begin(EditAwaitingText::AddDef {
+                file,
+                line,
+                at,
+            })),
+            Err(flaw) => Ok(ParsedScriptLine::Flawed(flaw)),
         },
-        Command::DropDef => match places_behind(rest) {
-            Ok((line, at)) => Ok(Said::Whole(Edit::DropDef { file, line, at })),
-            Err(flaw) => Ok(Said::Flawed(flaw)),
+        EditCommand::DropDef => match parse_two_places(rest) {
+            Ok((line, at)) => Ok(ParsedScriptLine::Whole(Edit::DropDef { file, line, at })),
+            Err(flaw) => Ok(ParsedScriptLine::Flawed(flaw)),
         },
-        Command::AddMember => add_said(alloc, rest),
-        Command::DropMember => drop_said(alloc, rest),
-        Command::Rename => rename_said(alloc, rest),
-        Command::EndLine => Ok(alone_said(Edit::EndLine { file }, rest)),
-        Command::OpenEnd => Ok(alone_said(Edit::OpenEnd { file }, rest)),
-        Command::Prune => Ok(alone_said(Edit::Prune, rest)),
+        EditCommand::AddMember => parse_add_command(alloc, rest),
+        EditCommand::DropMember => parse_drop_command(alloc, rest),
+        EditCommand::Rename => parse_rename_command(alloc, rest),
+        EditCommand::EndLine => Ok(parse_one_word_command(Edit::EndLine { file }, rest)),
+        EditCommand::OpenEnd => Ok(parse_one_word_command(Edit::OpenEnd { file }, rest)),
+        EditCommand::Prune => Ok(parse_one_word_command(Edit::Prune, rest)),
     }
 }
 
 /// Returns what a `file` line says, by the rest of it.
-fn file_line_said(rest: &[u8], is_ended: bool) -> Said
-    ensures { result ≡ file_said is_ended (words_behind rest.now) }
+fn parse_file_line(rest: &[u8], is_ended: bool) -> ParsedScriptLine
+    ensures { result ≡ parsed_file_line is_ended (words_after_first rest.now) }
 {
-    match next_word(rest) {
-        Some((word, rest)) if is_ended && next_word(rest).is_none() => Said::File(place_of(word)),
-        _ => Said::Other,
+    match split_next_word(rest) {
+        Some((word, rest)) if is_ended && split_next_word(rest).is_none() => ParsedScriptLine::File(
+            parse_place_number(word),
+        ),
+        _ => ParsedScriptLine::Other,
     }
 }
 
 /// Returns what a line says where this file is set, by its words.
-fn words_said(alloc: Global, file: u32, text: &[u8], is_ended: bool) -> Result<Said, AllocError>
-    ensures { IfOk result (λ said. said ≡ said_by_words file is_ended (words text.now)) }
+fn parse_words_of_line(
+    alloc: Global,
+    file: u32,
+    text: &[u8],
+    is_ended: bool,
+) -> Result<ParsedScriptLine, AllocError>
+    ensures { IfOk result (λ said. said ≡ parsed_words_of_line file is_ended (words_between_spaces text.now)) }
 {
     let (word, rest) = text.split_at(first_word_len(text));
     if word == b"file".as_slice() {
-        return Ok(file_line_said(rest, is_ended));
+        return Ok(parse_file_line(rest, is_ended));
     }
-    match command_of(word) {
-        Some(command) if is_ended => command_said(alloc, file, command, rest),
-        Some(_) => Ok(Said::Flawed(Flaw::Word)),
-        None => Ok(Said::Other),
+    match command_of_word(word) {
+        Some(command) if is_ended => parse_command_arguments(alloc, file, command, rest),
+        Some(_) => Ok(ParsedScriptLine::Flawed(CommandFlaw::Word)),
+        None => Ok(ParsedScriptLine::Other),
     }
 }
 
 /// Returns the line without the LF at its end.
-fn without_end(line: &[u8]) -> &[u8]
+fn drop_final_lf(line: &[u8]) -> &[u8]
     ensures { result.now ≡ line_body line.now }
 {
     if ends_in_lf(line) {
@@ -303,32 +319,36 @@ fn without_end(line: &[u8]) -> &[u8]
 }
 
 /// Returns whether the first word of a line is that of a command whose edits name lines.
-pub fn names_lines(line: &[u8]) -> bool
+pub fn is_file_scoped_line(line: &[u8]) -> bool
     ensures { result ≡ has_line_word line.now }
 {
-    let text = without_end(line);
-    match command_of(&text[..first_word_len(text)]) {
-        Some(command) => command.has_lines(),
+    let text = drop_final_lf(line);
+    match command_of_word(&text[..first_word_len(text)]) {
+        Some(command) => command.is_file_scoped(),
         None => false,
     }
 }
 
 /// Returns what a line says where this file is set.
-pub fn sense_of(alloc: Global, file: u32, line: &[u8]) -> Result<Said, AllocError>
-    ensures { IfOk result (λ said. said ≡ sense file line.now) }
+pub fn parse_script_line(
+    alloc: Global,
+    file: u32,
+    line: &[u8],
+) -> Result<ParsedScriptLine, AllocError>
+    ensures { IfOk result (λ said. said ≡ parsed_script_line file line.now) }
 {
     let is_ended = ends_in_lf(line);
     match line.first() {
-        None => Ok(Said::Other),
-        Some(b'|' | b'>') if !is_ended => Ok(Said::Unended),
-        Some(b'|') => Ok(Said::More),
-        Some(b'>') => Ok(Said::Last),
-        Some(_) => words_said(alloc, file, without_end(line), is_ended),
+        None => Ok(ParsedScriptLine::Other),
+        Some(b'|' | b'>') if !is_ended => Ok(ParsedScriptLine::Unended),
+        Some(b'|') => Ok(ParsedScriptLine::More),
+        Some(b'>') => Ok(ParsedScriptLine::Last),
+        Some(_) => parse_words_of_line(alloc, file, drop_final_lf(line), is_ended),
     }
 }
 
 /// Returns the bytes behind the first one.
-fn behind_first(text: &[u8]) -> &[u8]
+fn drop_first_byte(text: &[u8]) -> &[u8]
     ensures { result.now ≡ drop 1 text.now }
 {
     match text.split_first() {
@@ -338,12 +358,12 @@ fn behind_first(text: &[u8]) -> &[u8]
 }
 
 /// The text that a line stands for.
-pub fn text_of<'a>(line: &'a [u8], said: &Said) -> &'a [u8]
-    ensures { result.now ≡ text_in said.now line.now }
+pub fn payload_text_of_line<'a>(line: &'a [u8], said: &ParsedScriptLine) -> &'a [u8]
+    ensures { result.now ≡ text_of_payload_line said.now line.now }
 {
     match said {
-        Said::More => behind_first(line),
-        Said::Last => behind_first(without_end(line)),
+        ParsedScriptLine::More => drop_first_byte(line),
+        ParsedScriptLine::Last => drop_first_byte(drop_final_lf(line)),
         _ => &[],
     }
 }

@@ -6,20 +6,20 @@ use Rattle.std.specs.declared.cmp.Ordering.TheVariants.{Less, Equal, Greater}
 use Rattle.std.specs.Ordering.{match_ordering, nat_cmp}
 use Rattle.std.specs.Cmp.Lexicographic.{slice_cmp}
 use Rattle.std.specs.BTreeSet.{insert_key}
-use Rattle.sudoers_files.specs.internal.Gathering.{by_bytes}
+use Rattle.sudoers_files.specs.internal.Gathering.{name_byte_order}
 
 -- the bytes of a name
-abbrev pub bytes : Vec ℕ Global → List ℕ
-bytes name = name.items
+abbrev pub bytes_of_name : Vec ℕ Global → List ℕ
+bytes_of_name name = name.items
 
 -- A name is inserted where its bytes are inserted.
-pub inserted : (order : List (Vec ℕ Global)) (name : Vec ℕ Global) → map bytes (insert_key by_bytes order name) ≡ insert_key (slice_cmp nat_cmp) (map bytes order) (bytes name)
-inserted [] name = refl
-inserted (other ∷ order) name = by (by_bytes name other) (inserted order name)
+pub bytes_of_inserted_name_are_inserted : (order : List (Vec ℕ Global)) (name : Vec ℕ Global) → map bytes_of_name (insert_key name_byte_order order name) ≡ insert_key (slice_cmp nat_cmp) (map bytes_of_name order) (bytes_of_name name)
+bytes_of_inserted_name_are_inserted [] name = refl
+bytes_of_inserted_name_are_inserted (other ∷ order) name = by (name_byte_order name other) (bytes_of_inserted_name_are_inserted order name)
   where
-    by : (o : Ordering) → map bytes (insert_key by_bytes order name) ≡ insert_key (slice_cmp nat_cmp) (map bytes order) (bytes name)
-        → map bytes (match_ordering o (name ∷ other ∷ order) (other ∷ order) (other ∷ insert_key by_bytes order name))
-        ≡ match_ordering o (bytes name ∷ map bytes (other ∷ order)) (map bytes (other ∷ order)) (bytes other ∷ insert_key (slice_cmp nat_cmp) (map bytes order) (bytes name))
+    by : (o : Ordering) → map bytes_of_name (insert_key name_byte_order order name) ≡ insert_key (slice_cmp nat_cmp) (map bytes_of_name order) (bytes_of_name name)
+        → map bytes_of_name (match_ordering o (name ∷ other ∷ order) (other ∷ order) (other ∷ insert_key name_byte_order order name))
+        ≡ match_ordering o (bytes_of_name name ∷ map bytes_of_name (other ∷ order)) (map bytes_of_name (other ∷ order)) (bytes_of_name other ∷ insert_key (slice_cmp nat_cmp) (map bytes_of_name order) (bytes_of_name name))
     by Less later = refl
     by Equal later = refl
-    by Greater later = ap (λ names. bytes other ∷ names) later
+    by Greater later = ap (λ names. bytes_of_name other ∷ names) later

@@ -5,14 +5,14 @@ use Rattle.std.specs.Cmp.Lexicographic.{slice_cmp}
 use Rattle.std.specs.BTreeSet.{insert_key}
 
 -- the names `before`, which are in the order of their bytes, and the other names, all in that order and each once
-abbrev pub in_order : List (List ℕ) → List (List ℕ) → List (List ℕ)
-in_order before [] = before
-in_order before (name ∷ names) = in_order (insert_key (slice_cmp nat_cmp) before name) names
+abbrev pub names_sorted_and_unique : List (List ℕ) → List (List ℕ) → List (List ℕ)
+names_sorted_and_unique before [] = before
+names_sorted_and_unique before (name ∷ names) = names_sorted_and_unique (insert_key (slice_cmp nat_cmp) before name) names
 
 -- the whole name of the file `base` in the folder `dir`
-abbrev pub name_in : List ℕ → List ℕ → List ℕ
-name_in dir base = dir ++ 47 ∷ base
+abbrev pub file_name_of_base_in_folder : List ℕ → List ℕ → List ℕ
+file_name_of_base_in_folder dir base = dir ++ 47 ∷ base
 
 -- the whole names of the files `bases` of a folder, in the order of their bytes
-abbrev pub named_in : List ℕ → List (List ℕ) → List (List ℕ)
-named_in dir bases = map (name_in dir) (in_order [] bases)
+abbrev pub sorted_file_names_in_folder : List ℕ → List (List ℕ) → List (List ℕ)
+sorted_file_names_in_folder dir bases = map (file_name_of_base_in_folder dir) (names_sorted_and_unique [] bases)

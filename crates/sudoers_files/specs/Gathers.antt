@@ -2,23 +2,23 @@
 -- Each file that is there comes once, and is followed by those to which its own lines lead. By the law `gather_is` the function `gathered`
 -- computes exactly this.
 use Rattle.std.specs.Prelude.{◌≡◌, ℕ, ◌≤◌, ◌<◌, true, false, List, [], ◌∷◌, ◌++◌, length, Some, None, Result, Ok, Err}
-use Rattle.sudoers_tree.specs.declared.load.NamedFile.{NamedFile}
-use Rattle.sudoers_tree.specs.Load.{file_limit, has_name}
+use Rattle.sudoers_tree.specs.declared.named_files.NamedFile.{NamedFile}
+use Rattle.sudoers_tree.specs.Load.{file_limit, has_file_with_name}
 use Rattle.sudoers_files.specs.declared.fault.GatherFault.{GatherFault}
 use Rattle.sudoers_files.specs.declared.fault.GatherFault.TheVariants.{NoRoot, TooManyFiles}
-use Rattle.sudoers_files.specs.Shelf.{front_of}
-use Rattle.sudoers_files.specs.Included.{included}
+use Rattle.sudoers_files.specs.Shelf.{limited_bytes_of_named_file}
+use Rattle.sudoers_files.specs.Included.{file_names_included_by_file}
 
 mutual
   -- the outcome of a visit of this name after these files are found
   pub data Visits (files : List NamedFile) : List NamedFile → List ℕ → Result (List NamedFile) GatherFault → Type 0 where
-    again : (found : List NamedFile) (name : List ℕ) → has_name name found ≡ true → Visits files found name (Ok found)
-    absent : (found : List NamedFile) (name : List ℕ) → has_name name found ≡ false → front_of name files ≡ None → Visits files found name (Ok found)
-    full : (found : List NamedFile) (name bytes : List ℕ) → has_name name found ≡ false → front_of name files ≡ Some bytes
+    again : (found : List NamedFile) (name : List ℕ) → has_file_with_name name found ≡ true → Visits files found name (Ok found)
+    absent : (found : List NamedFile) (name : List ℕ) → has_file_with_name name found ≡ false → limited_bytes_of_named_file name files ≡ None → Visits files found name (Ok found)
+    full : (found : List NamedFile) (name bytes : List ℕ) → has_file_with_name name found ≡ false → limited_bytes_of_named_file name files ≡ Some bytes
         → file_limit ≤ length found → Visits files found name (Err TooManyFiles)
     new : (found : List NamedFile) (name bytes : List ℕ) (outcome : Result (List NamedFile) GatherFault)
-        → has_name name found ≡ false → front_of name files ≡ Some bytes → length found < file_limit
-        → Follows files (found ++ record { name = name; bytes = bytes } ∷ []) (included files (record { name = name; bytes = bytes })) outcome
+        → has_file_with_name name found ≡ false → limited_bytes_of_named_file name files ≡ Some bytes → length found < file_limit
+        → Follows files (found ++ record { name = name; bytes = bytes } ∷ []) (file_names_included_by_file files (record { name = name; bytes = bytes })) outcome
         → Visits files found name outcome
 
   -- the outcome of visits of these names, one after another
@@ -30,7 +30,7 @@ mutual
         → Visits files found name (Ok now) → Follows files now names outcome → Follows files found (name ∷ names) outcome
 
 -- The outcome of gathering from the root on.
-pub data Gathers (files : List NamedFile) (root : List ℕ) : Result (List NamedFile) GatherFault → Type 0 where
-  no_root : front_of root files ≡ None → Gathers files root (Err NoRoot)
-  found : (bytes : List ℕ) (outcome : Result (List NamedFile) GatherFault) → front_of root files ≡ Some bytes
-      → Visits files [] root outcome → Gathers files root outcome
+pub data IsGatherOutcome (files : List NamedFile) (root : List ℕ) : Result (List NamedFile) GatherFault → Type 0 where
+  no_root : limited_bytes_of_named_file root files ≡ None → IsGatherOutcome files root (Err NoRoot)
+  found : (bytes : List ℕ) (outcome : Result (List NamedFile) GatherFault) → limited_bytes_of_named_file root files ≡ Some bytes
+      → Visits files [] root outcome → IsGatherOutcome files root outcome

@@ -1,7 +1,7 @@
 //! Why files cannot be gathered.
 
 ghost use Rattle.std.specs.Prelude.{◌≡◌};
-ghost use Rattle.sudoers_files.specs.Gather.{fault_of_file};
+ghost use Rattle.sudoers_files.specs.Gather.{gather_fault_of_file_fault};
 ghost use Rattle.sudoers_files.specs.declared.fault.FileFault.TheVariants as file_fault;
 ghost use Rattle.sudoers_files.specs.declared.fault.GatherFault.TheVariants as gather_fault;
 
@@ -72,7 +72,7 @@ impl<T: Drop> From<AllocFailed<T>> for GatherFault {
 }
 
 impl From<FileFault> for GatherFault {
-    ghost from_gives = { λ fault e. e ≡ fault_of_file fault };
+    ghost from_gives = { λ fault e. e ≡ gather_fault_of_file_fault fault };
 
     fn from(fault: FileFault) -> GatherFault {
         match fault {

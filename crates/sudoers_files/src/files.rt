@@ -1,7 +1,7 @@
 //! Files by their names.
 
 ghost use Rattle.std.specs.Prelude.{◌≡◌};
-ghost use Rattle.sudoers_files.specs.Shelf.{Lists, ListsUnread, Reads, Shelf, names_in, wanted_in};
+ghost use Rattle.sudoers_files.specs.Shelf.{IsFolderListing, IsUnreadListing, IsFileReadResult, FileDeviceState, base_names_in_folder, included_base_names_in};
 
 use crate::fault::FileFault;
 use std::alloc::Global;
@@ -10,7 +10,7 @@ use sudoers_tree::Items;
 /// Files by their names, and the folders in which they are.
 pub trait Files {
     /// The files, if they are known, and the counts of their device.
-    ghost shelf: { Self → Shelf };
+    ghost shelf: { Self → FileDeviceState };
 
     /// Returns the bytes of the file `name`, up to the first past the limit of a text. Returns nothing if the file is missing.
     ///
@@ -18,7 +18,7 @@ pub trait Files {
     ///
     /// [`FileFault`].
     fn read(&mut self, alloc: Global, name: &[u8]) -> Result<Option<Items<u8>>, FileFault>
-        ensures { Reads result name.now (shelf self.old) (shelf self.new) };
+        ensures { IsFileReadResult result name.now (shelf self.old) (shelf self.new) };
 
     /// Returns the names, without their folder, of the regular files in the folder `dir`. Returns no name if the folder is missing. The
     /// name `dir` does not end in `/`; that of the folder `/` is empty.
@@ -27,7 +27,7 @@ pub trait Files {
     ///
     /// [`FileFault`].
     fn names(&mut self, alloc: Global, dir: &[u8]) -> Result<Vec<Items<u8>>, FileFault>
-        ensures { Lists result (names_in dir.now) (shelf self.old) (shelf self.new) };
+        ensures { IsFolderListing result (base_names_in_folder dir.now) (shelf self.old) (shelf self.new) };
 
     /// Returns those of the names [`Files::names`] that an include of the folder `dir` reads: they have no `.` and do not end in `~`. Looks
     /// at no other files. The name `dir` does not end in `/`; that of the folder `/` is empty.
@@ -35,8 +35,12 @@ pub trait Files {
     /// # Errors
     ///
     /// [`FileFault`].
-    fn wanted(&mut self, alloc: Global, dir: &[u8]) -> Result<Vec<Items<u8>>, FileFault>
-        ensures { Lists result (wanted_in dir.now) (shelf self.old) (shelf self.new) };
+    fn list_included_names(
+        &mut self,
+        alloc: Global,
+        dir: &[u8],
+    ) -> Result<Vec<Items<u8>>, FileFault>
+        ensures { IsFolderListing result (included_base_names_in dir.now) (shelf self.old) (shelf self.new) };
 
     /// Returns the other names in the folder `dir`, without their folder: those that contain `.` or end in `~`, and those of links, folders
     /// and devices that are no regular file. Returns nothing if the folder is missing. The name `dir` does not end in `/`; that of the
@@ -45,8 +49,12 @@ pub trait Files {
     /// # Errors
     ///
     /// [`FileFault`].
-    fn unread(&mut self, alloc: Global, dir: &[u8]) -> Result<Option<Vec<Items<u8>>>, FileFault>
-        ensures { ListsUnread result dir.now (shelf self.old) (shelf self.new) };
+    fn list_skipped_names(
+        &mut self,
+        alloc: Global,
+        dir: &[u8],
+    ) -> Result<Option<Vec<Items<u8>>>, FileFault>
+        ensures { IsUnreadListing result dir.now (shelf self.old) (shelf self.new) };
 
     /// Returns how often the device failed. The count stops at the greatest number.
     fn failures(&self) -> u64

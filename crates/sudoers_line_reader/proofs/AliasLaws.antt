@@ -1,98 +1,98 @@
 -- Definitions of aliases, and includes.
 use Rattle.std.proofs.Common.{◌≡◌, Bool, true, false, codes, ◌||◌, List, ◌∷◌, refl, sym, ap, ◌∙◌, subst}
 use Rattle.sudoers_text.specs.declared.token.TokenKind.TheVariants as kind
-use Rattle.sudoers_text.specs.Value.{value_of}
-use Rattle.sudoers_line.specs.declared.node.Kind.{Kind}
-use Rattle.sudoers_line.specs.declared.node.Kind.TheVariants.{User, Runas, Host, Cmnd}
-use Rattle.sudoers_line.specs.Node.{Member, Def, Node}
-use Rattle.sudoers_line.specs.Node as node
-use Rattle.sudoers_line.specs.Piece.{Piece, is_mark, is_alias_name, kind_word, include_word}
-use Rattle.sudoers_line.specs.Atom.{path_value}
-use Rattle.sudoers_line.specs.Grammar.{Separated, AreMembers, IsList, list_stop, IsDef}
-use Rattle.sudoers_line_reader.specs.Reader.{separated}
-use Rattle.sudoers_line_reader.specs.Descent.{members, list, definition, def, alias, include}
-use Rattle.sudoers_line_reader.proofs.Keeps.{Rule, Lawful, never, IsPure, IsOne, Sample, one_lawful, IsToken, token_lawful, IsThen}
-use Rattle.sudoers_line_reader.proofs.Repeats.{mark_lawful, separated_lawful}
-use Rattle.sudoers_line_reader.proofs.Parts.{then_free, says_as, wider, map_lawful, either_off}
-use Rattle.sudoers_line_reader.proofs.MemberLaws.{members_lawful, some_all}
-use Rattle.sudoers_line_reader.proofs.CommandLaws.{on_commands, commands_lawful}
-use Rattle.sudoers_line_reader.proofs.SpecLaws.{colon_ends}
+use Rattle.sudoers_text.specs.Value.{value_of_word}
+use Rattle.sudoers_grammar.specs.declared.node.Kind.{Kind}
+use Rattle.sudoers_grammar.specs.declared.node.Kind.TheVariants.{User, Runas, Host, Cmnd}
+use Rattle.sudoers_grammar.specs.Node.{Member, Def, Node}
+use Rattle.sudoers_grammar.specs.Node as node
+use Rattle.sudoers_grammar.specs.Piece.{TokenWithBytes, is_mark_of_byte, is_alias_name, alias_kind_of_token, include_dir_of_token}
+use Rattle.sudoers_grammar.specs.Atom.{include_path_of_token}
+use Rattle.sudoers_grammar.specs.Grammar.{Separated, AreMembers, IsList, stop_of_last_member, IsDef}
+use Rattle.sudoers_line_reader.specs.Reader.{separated_list_reader}
+use Rattle.sudoers_line_reader.specs.Descent.{member_list_reader, alias_list_reader, definition_of_name_and_list, alias_definition_reader, alias_node_reader, include_node_reader}
+use Rattle.sudoers_line_reader.proofs.Keeps.{GrammarRule, ReaderFollowsRule, is_token_of_empty_test, IsEmptyReadingOf, IsOneTokenWithMeaning, HasSampleToken, one_token_reader_follows_rule, IsOnePassingToken, passing_token_reader_follows_rule, IsSequenceOfRules}
+use Rattle.sudoers_line_reader.proofs.Repeats.{mark_reader_follows_rule, separated_lawful}
+use Rattle.sudoers_line_reader.proofs.Parts.{sequence_after_ended_reader_follows_rule, reader_follows_rule_saying_the_same, reader_follows_rule_with_wider_test, mapped_reader_follows_rule, tokens_failing_either_test_fail_both}
+use Rattle.sudoers_line_reader.proofs.MemberLaws.{member_list_reader_follows_rule, token_of_word_all}
+use Rattle.sudoers_line_reader.proofs.CommandLaws.{may_continue_command_list, command_list_reader_follows_rule}
+use Rattle.sudoers_line_reader.proofs.SpecLaws.{colon_continues_no_command_list}
 
 -- ---- List, of that kind
 
-pub wide_members : (k : Kind) → Lawful (members k) (AreMembers k) on_commands
-wide_members k = wider on_commands (λ zs st. (either_off (is_mark 44) _ zs st).0) (members_lawful k)
+pub member_list_reader_follows_wider_rule : (k : Kind) → ReaderFollowsRule (member_list_reader k) (AreMembers k) may_continue_command_list
+member_list_reader_follows_wider_rule k = reader_follows_rule_with_wider_test may_continue_command_list (λ zs st. (tokens_failing_either_test_fail_both (is_mark_of_byte 44) _ zs st).0) (member_list_reader_follows_rule k)
 
-list_lawful : (k : Kind) → Lawful (list k) (IsList k) on_commands
-unfolding list
-list_lawful User = wide_members User
-list_lawful Runas = wide_members Runas
-list_lawful Host = wide_members Host
-list_lawful Cmnd = commands_lawful
+alias_list_reader_follows_rule : (k : Kind) → ReaderFollowsRule (alias_list_reader k) (IsList k) may_continue_command_list
+unfolding alias_list_reader
+alias_list_reader_follows_rule User = member_list_reader_follows_wider_rule User
+alias_list_reader_follows_rule Runas = member_list_reader_follows_wider_rule Runas
+alias_list_reader_follows_rule Host = member_list_reader_follows_wider_rule Host
+alias_list_reader_follows_rule Cmnd = command_list_reader_follows_rule
 
 -- ---- NAME "=" List
 
-name_is : is_alias_name some_all ≡ true
+word_all_is_alias_name : is_alias_name token_of_word_all ≡ true
 unfolding is_alias_name
-name_is = refl
+word_all_is_alias_name = refl
 
-abbrev IsDefBehind : Kind → Piece → Rule Def
-IsDefBehind k n = IsThen (IsToken (is_mark 61)) (λ _. IsThen (IsList k) (λ ms. IsPure (definition n ms)))
+abbrev IsDefinitionAfterName : Kind → TokenWithBytes → GrammarRule Def
+IsDefinitionAfterName k n = IsSequenceOfRules (IsOnePassingToken (is_mark_of_byte 61)) (λ _. IsSequenceOfRules (IsList k) (λ ms. IsEmptyReadingOf (definition_of_name_and_list n ms)))
 
-to_def : (k : Kind) (ts : List Piece) (d : Def) (rest : List Piece) → IsThen (IsToken is_alias_name) (IsDefBehind k) ts d rest → IsDef k ts d rest
-to_def k ts d rest (n, at, (e, is), (q, behind, (f, iq), (ms, end, hs, (g, same)))) = record {
+definition_sequence_is_definition : (k : Kind) (ts : List TokenWithBytes) (d : Def) (rest : List TokenWithBytes) → IsSequenceOfRules (IsOnePassingToken is_alias_name) (IsDefinitionAfterName k) ts d rest → IsDef k ts d rest
+definition_sequence_is_definition k ts d rest (n, at, (e, is), (q, behind, (f, iq), (ms, end, hs, (g, same)))) = record {
   name = n;
   equals = q;
   behind = behind;
-  split = e ∙ ap (λ (l : List Piece). n ∷ l) f;
+  split = e ∙ ap (λ (l : List TokenWithBytes). n ∷ l) f;
   is_name = is;
   is_equals = iq;
   members = subst (λ (l : List Member). IsList k behind l rest) (sym (ap (λ (x : Def). x.members) same)) (subst (IsList k behind ms) g hs);
   same_name = ap (λ (x : Def). x.name) same;
   start = ap (λ (x : Def). x.start) same;
-  stop = ap (λ (x : Def). x.stop) same ∙ ap list_stop (sym (ap (λ (x : Def). x.members) same));
+  stop = ap (λ (x : Def). x.stop) same ∙ ap stop_of_last_member (sym (ap (λ (x : Def). x.members) same));
 }
 
-from_def : (k : Kind) (ts : List Piece) (d : Def) (rest : List Piece) → IsDef k ts d rest → IsThen (IsToken is_alias_name) (IsDefBehind k) ts d rest
-from_def k ts d rest h =
+definition_is_definition_sequence : (k : Kind) (ts : List TokenWithBytes) (d : Def) (rest : List TokenWithBytes) → IsDef k ts d rest → IsSequenceOfRules (IsOnePassingToken is_alias_name) (IsDefinitionAfterName k) ts d rest
+definition_is_definition_sequence k ts d rest h =
     (h.name, h.equals ∷ h.behind, (h.split, h.is_name), (h.equals, h.behind, (refl, h.is_equals), (d.members, rest, h.members, (refl, λ i. record { name = h.same_name i; start = h.start i; stop = h.stop i; members = d.members }))))
 
-pub def_lawful : (k : Kind) → Lawful (def k) (IsDef k) on_commands
-unfolding def
-def_lawful k = says_as (to_def k) (from_def k) (then_free (token_lawful is_alias_name some_all name_is) (λ n. then_free (mark_lawful 61) (λ _. map_lawful (definition n) (list_lawful k))))
+pub alias_definition_reader_follows_rule : (k : Kind) → ReaderFollowsRule (alias_definition_reader k) (IsDef k) may_continue_command_list
+unfolding alias_definition_reader
+alias_definition_reader_follows_rule k = reader_follows_rule_saying_the_same (definition_sequence_is_definition k) (definition_is_definition_sequence k) (sequence_after_ended_reader_follows_rule (passing_token_reader_follows_rule is_alias_name token_of_word_all word_all_is_alias_name) (λ n. sequence_after_ended_reader_follows_rule (mark_reader_follows_rule 61) (λ _. mapped_reader_follows_rule (definition_of_name_and_list n) (alias_list_reader_follows_rule k))))
 
 -- ---- Kind Def (":" Def)*
 
-abbrev pub on_defs : Piece → Bool
-on_defs t = is_mark 58 t || on_commands t
+abbrev pub may_continue_definition_list : TokenWithBytes → Bool
+may_continue_definition_list t = is_mark_of_byte 58 t || may_continue_command_list t
 
-sample_kind : Sample kind_word
-unfolding kind_word
-sample_kind = record { piece = record { kind = kind.Word; text = codes "User_Alias"; start = 0; stop = 0; last = false }; what = User; is = refl }
+alias_kind_has_sample_token : HasSampleToken alias_kind_of_token
+unfolding alias_kind_of_token
+alias_kind_has_sample_token = record { piece = record { kind = kind.Word; text = codes "User_Alias"; start = 0; stop = 0; last = false }; what = User; is = refl }
 
-abbrev pub IsAliasThen : Rule Node
-IsAliasThen = IsThen (IsOne kind_word) (λ k. IsThen (Separated 58 (IsDef k)) (λ ds. IsPure (node.Alias k ds)))
+abbrev pub IsAliasNodeSequence : GrammarRule Node
+IsAliasNodeSequence = IsSequenceOfRules (IsOneTokenWithMeaning alias_kind_of_token) (λ k. IsSequenceOfRules (Separated 58 (IsDef k)) (λ ds. IsEmptyReadingOf (node.Alias k ds)))
 
-defs_lawful : (k : Kind) → Lawful (separated 58 (def k)) (Separated 58 (IsDef k)) on_defs
-defs_lawful k = separated_lawful 58 (def k) (IsDef k) on_commands on_defs (λ zs st. (either_off (is_mark 58) on_commands zs st).0) (λ zs st. (either_off (is_mark 58) on_commands zs st).1) colon_ends (def_lawful k)
+definition_list_reader_follows_rule : (k : Kind) → ReaderFollowsRule (separated_list_reader 58 (alias_definition_reader k)) (Separated 58 (IsDef k)) may_continue_definition_list
+definition_list_reader_follows_rule k = separated_lawful 58 (alias_definition_reader k) (IsDef k) may_continue_command_list may_continue_definition_list (λ zs st. (tokens_failing_either_test_fail_both (is_mark_of_byte 58) may_continue_command_list zs st).0) (λ zs st. (tokens_failing_either_test_fail_both (is_mark_of_byte 58) may_continue_command_list zs st).1) colon_continues_no_command_list (alias_definition_reader_follows_rule k)
 
-pub alias_lawful : Lawful alias IsAliasThen on_defs
-unfolding alias
-alias_lawful = then_free (one_lawful kind_word sample_kind) (λ k. map_lawful (node.Alias k) (defs_lawful k))
+pub alias_node_reader_follows_rule : ReaderFollowsRule alias_node_reader IsAliasNodeSequence may_continue_definition_list
+unfolding alias_node_reader
+alias_node_reader_follows_rule = sequence_after_ended_reader_follows_rule (one_token_reader_follows_rule alias_kind_of_token alias_kind_has_sample_token) (λ k. mapped_reader_follows_rule (node.Alias k) (definition_list_reader_follows_rule k))
 
 -- ---- includes
 
-sample_include : Sample include_word
-unfolding include_word
-sample_include = record { piece = record { kind = kind.Word; text = codes "@include"; start = 0; stop = 0; last = false }; what = false; is = refl }
+include_word_has_sample_token : HasSampleToken include_dir_of_token
+unfolding include_dir_of_token
+include_word_has_sample_token = record { piece = record { kind = kind.Word; text = codes "@include"; start = 0; stop = 0; last = false }; what = false; is = refl }
 
-sample_path : Sample path_value
-unfolding path_value value_of
-sample_path = record { piece = record { kind = kind.Word; text = codes "/"; start = 0; stop = 0; last = false }; what = codes "/"; is = refl }
+include_path_has_sample_token : HasSampleToken include_path_of_token
+unfolding include_path_of_token value_of_word
+include_path_has_sample_token = record { piece = record { kind = kind.Word; text = codes "/"; start = 0; stop = 0; last = false }; what = codes "/"; is = refl }
 
-abbrev pub IsIncludeThen : Rule Node
-IsIncludeThen = IsThen (IsOne include_word) (λ dir. IsThen (IsOne path_value) (λ path. IsPure (node.Include dir path)))
+abbrev pub IsIncludeNodeSequence : GrammarRule Node
+IsIncludeNodeSequence = IsSequenceOfRules (IsOneTokenWithMeaning include_dir_of_token) (λ dir. IsSequenceOfRules (IsOneTokenWithMeaning include_path_of_token) (λ path. IsEmptyReadingOf (node.Include dir path)))
 
-pub include_lawful : Lawful include IsIncludeThen never
-unfolding include
-include_lawful = then_free (one_lawful include_word sample_include) (λ dir. map_lawful (node.Include dir) (one_lawful path_value sample_path))
+pub include_node_reader_follows_rule : ReaderFollowsRule include_node_reader IsIncludeNodeSequence is_token_of_empty_test
+unfolding include_node_reader
+include_node_reader_follows_rule = sequence_after_ended_reader_follows_rule (one_token_reader_follows_rule include_dir_of_token include_word_has_sample_token) (λ dir. mapped_reader_follows_rule (node.Include dir) (one_token_reader_follows_rule include_path_of_token include_path_has_sample_token))

@@ -2,135 +2,135 @@
 use Rattle.std.proofs.Common.{◌≡◌, ℕ, Bool, true, false, codes, ◌||◌, List, [], ◌∷◌, ◌++◌, Option, Some, None, inl, inr, refl, sym, ap, ◌∙◌, subst, eq-eqb}
 use Rattle.std.specs.List.{AllByRecursion}
 use Rattle.sudoers_text.specs.declared.token.TokenKind.TheVariants as kind
-use Rattle.sudoers_line.specs.declared.node.Kind.{Kind}
-use Rattle.sudoers_line.specs.declared.node.Kind.TheVariants.{User, Runas, Host, Cmnd}
-use Rattle.sudoers_line.specs.declared.node.Operator.{Operator}
-use Rattle.sudoers_line.specs.declared.node.Operator.TheVariants as operator
-use Rattle.sudoers_line.specs.Node.{Member, Scope, Setting, Param, Node}
-use Rattle.sudoers_line.specs.Node as node
-use Rattle.sudoers_line.specs.Piece.{Piece, is_some, is_punct, is_arg, is_mark, is_the_word, operator_of, scope_sign}
-use Rattle.sudoers_line.specs.Grammar.{Separated, IsMark, odd, IsScopeList, IsScope, IsFlag, IsSetting, IsParamWith, IsParam, is_defaults}
-use Rattle.sudoers_line_reader.proofs.Tokens.{other_mark, mark_arg, no_punct_mark, parameter_kind, operator_no_comma}
-use Rattle.sudoers_line_reader.specs.Reader.{comes, pure, separated}
-use Rattle.sudoers_line_reader.specs.Descent.{argument, parameter, value, says, scope_list, scope, flag, set, setting, flagged, named, param, params, scoped, defaults}
-use Rattle.sudoers_line_reader.proofs.Keeps.{Rule, Stops, Completes, Lawful, Full, never, stops_never, IsPure, IsOne, Sample, one_lawful, IsToken, token_lawful, IsThen, IsEither, Begins, choose_lawful}
+use Rattle.sudoers_grammar.specs.declared.node.Kind.{Kind}
+use Rattle.sudoers_grammar.specs.declared.node.Kind.TheVariants.{User, Runas, Host, Cmnd}
+use Rattle.sudoers_grammar.specs.declared.node.Operator.{Operator}
+use Rattle.sudoers_grammar.specs.declared.node.Operator.TheVariants as operator
+use Rattle.sudoers_grammar.specs.Node.{Member, Scope, Setting, Param, Node}
+use Rattle.sudoers_grammar.specs.Node as node
+use Rattle.sudoers_grammar.specs.Piece.{TokenWithBytes, is_some, is_punct, is_arg, is_mark_of_byte, is_given_word, operator_of_token, scope_kind_of_token}
+use Rattle.sudoers_grammar.specs.Grammar.{Separated, IsMark, is_odd_count_of_tokens, IsScopeList, IsScope, IsFlag, IsSetting, IsParamWith, IsParam, is_defaults}
+use Rattle.sudoers_line_reader.proofs.Tokens.{mark_is_no_other_mark, mark_is_no_argument, token_without_punct_kind_is_no_mark, parameter_name_test_implies_name_kind, operator_is_no_comma}
+use Rattle.sudoers_line_reader.specs.Reader.{is_next_token, pure, separated_list_reader}
+use Rattle.sudoers_line_reader.specs.Descent.{is_argument_token, is_parameter_name_token, is_parameter_value_token, has_meaning_by, scope_list_reader, defaults_scope_reader, flag_parameter, set_parameter, parameter_setting_reader, negatable_flag_reader, named_parameter_reader, parameter_reader, parameters_reader, scoped_defaults_reader, defaults_node_reader}
+use Rattle.sudoers_line_reader.proofs.Keeps.{GrammarRule, NextTokenFailsTest, CanBeCompletedByRule, ReaderFollowsRule, NeverTakesNoTokens, is_token_of_empty_test, next_token_fails_empty_test, IsEmptyReadingOf, IsOneTokenWithMeaning, HasSampleToken, one_token_reader_follows_rule, IsOnePassingToken, passing_token_reader_follows_rule, IsSequenceOfRules, IsEitherOfRules, BeginsWithPassingToken, choice_reader_follows_either_rule}
 use Rattle.sudoers_line_reader.proofs.Repeats.{separated_lawful}
-use Rattle.sudoers_line_reader.proofs.Parts.{then_is, then_free, says_as, wider, made, map_lawful, either_off, off_both, EachWhere, choice, first_some, suits_full}
-use Rattle.sudoers_line_reader.proofs.MemberLaws.{IsSigns, to_signs, from_signs, signs_lawful}
-use Rattle.sudoers_line_reader.proofs.CommandLaws.{on_commands, scope_commands_lawful}
-use Rattle.sudoers_line_reader.proofs.AliasLaws.{wide_members}
+use Rattle.sudoers_line_reader.proofs.Parts.{sequence_of_readers_follows_rules, sequence_after_ended_reader_follows_rule, reader_follows_rule_saying_the_same, reader_follows_rule_with_wider_test, pure_reader_follows_rule_with_any_test, mapped_reader_follows_rule, tokens_failing_either_test_fail_both, both_false_implies_false_or, IsRuleChosenByNextToken, choice_reader_follows_chosen_rule, completed_first_rule_completes_choice, rule_taking_tokens_suits_any_test}
+use Rattle.sudoers_line_reader.proofs.MemberLaws.{AreNegationSigns, negation_signs_are_marks_of_odd_count, negation_marks_are_negation_signs, negation_reader_follows_rule}
+use Rattle.sudoers_line_reader.proofs.CommandLaws.{may_continue_command_list, scope_command_list_reader_follows_rule}
+use Rattle.sudoers_line_reader.proofs.AliasLaws.{member_list_reader_follows_wider_rule}
 
 -- ---- Sign List
 
-scope_list_lawful : (k : Kind) → Lawful (scope_list k) (IsScopeList k) on_commands
-unfolding scope_list
-scope_list_lawful User = wide_members User
-scope_list_lawful Runas = wide_members Runas
-scope_list_lawful Host = wide_members Host
-scope_list_lawful Cmnd = scope_commands_lawful
+scope_list_reader_follows_rule : (k : Kind) → ReaderFollowsRule (scope_list_reader k) (IsScopeList k) may_continue_command_list
+unfolding scope_list_reader
+scope_list_reader_follows_rule User = member_list_reader_follows_wider_rule User
+scope_list_reader_follows_rule Runas = member_list_reader_follows_wider_rule Runas
+scope_list_reader_follows_rule Host = member_list_reader_follows_wider_rule Host
+scope_list_reader_follows_rule Cmnd = scope_command_list_reader_follows_rule
 
-some_sign : ℕ → Piece
-some_sign stop = record { kind = kind.Punct; text = codes "@"; start = stop; stop = 0; last = false }
+sample_scope_sign_token : ℕ → TokenWithBytes
+sample_scope_sign_token stop = record { kind = kind.Punct; text = codes "@"; start = stop; stop = 0; last = false }
 
-sign_at : (stop : ℕ) → scope_sign stop (some_sign stop) ≡ Some Host
-unfolding scope_sign some_sign
-sign_at stop = rw (eq-eqb stop stop refl) refl
+sample_scope_sign_token_says_host : (stop : ℕ) → scope_kind_of_token stop (sample_scope_sign_token stop) ≡ Some Host
+unfolding scope_kind_of_token sample_scope_sign_token
+sample_scope_sign_token_says_host stop = rw (eq-eqb stop stop refl) refl
 
-sample_sign : (stop : ℕ) → Sample (scope_sign stop)
-sample_sign stop = record { piece = some_sign stop; what = Host; is = sign_at stop }
+scope_kind_has_sample_token : (stop : ℕ) → HasSampleToken (scope_kind_of_token stop)
+scope_kind_has_sample_token stop = record { piece = sample_scope_sign_token stop; what = Host; is = sample_scope_sign_token_says_host stop }
 
-abbrev scope_of : Kind → List Member → Scope
-scope_of k ms = record { kind = k; members = ms }
+abbrev scope_of_kind_and_members : Kind → List Member → Scope
+scope_of_kind_and_members k ms = record { kind = k; members = ms }
 
-abbrev IsScopeThen : ℕ → Rule Scope
-IsScopeThen stop = IsThen (IsOne (scope_sign stop)) (λ k. IsThen (IsScopeList k) (λ ms. IsPure (scope_of k ms)))
+abbrev IsScopeSequence : ℕ → GrammarRule Scope
+IsScopeSequence stop = IsSequenceOfRules (IsOneTokenWithMeaning (scope_kind_of_token stop)) (λ k. IsSequenceOfRules (IsScopeList k) (λ ms. IsEmptyReadingOf (scope_of_kind_and_members k ms)))
 
-to_scope : (stop : ℕ) (ts : List Piece) (s : Scope) (rest : List Piece) → IsScopeThen stop ts s rest → IsScope stop ts s rest
-to_scope stop ts s rest (k, mid, (t, e, says), (ms, end, h, (f, same))) = record {
+scope_sequence_is_scope : (stop : ℕ) (ts : List TokenWithBytes) (s : Scope) (rest : List TokenWithBytes) → IsScopeSequence stop ts s rest → IsScope stop ts s rest
+scope_sequence_is_scope stop ts s rest (k, mid, (t, e, has_meaning_by), (ms, end, h, (f, same))) = record {
   sign = t;
   behind = mid;
   split = e;
-  is_sign = says ∙ ap (λ (x : Scope). Some x.kind) (sym same);
+  is_sign = has_meaning_by ∙ ap (λ (x : Scope). Some x.kind) (sym same);
   members = subst (λ (x : Scope). IsScopeList x.kind mid x.members rest) (sym same) (subst (IsScopeList k mid ms) f h);
 }
 
-from_scope : (stop : ℕ) (ts : List Piece) (s : Scope) (rest : List Piece) → IsScope stop ts s rest → IsScopeThen stop ts s rest
-from_scope stop ts s rest h = (s.kind, h.behind, (h.sign, h.split, h.is_sign), (s.members, rest, h.members, (refl, refl)))
+scope_is_scope_sequence : (stop : ℕ) (ts : List TokenWithBytes) (s : Scope) (rest : List TokenWithBytes) → IsScope stop ts s rest → IsScopeSequence stop ts s rest
+scope_is_scope_sequence stop ts s rest h = (s.kind, h.behind, (h.sign, h.split, h.is_sign), (s.members, rest, h.members, (refl, refl)))
 
-scope_lawful : (stop : ℕ) → Lawful (scope stop) (IsScope stop) on_commands
-unfolding scope
-scope_lawful stop = says_as (to_scope stop) (from_scope stop) (then_free (one_lawful (scope_sign stop) (sample_sign stop)) (λ k. map_lawful (scope_of k) (scope_list_lawful k)))
+defaults_scope_reader_follows_rule : (stop : ℕ) → ReaderFollowsRule (defaults_scope_reader stop) (IsScope stop) may_continue_command_list
+unfolding defaults_scope_reader
+defaults_scope_reader_follows_rule stop = reader_follows_rule_saying_the_same (scope_sequence_is_scope stop) (scope_is_scope_sequence stop) (sequence_after_ended_reader_follows_rule (one_token_reader_follows_rule (scope_kind_of_token stop) (scope_kind_has_sample_token stop)) (λ k. mapped_reader_follows_rule (scope_of_kind_and_members k) (scope_list_reader_follows_rule k)))
 
 -- ---- "!"* Name, or Name ("=" | "+=" | "-=") Value
 
-abbrev some_name : Piece
-some_name = record { kind = kind.Name; text = []; start = 0; stop = 0; last = false }
+abbrev sample_parameter_name_token : TokenWithBytes
+sample_parameter_name_token = record { kind = kind.Name; text = []; start = 0; stop = 0; last = false }
 
-abbrev some_value : Piece
-some_value = record { kind = kind.Value; text = []; start = 0; stop = 0; last = false }
+abbrev sample_parameter_value_token : TokenWithBytes
+sample_parameter_value_token = record { kind = kind.Value; text = []; start = 0; stop = 0; last = false }
 
-sample_operator : Sample operator_of
-unfolding operator_of
-sample_operator = record { piece = record { kind = kind.Punct; text = codes "="; start = 0; stop = 0; last = false }; what = operator.Set; is = refl }
+operator_has_sample_token : HasSampleToken operator_of_token
+unfolding operator_of_token
+operator_has_sample_token = record { piece = record { kind = kind.Punct; text = codes "="; start = 0; stop = 0; last = false }; what = operator.Set; is = refl }
 
-abbrev IsFlagged : Rule Param
-IsFlagged = IsThen IsSigns (λ b. IsThen (IsToken parameter) (λ n. IsPure (flag b n)))
+abbrev IsNegatableFlag : GrammarRule Param
+IsNegatableFlag = IsSequenceOfRules AreNegationSigns (λ b. IsSequenceOfRules (IsOnePassingToken is_parameter_name_token) (λ n. IsEmptyReadingOf (flag_parameter b n)))
 
-abbrev IsSet : Piece → Rule Param
-IsSet n = IsThen (IsOne operator_of) (λ o. IsThen (IsToken value) (λ v. IsPure (set n o v)))
+abbrev IsSettingAfterName : TokenWithBytes → GrammarRule Param
+IsSettingAfterName n = IsSequenceOfRules (IsOneTokenWithMeaning operator_of_token) (λ o. IsSequenceOfRules (IsOnePassingToken is_parameter_value_token) (λ v. IsEmptyReadingOf (set_parameter n o v)))
 
-abbrev IsNamed : Rule Param
-IsNamed = IsThen (IsToken parameter) (λ n. IsEither (IsSet n) (IsPure (flag false n)))
+abbrev IsNamedParameter : GrammarRule Param
+IsNamedParameter = IsSequenceOfRules (IsOnePassingToken is_parameter_name_token) (λ n. IsEitherOfRules (IsSettingAfterName n) (IsEmptyReadingOf (flag_parameter false n)))
 
-abbrev pub on_param : Piece → Bool
-on_param t = says operator_of t
+abbrev pub may_continue_parameter : TokenWithBytes → Bool
+may_continue_parameter t = has_meaning_by operator_of_token t
 
-name_no_mark : (b : ℕ) (t : Piece) → parameter t ≡ true → is_mark b t ≡ false
-name_no_mark b t e = no_punct_mark b t (ap is_punct (parameter_kind t.kind e))
+parameter_name_is_no_mark : (b : ℕ) (t : TokenWithBytes) → is_parameter_name_token t ≡ true → is_mark_of_byte b t ≡ false
+parameter_name_is_no_mark b t e = token_without_punct_kind_is_no_mark b t (ap is_punct (parameter_name_test_implies_name_kind t.kind e))
 
-flagged_lawful : Lawful flagged IsFlagged on_param
-unfolding flagged
-flagged_lawful = then_is (λ b mid p rest h st. ap (comes (is_mark 33)) h.2.0 ∙ name_no_mark 33 h.0 h.2.1) signs_lawful (λ b. wider on_param (λ zs st. stops_never zs) (map_lawful (flag b) (token_lawful parameter some_name refl)))
+negatable_flag_reader_follows_rule : ReaderFollowsRule negatable_flag_reader IsNegatableFlag may_continue_parameter
+unfolding negatable_flag_reader
+negatable_flag_reader_follows_rule = sequence_of_readers_follows_rules (λ b mid p rest h st. ap (is_next_token (is_mark_of_byte 33)) h.2.0 ∙ parameter_name_is_no_mark 33 h.0 h.2.1) negation_reader_follows_rule (λ b. reader_follows_rule_with_wider_test may_continue_parameter (λ zs st. next_token_fails_empty_test zs) (mapped_reader_follows_rule (flag_parameter b) (passing_token_reader_follows_rule is_parameter_name_token sample_parameter_name_token refl)))
 
-set_lawful : (n : Piece) → Lawful (setting n) (IsSet n) never
-unfolding setting
-set_lawful n = then_free (one_lawful operator_of sample_operator) (λ o. map_lawful (set n o) (token_lawful value some_value refl))
+parameter_setting_reader_follows_rule : (n : TokenWithBytes) → ReaderFollowsRule (parameter_setting_reader n) (IsSettingAfterName n) is_token_of_empty_test
+unfolding parameter_setting_reader
+parameter_setting_reader_follows_rule n = sequence_after_ended_reader_follows_rule (one_token_reader_follows_rule operator_of_token operator_has_sample_token) (λ o. mapped_reader_follows_rule (set_parameter n o) (passing_token_reader_follows_rule is_parameter_value_token sample_parameter_value_token refl))
 
-set_begins : (n : Piece) → Begins (says operator_of) (IsSet n)
-set_begins n ts p rest (o, mid, (t, e, says), later) = ap (comes on_param) e ∙ ap is_some says
+parameter_setting_begins_with_operator : (n : TokenWithBytes) → BeginsWithPassingToken (has_meaning_by operator_of_token) (IsSettingAfterName n)
+parameter_setting_begins_with_operator n ts p rest (o, mid, (t, e, has_meaning_by), later) = ap (is_next_token may_continue_parameter) e ∙ ap is_some has_meaning_by
 
-named_lawful : Lawful named IsNamed on_param
-unfolding named
-named_lawful = then_free (token_lawful parameter some_name refl)
-    (λ n. choose_lawful (says operator_of) (setting n) (pure (flag false n)) (IsSet n) (IsPure (flag false n)) on_param (set_begins n) (λ ts p rest is st. ap (comes on_param) is.0 ∙ st)
-    (wider on_param (λ zs st. stops_never zs) (set_lawful n)) (made on_param (flag false n)))
+named_parameter_reader_follows_rule : ReaderFollowsRule named_parameter_reader IsNamedParameter may_continue_parameter
+unfolding named_parameter_reader
+named_parameter_reader_follows_rule = sequence_after_ended_reader_follows_rule (passing_token_reader_follows_rule is_parameter_name_token sample_parameter_name_token refl)
+    (λ n. choice_reader_follows_either_rule (has_meaning_by operator_of_token) (parameter_setting_reader n) (pure (flag_parameter false n)) (IsSettingAfterName n) (IsEmptyReadingOf (flag_parameter false n)) may_continue_parameter (parameter_setting_begins_with_operator n) (λ ts p rest is st. ap (is_next_token may_continue_parameter) is.0 ∙ st)
+    (reader_follows_rule_with_wider_test may_continue_parameter (λ zs st. next_token_fails_empty_test zs) (parameter_setting_reader_follows_rule n)) (pure_reader_follows_rule_with_any_test may_continue_parameter (flag_parameter false n)))
 
-no_name : (xs ts : List Piece) (t : Piece) (rest : List Piece) → [] ≡ xs ++ ts → ts ≡ t ∷ rest → ⊥
-no_name [] ts t rest e f = let g : [] ≡ t ∷ rest = e ∙ f in cc
-no_name (x ∷ xs) ts t rest e f = cc
+empty_list_has_no_name_token : (xs ts : List TokenWithBytes) (t : TokenWithBytes) (rest : List TokenWithBytes) → [] ≡ xs ++ ts → ts ≡ t ∷ rest → ⊥
+empty_list_has_no_name_token [] ts t rest e f = let g : [] ≡ t ∷ rest = e ∙ f in cc
+empty_list_has_no_name_token (x ∷ xs) ts t rest e f = cc
 
-flagged_full : Full IsFlagged
-flagged_full p (b, mid, signed, (n, end, (e, is), later)) = let s = to_signs [] b mid signed in no_name s.0 mid n end s.1 e
+negatable_flag_takes_tokens : NeverTakesNoTokens IsNegatableFlag
+negatable_flag_takes_tokens p (b, mid, signed, (n, end, (e, is), later)) = let s = negation_signs_are_marks_of_odd_count [] b mid signed in empty_list_has_no_name_token s.0 mid n end s.1 e
 
-named_full : Full IsNamed
-named_full p (n, mid, (e, is), later) = cc
+named_parameter_takes_tokens : NeverTakesNoTokens IsNamedParameter
+named_parameter_takes_tokens p (n, mid, (e, is), later) = cc
 
-abbrev IsParamThen : Rule Param
-IsParamThen = EachWhere (is_mark 33) IsFlagged IsNamed
+abbrev IsParameterByChoice : GrammarRule Param
+IsParameterByChoice = IsRuleChosenByNextToken (is_mark_of_byte 33) IsNegatableFlag IsNamedParameter
 
-param_some : Completes IsParamThen on_param []
-param_some = record {
-  more = some_name ∷ [];
-  what = flag false some_name;
-  is = λ zs st. inr (name_no_mark 33 some_name refl, (some_name, zs, (refl, refl), inr (refl, refl)));
+parameter_by_choice_can_be_completed : CanBeCompletedByRule IsParameterByChoice may_continue_parameter []
+parameter_by_choice_can_be_completed = record {
+  more = sample_parameter_name_token ∷ [];
+  what = flag_parameter false sample_parameter_name_token;
+  is = λ zs st. inr (parameter_name_is_no_mark 33 sample_parameter_name_token refl, (sample_parameter_name_token, zs, (refl, refl), inr (refl, refl)));
 }
 
-param_made : Lawful param IsParamThen on_param
-unfolding param
-param_made = choice param_some (suits_full IsFlagged (is_mark 33) true on_param flagged_full) (suits_full IsNamed (is_mark 33) false on_param named_full) flagged_lawful named_lawful
+parameter_reader_follows_choice : ReaderFollowsRule parameter_reader IsParameterByChoice may_continue_parameter
+unfolding parameter_reader
+parameter_reader_follows_choice = choice_reader_follows_chosen_rule parameter_by_choice_can_be_completed (rule_taking_tokens_suits_any_test IsNegatableFlag (is_mark_of_byte 33) true may_continue_parameter negatable_flag_takes_tokens) (rule_taking_tokens_suits_any_test IsNamedParameter (is_mark_of_byte 33) false may_continue_parameter named_parameter_takes_tokens) negatable_flag_reader_follows_rule named_parameter_reader_follows_rule
 
-flag_is : (ts : List Piece) (p : Param) (rest : List Piece) (xs : List Piece) (n : Piece) (b : Bool) → ts ≡ xs ++ n ∷ rest → AllByRecursion (IsMark 33) xs → parameter n ≡ true → b ≡ odd xs → p ≡ flag b n → IsParam ts p rest
-flag_is ts p rest xs n b split are is odds same = subst (λ (o : Option Setting). IsParamWith o ts p rest) (sym (ap (λ (x : Param). x.setting) same)) (record {
+signs_and_name_are_flag_parameter : (ts : List TokenWithBytes) (p : Param) (rest : List TokenWithBytes) (xs : List TokenWithBytes) (n : TokenWithBytes) (b : Bool) → ts ≡ xs ++ n ∷ rest → AllByRecursion (IsMark 33) xs → is_parameter_name_token n ≡ true → b ≡ is_odd_count_of_tokens xs → p ≡ flag_parameter b n → IsParam ts p rest
+signs_and_name_are_flag_parameter ts p rest xs n b split are is odds same = subst (λ (o : Option Setting). IsParamWith o ts p rest) (sym (ap (λ (x : Param). x.setting) same)) (record {
   signs = xs;
   name = n;
   split = split;
@@ -140,43 +140,43 @@ flag_is ts p rest xs n b split are is odds same = subst (λ (o : Option Setting)
   same_name = ap (λ (x : Param). x.name) same;
 })
 
-set_is : (ts : List Piece) (p : Param) (rest : List Piece) (n t v : Piece) (o : Operator) → ts ≡ n ∷ t ∷ v ∷ rest → parameter n ≡ true → operator_of t ≡ Some o → value v ≡ true → p ≡ set n o v → IsParam ts p rest
-set_is ts p rest n t v o split is says valued same = subst (λ (o : Option Setting). IsParamWith o ts p rest) (sym (ap (λ (x : Param). x.setting) same)) (record {
+name_operator_value_are_set_parameter : (ts : List TokenWithBytes) (p : Param) (rest : List TokenWithBytes) (n t v : TokenWithBytes) (o : Operator) → ts ≡ n ∷ t ∷ v ∷ rest → is_parameter_name_token n ≡ true → operator_of_token t ≡ Some o → is_parameter_value_token v ≡ true → p ≡ set_parameter n o v → IsParam ts p rest
+name_operator_value_are_set_parameter ts p rest n t v o split is has_meaning_by valued same = subst (λ (o : Option Setting). IsParamWith o ts p rest) (sym (ap (λ (x : Param). x.setting) same)) (record {
   name = n;
   operator = t;
   value = v;
   split = split;
   is_name = is;
-  is_operator = says;
+  is_operator = has_meaning_by;
   is_value = valued;
   not_negated = ap (λ (x : Param). x.negated) same;
   same_name = ap (λ (x : Param). x.name) same;
   same_value = refl;
 })
 
-to_param : (ts : List Piece) (p : Param) (rest : List Piece) → IsParamThen ts p rest → IsParam ts p rest
-to_param ts p rest (inl (c, (b, mid, signed, (n, end, (e, is), (f, same))))) =
-    let s = to_signs ts b mid signed in
-    flag_is ts p rest s.0 n b (s.1 ∙ ap (λ (l : List Piece). s.0 ++ l) (e ∙ ap (λ (l : List Piece). n ∷ l) f)) s.2 is s.3 same
-to_param ts p rest (inr (c, (n, mid, (e, is), inl (o, behind, (t, f, says), (v, end, (g, valued), (h, same)))))) =
-    set_is ts p rest n t v o (e ∙ ap (λ (l : List Piece). n ∷ l) (f ∙ ap (λ (l : List Piece). t ∷ l) (g ∙ ap (λ (l : List Piece). v ∷ l) h))) is says valued same
-to_param ts p rest (inr (c, (n, mid, (e, is), inr (f, same)))) = flag_is ts p rest [] n false (e ∙ ap (λ (l : List Piece). n ∷ l) f) tt is refl same
+parameter_by_choice_is_parameter : (ts : List TokenWithBytes) (p : Param) (rest : List TokenWithBytes) → IsParameterByChoice ts p rest → IsParam ts p rest
+parameter_by_choice_is_parameter ts p rest (inl (c, (b, mid, signed, (n, end, (e, is), (f, same))))) =
+    let s = negation_signs_are_marks_of_odd_count ts b mid signed in
+    signs_and_name_are_flag_parameter ts p rest s.0 n b (s.1 ∙ ap (λ (l : List TokenWithBytes). s.0 ++ l) (e ∙ ap (λ (l : List TokenWithBytes). n ∷ l) f)) s.2 is s.3 same
+parameter_by_choice_is_parameter ts p rest (inr (c, (n, mid, (e, is), inl (o, behind, (t, f, has_meaning_by), (v, end, (g, valued), (h, same)))))) =
+    name_operator_value_are_set_parameter ts p rest n t v o (e ∙ ap (λ (l : List TokenWithBytes). n ∷ l) (f ∙ ap (λ (l : List TokenWithBytes). t ∷ l) (g ∙ ap (λ (l : List TokenWithBytes). v ∷ l) h))) is has_meaning_by valued same
+parameter_by_choice_is_parameter ts p rest (inr (c, (n, mid, (e, is), inr (f, same)))) = signs_and_name_are_flag_parameter ts p rest [] n false (e ∙ ap (λ (l : List TokenWithBytes). n ∷ l) f) tt is refl same
 
-from_flag : (ts : List Piece) (p : Param) (rest : List Piece) → p.setting ≡ None → (h : IsFlag ts p rest) (xs : List Piece) → h.signs ≡ xs → IsParamThen ts p rest
-from_flag ts p rest none h [] e =
-    let split : ts ≡ h.name ∷ rest = h.split ∙ ap (λ (l : List Piece). l ++ h.name ∷ rest) e in
-    inr (ap (comes (is_mark 33)) split ∙ name_no_mark 33 h.name h.is_name, (h.name, rest, (split, h.is_name), inr (refl, λ i. record { negated = (h.negated ∙ ap odd e) i; name = h.same_name i; setting = none i })))
-from_flag ts p rest none h (x ∷ xs) e =
+flag_parameter_is_by_choice : (ts : List TokenWithBytes) (p : Param) (rest : List TokenWithBytes) → p.setting ≡ None → (h : IsFlag ts p rest) (xs : List TokenWithBytes) → h.signs ≡ xs → IsParameterByChoice ts p rest
+flag_parameter_is_by_choice ts p rest none h [] e =
+    let split : ts ≡ h.name ∷ rest = h.split ∙ ap (λ (l : List TokenWithBytes). l ++ h.name ∷ rest) e in
+    inr (ap (is_next_token (is_mark_of_byte 33)) split ∙ parameter_name_is_no_mark 33 h.name h.is_name, (h.name, rest, (split, h.is_name), inr (refl, λ i. record { negated = (h.negated ∙ ap is_odd_count_of_tokens e) i; name = h.same_name i; setting = none i })))
+flag_parameter_is_by_choice ts p rest none h (x ∷ xs) e =
     let are = subst (AllByRecursion (IsMark 33)) e h.are_signs in
     inl (
-      ap (comes (is_mark 33)) (h.split ∙ ap (λ (l : List Piece). l ++ h.name ∷ rest) e) ∙ are.0,
-      (odd h.signs, h.name ∷ rest, from_signs ts h.signs (h.name ∷ rest) h.split h.are_signs, (h.name, rest, (refl, h.is_name), (refl, λ i. record { negated = h.negated i; name = h.same_name i; setting = none i }))),
+      ap (is_next_token (is_mark_of_byte 33)) (h.split ∙ ap (λ (l : List TokenWithBytes). l ++ h.name ∷ rest) e) ∙ are.0,
+      (is_odd_count_of_tokens h.signs, h.name ∷ rest, negation_marks_are_negation_signs ts h.signs (h.name ∷ rest) h.split h.are_signs, (h.name, rest, (refl, h.is_name), (refl, λ i. record { negated = h.negated i; name = h.same_name i; setting = none i }))),
     )
 
-from_setting : (ts : List Piece) (p : Param) (s : Setting) (rest : List Piece) → p.setting ≡ Some s → IsSetting ts p s rest → IsParamThen ts p rest
-from_setting ts p s rest some h =
+set_parameter_is_by_choice : (ts : List TokenWithBytes) (p : Param) (s : Setting) (rest : List TokenWithBytes) → p.setting ≡ Some s → IsSetting ts p s rest → IsParameterByChoice ts p rest
+set_parameter_is_by_choice ts p s rest some h =
     inr (
-      ap (comes (is_mark 33)) h.split ∙ name_no_mark 33 h.name h.is_name,
+      ap (is_next_token (is_mark_of_byte 33)) h.split ∙ parameter_name_is_no_mark 33 h.name h.is_name,
       (
         h.name,
         h.operator ∷ h.value ∷ rest,
@@ -198,87 +198,87 @@ from_setting ts p s rest some h =
       ),
     )
 
-from_with : (ts : List Piece) (p : Param) (rest : List Piece) (o : Option Setting) → p.setting ≡ o → IsParamWith o ts p rest → IsParamThen ts p rest
-from_with ts p rest None e h = from_flag ts p rest e h h.signs refl
-from_with ts p rest (Some s) e h = from_setting ts p s rest e h
+parameter_with_setting_is_by_choice : (ts : List TokenWithBytes) (p : Param) (rest : List TokenWithBytes) (o : Option Setting) → p.setting ≡ o → IsParamWith o ts p rest → IsParameterByChoice ts p rest
+parameter_with_setting_is_by_choice ts p rest None e h = flag_parameter_is_by_choice ts p rest e h h.signs refl
+parameter_with_setting_is_by_choice ts p rest (Some s) e h = set_parameter_is_by_choice ts p s rest e h
 
-pub param_lawful : Lawful param IsParam on_param
-param_lawful = says_as to_param (λ ts p rest h. from_with ts p rest p.setting refl h) param_made
+pub parameter_reader_follows_rule : ReaderFollowsRule parameter_reader IsParam may_continue_parameter
+parameter_reader_follows_rule = reader_follows_rule_saying_the_same parameter_by_choice_is_parameter (λ ts p rest h. parameter_with_setting_is_by_choice ts p rest p.setting refl h) parameter_reader_follows_choice
 
 -- ---- "Defaults" (Sign List)? Param ("," Param)*
 
-abbrev pub on_params : Piece → Bool
-on_params t = is_mark 44 t || on_param t
+abbrev pub may_continue_parameter_list : TokenWithBytes → Bool
+may_continue_parameter_list t = is_mark_of_byte 44 t || may_continue_parameter t
 
-comma_no_operator : (zs : List Piece) → comes (is_mark 44) zs ≡ true → Stops on_param zs
-comma_no_operator [] e = refl
-comma_no_operator (z ∷ zs) e = no_operator (operator_of z) refl
+comma_is_no_operator : (zs : List TokenWithBytes) → is_next_token (is_mark_of_byte 44) zs ≡ true → NextTokenFailsTest may_continue_parameter zs
+comma_is_no_operator [] e = refl
+comma_is_no_operator (z ∷ zs) e = no_operator (operator_of_token z) refl
   where
-    no_operator : (o : Option Operator) → operator_of z ≡ o → on_param z ≡ false
+    no_operator : (o : Option Operator) → operator_of_token z ≡ o → may_continue_parameter z ≡ false
     no_operator None f = ap is_some f
-    no_operator (Some o) f = absurd (let g = operator_no_comma z o f in cc)
+    no_operator (Some o) f = absurd (let g = operator_is_no_comma z o f in cc)
 
-params_made : Lawful (separated 44 param) (Separated 44 IsParam) on_params
-params_made = separated_lawful 44 param IsParam on_param on_params (λ zs st. (either_off (is_mark 44) on_param zs st).0) (λ zs st. (either_off (is_mark 44) on_param zs st).1) comma_no_operator param_lawful
+parameter_list_reader_follows_rule : ReaderFollowsRule (separated_list_reader 44 parameter_reader) (Separated 44 IsParam) may_continue_parameter_list
+parameter_list_reader_follows_rule = separated_lawful 44 parameter_reader IsParam may_continue_parameter may_continue_parameter_list (λ zs st. (tokens_failing_either_test_fail_both (is_mark_of_byte 44) may_continue_parameter zs st).0) (λ zs st. (tokens_failing_either_test_fail_both (is_mark_of_byte 44) may_continue_parameter zs st).1) comma_is_no_operator parameter_reader_follows_rule
 
-abbrev pub IsParams : Option Scope → Rule Node
-IsParams s = IsThen (Separated 44 IsParam) (λ ps. IsPure (node.Defaults s ps))
+abbrev pub IsDefaultsNodeOfParameters : Option Scope → GrammarRule Node
+IsDefaultsNodeOfParameters s = IsSequenceOfRules (Separated 44 IsParam) (λ ps. IsEmptyReadingOf (node.Defaults s ps))
 
-params_lawful : (s : Option Scope) → Lawful (params s) (IsParams s) on_params
-unfolding params
-params_lawful s = map_lawful (node.Defaults s) params_made
+parameters_reader_follows_rule : (s : Option Scope) → ReaderFollowsRule (parameters_reader s) (IsDefaultsNodeOfParameters s) may_continue_parameter_list
+unfolding parameters_reader
+parameters_reader_follows_rule s = mapped_reader_follows_rule (node.Defaults s) parameter_list_reader_follows_rule
 
 -- what begins no parameter
-param_begins : (test : Piece → Bool) → ((t : Piece) → is_mark 33 t ≡ true → test t ≡ false) → ((t : Piece) → parameter t ≡ true → test t ≡ false) → (ts : List Piece) (p : Param) (rest : List Piece) (o : Option Setting) → IsParamWith o ts p rest → Stops test ts
-param_begins test mark name ts p rest (Some s) h = ap (comes test) h.split ∙ name h.name h.is_name
-param_begins test mark name ts p rest None h = ap (comes test) h.split ∙ at h.signs h.are_signs
+parameter_fails_other_tests : (test : TokenWithBytes → Bool) → ((t : TokenWithBytes) → is_mark_of_byte 33 t ≡ true → test t ≡ false) → ((t : TokenWithBytes) → is_parameter_name_token t ≡ true → test t ≡ false) → (ts : List TokenWithBytes) (p : Param) (rest : List TokenWithBytes) (o : Option Setting) → IsParamWith o ts p rest → NextTokenFailsTest test ts
+parameter_fails_other_tests test mark name ts p rest (Some s) h = ap (is_next_token test) h.split ∙ name h.name h.is_name
+parameter_fails_other_tests test mark name ts p rest None h = ap (is_next_token test) h.split ∙ at h.signs h.are_signs
   where
-    at : (xs : List Piece) → AllByRecursion (IsMark 33) xs → comes test (xs ++ h.name ∷ rest) ≡ false
+    at : (xs : List TokenWithBytes) → AllByRecursion (IsMark 33) xs → is_next_token test (xs ++ h.name ∷ rest) ≡ false
     at [] are = name h.name h.is_name
     at (x ∷ xs) are = mark x are.0
 
-params_begin : (test : Piece → Bool) → ((t : Piece) → is_mark 33 t ≡ true → test t ≡ false) → ((t : Piece) → parameter t ≡ true → test t ≡ false) → (ts : List Piece) (ps : List Param) (rest : List Piece) → Separated 44 IsParam ts ps rest → Stops test ts
-params_begin test mark name ts [] rest h = absurd h
-params_begin test mark name ts (p ∷ ps) rest (mid, is, more) = param_begins test mark name ts p mid p.setting is
+parameter_list_fails_other_tests : (test : TokenWithBytes → Bool) → ((t : TokenWithBytes) → is_mark_of_byte 33 t ≡ true → test t ≡ false) → ((t : TokenWithBytes) → is_parameter_name_token t ≡ true → test t ≡ false) → (ts : List TokenWithBytes) (ps : List Param) (rest : List TokenWithBytes) → Separated 44 IsParam ts ps rest → NextTokenFailsTest test ts
+parameter_list_fails_other_tests test mark name ts [] rest h = absurd h
+parameter_list_fails_other_tests test mark name ts (p ∷ ps) rest (mid, is, more) = parameter_fails_other_tests test mark name ts p mid p.setting is
 
-params_apart : (s : Option Scope) (mid : List Piece) (n : Node) (rest : List Piece) → IsParams s mid n rest → Stops on_commands mid
-params_apart s mid n rest (ps, end, h, e) = params_begin on_commands
-    (λ t e. off_both (is_mark 44 t) (argument t) (other_mark 33 44 t e refl) (mark_arg 33 t e))
-    (λ t e. off_both (is_mark 44 t) (argument t) (name_no_mark 44 t e) (ap is_arg (parameter_kind t.kind e))) mid ps end h
+parameters_continue_no_command_list : (s : Option Scope) (mid : List TokenWithBytes) (n : Node) (rest : List TokenWithBytes) → IsDefaultsNodeOfParameters s mid n rest → NextTokenFailsTest may_continue_command_list mid
+parameters_continue_no_command_list s mid n rest (ps, end, h, e) = parameter_list_fails_other_tests may_continue_command_list
+    (λ t e. both_false_implies_false_or (is_mark_of_byte 44 t) (is_argument_token t) (mark_is_no_other_mark 33 44 t e refl) (mark_is_no_argument 33 t e))
+    (λ t e. both_false_implies_false_or (is_mark_of_byte 44 t) (is_argument_token t) (parameter_name_is_no_mark 44 t e) (ap is_arg (parameter_name_test_implies_name_kind t.kind e))) mid ps end h
 
-abbrev pub IsScoped : ℕ → Rule Node
-IsScoped stop = IsThen (IsScope stop) (λ s. IsParams (Some s))
+abbrev pub IsScopedDefaultsNode : ℕ → GrammarRule Node
+IsScopedDefaultsNode stop = IsSequenceOfRules (IsScope stop) (λ s. IsDefaultsNodeOfParameters (Some s))
 
-scoped_lawful : (stop : ℕ) → Lawful (scoped stop) (IsScoped stop) on_params
-unfolding scoped
-scoped_lawful stop = then_is (λ s mid n rest h st. params_apart (Some s) mid n rest h) (scope_lawful stop) (λ s. params_lawful (Some s))
+scoped_defaults_reader_follows_rule : (stop : ℕ) → ReaderFollowsRule (scoped_defaults_reader stop) (IsScopedDefaultsNode stop) may_continue_parameter_list
+unfolding scoped_defaults_reader
+scoped_defaults_reader_follows_rule stop = sequence_of_readers_follows_rules (λ s mid n rest h st. parameters_continue_no_command_list (Some s) mid n rest h) (defaults_scope_reader_follows_rule stop) (λ s. parameters_reader_follows_rule (Some s))
 
-scoped_begins : (stop : ℕ) → Begins (says (scope_sign stop)) (IsScoped stop)
-scoped_begins stop ts n rest (s, mid, h, later) = ap (comes (says (scope_sign stop))) h.split ∙ ap is_some h.is_sign
+scoped_defaults_begin_with_scope_sign : (stop : ℕ) → BeginsWithPassingToken (has_meaning_by (scope_kind_of_token stop)) (IsScopedDefaultsNode stop)
+scoped_defaults_begin_with_scope_sign stop ts n rest (s, mid, h, later) = ap (is_next_token (has_meaning_by (scope_kind_of_token stop))) h.split ∙ ap is_some h.is_sign
 
-scoped_full : (stop : ℕ) → Full (IsScoped stop)
-scoped_full stop n (s, mid, h, later) = let e = h.split in cc
+scoped_defaults_take_tokens : (stop : ℕ) → NeverTakesNoTokens (IsScopedDefaultsNode stop)
+scoped_defaults_take_tokens stop n (s, mid, h, later) = let e = h.split in cc
 
-no_param : (p : Param) (mid : List Piece) (o : Option Setting) → IsParamWith o [] p mid → ⊥
-no_param p mid (Some s) h = let e = h.split in cc
-no_param p mid None h = no_name h.signs (h.name ∷ mid) h.name mid h.split refl
+empty_list_is_no_parameter : (p : Param) (mid : List TokenWithBytes) (o : Option Setting) → IsParamWith o [] p mid → ⊥
+empty_list_is_no_parameter p mid (Some s) h = let e = h.split in cc
+empty_list_is_no_parameter p mid None h = empty_list_has_no_name_token h.signs (h.name ∷ mid) h.name mid h.split refl
 
-params_full : (s : Option Scope) → Full (IsParams s)
-params_full s n (p ∷ ps, end, (mid, is, more), e) = no_param p mid p.setting is
-params_full s n ([], end, h, e) = absurd h
+parameters_take_tokens : (s : Option Scope) → NeverTakesNoTokens (IsDefaultsNodeOfParameters s)
+parameters_take_tokens s n (p ∷ ps, end, (mid, is, more), e) = empty_list_is_no_parameter p mid p.setting is
+parameters_take_tokens s n ([], end, h, e) = absurd h
 
-abbrev pub IsDefaultsThen : Rule Node
-IsDefaultsThen = IsThen (IsToken is_defaults) (λ w. EachWhere (says (scope_sign w.stop)) (IsScoped w.stop) (IsParams None))
+abbrev pub IsDefaultsNodeSequence : GrammarRule Node
+IsDefaultsNodeSequence = IsSequenceOfRules (IsOnePassingToken is_defaults) (λ w. IsRuleChosenByNextToken (has_meaning_by (scope_kind_of_token w.stop)) (IsScopedDefaultsNode w.stop) (IsDefaultsNodeOfParameters None))
 
-pub some_defaults : Piece
-some_defaults = record { kind = kind.Word; text = codes "Defaults"; start = 0; stop = 0; last = false }
+pub token_of_word_defaults : TokenWithBytes
+token_of_word_defaults = record { kind = kind.Word; text = codes "Defaults"; start = 0; stop = 0; last = false }
 
-is_some_defaults : is_defaults some_defaults ≡ true
-unfolding some_defaults is_the_word
-is_some_defaults = refl
+token_of_word_defaults_is_defaults : is_defaults token_of_word_defaults ≡ true
+unfolding token_of_word_defaults is_given_word
+token_of_word_defaults_is_defaults = refl
 
-pub defaults_lawful : Lawful defaults IsDefaultsThen on_params
-unfolding defaults
-defaults_lawful = then_free (token_lawful is_defaults some_defaults is_some_defaults)
-    (λ w. choice (first_some (scoped_begins w.stop) (scoped_lawful w.stop).some) (suits_full (IsScoped w.stop) (says (scope_sign w.stop)) true on_params (scoped_full w.stop)) (suits_full (IsParams None) (says (scope_sign w.stop)) false on_params (params_full None))
-    (scoped_lawful w.stop) (params_lawful None))
+pub defaults_node_reader_follows_rule : ReaderFollowsRule defaults_node_reader IsDefaultsNodeSequence may_continue_parameter_list
+unfolding defaults_node_reader
+defaults_node_reader_follows_rule = sequence_after_ended_reader_follows_rule (passing_token_reader_follows_rule is_defaults token_of_word_defaults token_of_word_defaults_is_defaults)
+    (λ w. choice_reader_follows_chosen_rule (completed_first_rule_completes_choice (scoped_defaults_begin_with_scope_sign w.stop) (scoped_defaults_reader_follows_rule w.stop).some) (rule_taking_tokens_suits_any_test (IsScopedDefaultsNode w.stop) (has_meaning_by (scope_kind_of_token w.stop)) true may_continue_parameter_list (scoped_defaults_take_tokens w.stop)) (rule_taking_tokens_suits_any_test (IsDefaultsNodeOfParameters None) (has_meaning_by (scope_kind_of_token w.stop)) false may_continue_parameter_list (parameters_take_tokens None))
+    (scoped_defaults_reader_follows_rule w.stop) (parameters_reader_follows_rule None))

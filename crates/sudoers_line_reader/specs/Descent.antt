@@ -1,265 +1,265 @@
 -- The descent: the reader of a line's tokens, rule by rule.
 use Rattle.std.specs.Prelude.{ℕ, Bool, true, false, not, ◌&&◌, ◌||◌, List, [], ◌∷◌, ◌++◌, Option, Some, None, option_map, option_and_then, if◌then◌else◌}
-use Rattle.sudoers_text.specs.Value.{value_of}
-use Rattle.sudoers_line.specs.declared.node.Kind.{Kind}
-use Rattle.sudoers_line.specs.declared.node.Kind.TheVariants.{User, Runas, Host, Cmnd}
-use Rattle.sudoers_line.specs.declared.node.OptionName.{OptionName}
-use Rattle.sudoers_line.specs.declared.node.Operator.{Operator}
-use Rattle.sudoers_line.specs.declared.node.Tag.{Tag}
-use Rattle.sudoers_line.specs.Node.{Digest, Member, Def, RunasSpec, CmdSpec, HostGroup, Scope, Param, Node}
-use Rattle.sudoers_line.specs.declared.node.DigestKind.{DigestKind}
-use Rattle.sudoers_line.specs.declared.node.Args.{Args}
-use Rattle.sudoers_line.specs.declared.node.Args.TheVariants.{Any}
-use Rattle.sudoers_line.specs.declared.node.Atom.{Atom}
-use Rattle.sudoers_line.specs.declared.arguments.Program.{Program}
-use Rattle.sudoers_line.specs.Node as node
-use Rattle.sudoers_line.specs.Piece.{is_some, Piece, is_arg, is_digest, is_parameter, is_value, is_comment, is_mark, is_alias_name, kind_word, include_word, option_name, tag_of, digest_kind, operator_of, scope_sign, begins_with, ends_with}
-use Rattle.sudoers_line.specs.Atom.{atom_of, bare_command, option_value, path_value}
-use Rattle.sudoers_line.specs.declared.awaited.Awaited.{Awaited}
-use Rattle.sudoers_line.specs.declared.fault.Why.{Why}
-use Rattle.sudoers_line.specs.declared.fault.Why.TheVariants.{EndOfLine}
-use Rattle.sudoers_line.specs.Grammar.{list_stop, is_defaults}
-use Rattle.sudoers_line.specs.Fault.{some_word, some_stamp, some_path, cause}
-use Rattle.sudoers_line.specs.Arguments.{with_argument, suits, program_of, program_atom}
-use Rattle.sudoers_line_reader.specs.Reader.{Outcome, Read, Halt, Reader, ◌>>=◌, pure, one, token, choose, many, snoc, behind, separated, perhaps, from, ended}
+use Rattle.sudoers_text.specs.Value.{value_of_word}
+use Rattle.sudoers_grammar.specs.declared.node.Kind.{Kind}
+use Rattle.sudoers_grammar.specs.declared.node.Kind.TheVariants.{User, Runas, Host, Cmnd}
+use Rattle.sudoers_grammar.specs.declared.node.OptionName.{OptionName}
+use Rattle.sudoers_grammar.specs.declared.node.Operator.{Operator}
+use Rattle.sudoers_grammar.specs.declared.node.Tag.{Tag}
+use Rattle.sudoers_grammar.specs.Node.{Digest, Member, Def, RunasSpec, CmdSpec, HostGroup, Scope, Param, Node}
+use Rattle.sudoers_grammar.specs.declared.node.DigestKind.{DigestKind}
+use Rattle.sudoers_grammar.specs.declared.node.Args.{Args}
+use Rattle.sudoers_grammar.specs.declared.node.Args.TheVariants.{Any}
+use Rattle.sudoers_grammar.specs.declared.node.Atom.{Atom}
+use Rattle.sudoers_grammar.specs.declared.command_arguments.ArglessCommand.{ArglessCommand}
+use Rattle.sudoers_grammar.specs.Node as node
+use Rattle.sudoers_grammar.specs.Piece.{is_some, TokenWithBytes, is_arg, is_digest, is_parameter_name_kind, is_value, is_comment, is_mark_of_byte, is_alias_name, alias_kind_of_token, include_dir_of_token, option_of_token, tag_and_sign_of_token, digest_kind_of_token, operator_of_token, scope_kind_of_token, has_first_byte, has_last_byte}
+use Rattle.sudoers_grammar.specs.Atom.{atom_of_token, command_atom_without_args, option_value_of_token, include_path_of_token}
+use Rattle.sudoers_grammar.specs.declared.expected_tokens.ExpectedTokens.{ExpectedTokens}
+use Rattle.sudoers_grammar.specs.declared.fault.Why.{Why}
+use Rattle.sudoers_grammar.specs.declared.fault.Why.TheVariants.{EndOfLine}
+use Rattle.sudoers_grammar.specs.Grammar.{stop_of_last_member, is_defaults}
+use Rattle.sudoers_grammar.specs.Fault.{sample_name_word, sample_time_stamp, sample_path_token, syntax_fault_cause}
+use Rattle.sudoers_grammar.specs.Arguments.{args_with_one_more, has_digests_only_if_allowed, argless_command_of_atom, atom_of_command_and_args}
+use Rattle.sudoers_line_reader.specs.Reader.{ReadOutcome, Read, Halt, TokenReader, ◌>>=◌, pure, one_token_reader, passing_token_reader, reader_chosen_by_next_token, repetition_reader, snoc, reader_after_mark, separated_list_reader, optional_reader, reader_with_start, end_of_line_reader}
 
 -- ---- tokens
 
-abbrev pub argument : Piece → Bool
-argument t = is_arg t.kind
+abbrev pub is_argument_token : TokenWithBytes → Bool
+is_argument_token t = is_arg t.kind
 
-abbrev pub first_argument : Piece → Bool
-first_argument t = is_arg t.kind && not (begins_with 94 t.text)
+abbrev pub is_first_argument_token : TokenWithBytes → Bool
+is_first_argument_token t = is_arg t.kind && not (has_first_byte 94 t.text)
 
-abbrev pub digest_text : Piece → Bool
-digest_text t = is_digest t.kind
+abbrev pub is_digest_token : TokenWithBytes → Bool
+is_digest_token t = is_digest t.kind
 
-abbrev pub parameter : Piece → Bool
-parameter t = is_parameter t.kind
+abbrev pub is_parameter_name_token : TokenWithBytes → Bool
+is_parameter_name_token t = is_parameter_name_kind t.kind
 
-abbrev pub value : Piece → Bool
-value t = is_value t.kind
+abbrev pub is_parameter_value_token : TokenWithBytes → Bool
+is_parameter_value_token t = is_value t.kind
 
-abbrev pub comment : Piece → Bool
-comment t = is_comment t.kind
+abbrev pub is_comment_token : TokenWithBytes → Bool
+is_comment_token t = is_comment t.kind
 
-abbrev pub says : {X : Type 0} → (Piece → Option X) → Piece → Bool
-says f t = is_some (f t)
+abbrev pub has_meaning_by : {X : Type 0} → (TokenWithBytes → Option X) → TokenWithBytes → Bool
+has_meaning_by f t = is_some (f t)
 
 -- ---- members
 
-abbrev pub turn : Bool → Piece → Bool
-turn b t = not b
+abbrev pub sign_toggled_by_mark : Bool → TokenWithBytes → Bool
+sign_toggled_by_mark b t = not b
 
 -- "!"*, and whether their number is odd
-unfoldable pub signs : Reader Bool
-signs = many turn (is_mark 33) (token (is_mark 33)) false
+unfoldable pub negation_reader : TokenReader Bool
+negation_reader = repetition_reader sign_toggled_by_mark (is_mark_of_byte 33) (passing_token_reader (is_mark_of_byte 33)) false
 
-abbrev pub member_of : Bool → List Digest → Piece → Atom → Member
-member_of b ds t a = record { start = 0; stop = t.stop; negated = b; digests = ds; atom = a }
+abbrev pub member_of_token_and_atom : Bool → List Digest → TokenWithBytes → Atom → Member
+member_of_token_and_atom b ds t a = record { start = 0; stop = t.stop; negated = b; digests = ds; atom = a }
 
-abbrev pub started : ℕ → Member → Member
-started at m = record { start = at; stop = m.stop; negated = m.negated; digests = m.digests; atom = m.atom }
+abbrev pub member_with_start : ℕ → Member → Member
+member_with_start at m = record { start = at; stop = m.stop; negated = m.negated; digests = m.digests; atom = m.atom }
 
-abbrev pub one_atom : Kind → Bool → Piece → Option Member
-one_atom k b t = option_map (member_of b [] t) (atom_of k t)
+abbrev pub member_of_single_token : Kind → Bool → TokenWithBytes → Option Member
+member_of_single_token k b t = option_map (member_of_token_and_atom b [] t) (atom_of_token k t)
 
-unfoldable pub member : Kind → Reader Member
-member k = from (signs >>= (λ b. one (one_atom k b))) started
+unfoldable pub member_reader : Kind → TokenReader Member
+member_reader k = reader_with_start (negation_reader >>= (λ b. one_token_reader (member_of_single_token k b))) member_with_start
 
-unfoldable pub members : Kind → Reader (List Member)
-members k = separated 44 (member k)
+unfoldable pub member_list_reader : Kind → TokenReader (List Member)
+member_list_reader k = separated_list_reader 44 (member_reader k)
 
 -- ---- commands
 
-abbrev pub digest_of : DigestKind → Piece → Digest
-digest_of k t = record { kind = k; text = t.text }
+abbrev pub digest_of_kind_and_token : DigestKind → TokenWithBytes → Digest
+digest_of_kind_and_token k t = record { kind = k; text = t.text }
 
-unfoldable pub digest : Reader Digest
-digest = one digest_kind >>= (λ k. token (is_mark 58) >>= (λ _. token digest_text >>= (λ t. pure (digest_of k t))))
+unfoldable pub digest_reader : TokenReader Digest
+digest_reader = one_token_reader digest_kind_of_token >>= (λ k. passing_token_reader (is_mark_of_byte 58) >>= (λ _. passing_token_reader is_digest_token >>= (λ t. pure (digest_of_kind_and_token k t))))
 
-unfoldable pub digests : Reader (List Digest)
-digests = choose (says digest_kind) (separated 44 digest) (pure [])
+unfoldable pub optional_digests_reader : TokenReader (List Digest)
+optional_digests_reader = reader_chosen_by_next_token (has_meaning_by digest_kind_of_token) (separated_list_reader 44 digest_reader) (pure [])
 
 -- what can have arguments
-abbrev pub room : Piece → Atom → Option Program
-room t a = if ends_with 47 t.text then None else program_of a
+abbrev pub command_open_to_arguments : TokenWithBytes → Atom → Option ArglessCommand
+command_open_to_arguments t a = if has_last_byte 47 t.text then None else argless_command_of_atom a
 
 -- the arguments so far, and where the last ends
-abbrev pub add_argument : Args × ℕ → Piece → Args × ℕ
-add_argument r t = (with_argument r.0 t.text, t.stop)
+abbrev pub args_and_stop_with_one_more : Args × ℕ → TokenWithBytes → Args × ℕ
+args_and_stop_with_one_more r t = (args_with_one_more r.0 t.text, t.stop)
 
-abbrev pub with_args : Program → Member → Args × ℕ → Member
-with_args p m r = record { start = m.start; stop = r.1; negated = m.negated; digests = m.digests; atom = program_atom p r.0 }
+abbrev pub member_with_arguments : ArglessCommand → Member → Args × ℕ → Member
+member_with_arguments p m r = record { start = m.start; stop = r.1; negated = m.negated; digests = m.digests; atom = atom_of_command_and_args p r.0 }
 
-unfoldable pub arguments : Program → Member → Reader Member
-arguments p m =
-    token first_argument >>= (λ t. many add_argument argument (token argument) (with_argument Any t.text, t.stop) >>= (λ r. pure (with_args p m r)))
+unfoldable pub arguments_reader : ArglessCommand → Member → TokenReader Member
+arguments_reader p m =
+    passing_token_reader is_first_argument_token >>= (λ t. repetition_reader args_and_stop_with_one_more is_argument_token (passing_token_reader is_argument_token) (args_with_one_more Any t.text, t.stop) >>= (λ r. pure (member_with_arguments p m r)))
 
-unfoldable pub behind_word : Option Program × Member → Reader Member
-behind_word (None, m) = pure m
-behind_word (Some p, m) = choose argument (arguments p m) (pure m)
+unfoldable pub optional_arguments_reader : Option ArglessCommand × Member → TokenReader Member
+optional_arguments_reader (None, m) = pure m
+optional_arguments_reader (Some p, m) = reader_chosen_by_next_token is_argument_token (arguments_reader p m) (pure m)
 
-abbrev pub begun : Bool → List Digest → Piece → Atom → Option (Option Program × Member)
-begun b ds t a = if suits ds a then Some (room t a, member_of b ds t a) else None
+abbrev pub command_start_if_allowed : Bool → List Digest → TokenWithBytes → Atom → Option (Option ArglessCommand × Member)
+command_start_if_allowed b ds t a = if has_digests_only_if_allowed ds a then Some (command_open_to_arguments t a, member_of_token_and_atom b ds t a) else None
 
-abbrev pub one_word : Bool → List Digest → Piece → Option (Option Program × Member)
-one_word b ds t = option_and_then (begun b ds t) (bare_command t.kind t.text)
+abbrev pub command_start_of_token : Bool → List Digest → TokenWithBytes → Option (Option ArglessCommand × Member)
+command_start_of_token b ds t = option_and_then (command_start_if_allowed b ds t) (command_atom_without_args t.kind t.text)
 
-unfoldable pub bare : List Digest → Reader Member
-bare ds = signs >>= (λ b. one (one_word b ds) >>= behind_word)
+unfoldable pub command_after_digests_reader : List Digest → TokenReader Member
+command_after_digests_reader ds = negation_reader >>= (λ b. one_token_reader (command_start_of_token b ds) >>= optional_arguments_reader)
 
-unfoldable pub command : Reader Member
-command = from (digests >>= bare) started
+unfoldable pub command_reader : TokenReader Member
+command_reader = reader_with_start (optional_digests_reader >>= command_after_digests_reader) member_with_start
 
 -- a command of a scope has no digests
-unfoldable pub scope_command : Reader Member
-scope_command = from (bare []) started
+unfoldable pub scope_command_reader : TokenReader Member
+scope_command_reader = reader_with_start (command_after_digests_reader []) member_with_start
 
 -- ---- aliases
 
-unfoldable pub list : Kind → Reader (List Member)
-list User = members User
-list Runas = members Runas
-list Host = members Host
-list Cmnd = separated 44 command
+unfoldable pub alias_list_reader : Kind → TokenReader (List Member)
+alias_list_reader User = member_list_reader User
+alias_list_reader Runas = member_list_reader Runas
+alias_list_reader Host = member_list_reader Host
+alias_list_reader Cmnd = separated_list_reader 44 command_reader
 
-abbrev pub definition : Piece → List Member → Def
-definition n ms = record { name = n.text; start = n.start; stop = list_stop ms; members = ms }
+abbrev pub definition_of_name_and_list : TokenWithBytes → List Member → Def
+definition_of_name_and_list n ms = record { name = n.text; start = n.start; stop = stop_of_last_member ms; members = ms }
 
-unfoldable pub def : Kind → Reader Def
-def k = token is_alias_name >>= (λ n. token (is_mark 61) >>= (λ _. list k >>= (λ ms. pure (definition n ms))))
+unfoldable pub alias_definition_reader : Kind → TokenReader Def
+alias_definition_reader k = passing_token_reader is_alias_name >>= (λ n. passing_token_reader (is_mark_of_byte 61) >>= (λ _. alias_list_reader k >>= (λ ms. pure (definition_of_name_and_list n ms))))
 
-unfoldable pub alias : Reader Node
-alias = one kind_word >>= (λ k. separated 58 (def k) >>= (λ ds. pure (node.Alias k ds)))
+unfoldable pub alias_node_reader : TokenReader Node
+alias_node_reader = one_token_reader alias_kind_of_token >>= (λ k. separated_list_reader 58 (alias_definition_reader k) >>= (λ ds. pure (node.Alias k ds)))
 
 -- ---- user specifications
 
 -- The users are not left out.
-abbrev pub inside : Piece → Bool
-inside t = not (is_mark 41 t || is_mark 58 t)
+abbrev pub is_inside_runas_users : TokenWithBytes → Bool
+is_inside_runas_users t = not (is_mark_of_byte 41 t || is_mark_of_byte 58 t)
 
-unfoldable pub runas_users : Reader (List Member)
-runas_users = choose inside (members Runas) (pure [])
+unfoldable pub runas_users_reader : TokenReader (List Member)
+runas_users_reader = reader_chosen_by_next_token is_inside_runas_users (member_list_reader Runas) (pure [])
 
-unfoldable pub runas_groups : Reader (List Member)
-runas_groups = choose (is_mark 58) (behind 58 (members Runas)) (pure [])
+unfoldable pub runas_groups_reader : TokenReader (List Member)
+runas_groups_reader = reader_chosen_by_next_token (is_mark_of_byte 58) (reader_after_mark 58 (member_list_reader Runas)) (pure [])
 
-unfoldable pub runas : Reader RunasSpec
-runas =
-    token (is_mark 40) >>= (λ _. runas_users >>= (λ us. runas_groups >>= (λ gs. token (is_mark 41) >>= (λ _.
+unfoldable pub runas_reader : TokenReader RunasSpec
+runas_reader =
+    passing_token_reader (is_mark_of_byte 40) >>= (λ _. runas_users_reader >>= (λ us. runas_groups_reader >>= (λ gs. passing_token_reader (is_mark_of_byte 41) >>= (λ _.
     pure (record { users = us; groups = gs })))))
 
-unfoldable pub option : Reader (OptionName × List ℕ)
-option = one option_name >>= (λ o. token (is_mark 61) >>= (λ _. one (option_value o) >>= (λ v. pure (o, v))))
+unfoldable pub option_reader : TokenReader (OptionName × List ℕ)
+option_reader = one_token_reader option_of_token >>= (λ o. passing_token_reader (is_mark_of_byte 61) >>= (λ _. one_token_reader (option_value_of_token o) >>= (λ v. pure (o, v))))
 
-unfoldable pub tag : Reader (Tag × Bool)
-tag = one tag_of >>= (λ g. token (is_mark 58) >>= (λ _. pure g))
+unfoldable pub tag_reader : TokenReader (Tag × Bool)
+tag_reader = one_token_reader tag_and_sign_of_token >>= (λ g. passing_token_reader (is_mark_of_byte 58) >>= (λ _. pure g))
 
-unfoldable pub cmd_spec : Reader CmdSpec
-cmd_spec =
-    perhaps (is_mark 40) runas >>= (λ r. many snoc (says option_name) option [] >>= (λ os. many snoc (says tag_of) tag [] >>= (λ gs. command >>= (λ m.
+unfoldable pub cmd_spec_reader : TokenReader CmdSpec
+cmd_spec_reader =
+    optional_reader (is_mark_of_byte 40) runas_reader >>= (λ r. repetition_reader snoc (has_meaning_by option_of_token) option_reader [] >>= (λ os. repetition_reader snoc (has_meaning_by tag_and_sign_of_token) tag_reader [] >>= (λ gs. command_reader >>= (λ m.
     pure (record { runas = r; options = os; tags = gs; member = m })))))
 
-unfoldable pub host_group : Reader HostGroup
-host_group = members Host >>= (λ hs. token (is_mark 61) >>= (λ _. separated 44 cmd_spec >>= (λ cs. pure (record { hosts = hs; commands = cs }))))
+unfoldable pub host_group_reader : TokenReader HostGroup
+host_group_reader = member_list_reader Host >>= (λ hs. passing_token_reader (is_mark_of_byte 61) >>= (λ _. separated_list_reader 44 cmd_spec_reader >>= (λ cs. pure (record { hosts = hs; commands = cs }))))
 
-unfoldable pub spec : Reader Node
-spec = members User >>= (λ us. separated 58 host_group >>= (λ gs. pure (node.Spec us gs)))
+unfoldable pub user_spec_reader : TokenReader Node
+user_spec_reader = member_list_reader User >>= (λ us. separated_list_reader 58 host_group_reader >>= (λ gs. pure (node.Spec us gs)))
 
 -- ---- Defaults
 
-unfoldable pub scope_list : Kind → Reader (List Member)
-scope_list User = members User
-scope_list Runas = members Runas
-scope_list Host = members Host
-scope_list Cmnd = separated 44 scope_command
+unfoldable pub scope_list_reader : Kind → TokenReader (List Member)
+scope_list_reader User = member_list_reader User
+scope_list_reader Runas = member_list_reader Runas
+scope_list_reader Host = member_list_reader Host
+scope_list_reader Cmnd = separated_list_reader 44 scope_command_reader
 
-unfoldable pub scope : ℕ → Reader Scope
-scope stop = one (scope_sign stop) >>= (λ k. scope_list k >>= (λ ms. pure (record { kind = k; members = ms })))
+unfoldable pub defaults_scope_reader : ℕ → TokenReader Scope
+defaults_scope_reader stop = one_token_reader (scope_kind_of_token stop) >>= (λ k. scope_list_reader k >>= (λ ms. pure (record { kind = k; members = ms })))
 
-abbrev pub flag : Bool → Piece → Param
-flag b n = record { negated = b; name = n.text; setting = None }
+abbrev pub flag_parameter : Bool → TokenWithBytes → Param
+flag_parameter b n = record { negated = b; name = n.text; setting = None }
 
-abbrev pub set : Piece → Operator → Piece → Param
-set n o v = record { negated = false; name = n.text; setting = Some (record { operator = o; value = value_of v.text }) }
+abbrev pub set_parameter : TokenWithBytes → Operator → TokenWithBytes → Param
+set_parameter n o v = record { negated = false; name = n.text; setting = Some (record { operator = o; value = value_of_word v.text }) }
 
-unfoldable pub setting : Piece → Reader Param
-setting n = one operator_of >>= (λ o. token value >>= (λ v. pure (set n o v)))
+unfoldable pub parameter_setting_reader : TokenWithBytes → TokenReader Param
+parameter_setting_reader n = one_token_reader operator_of_token >>= (λ o. passing_token_reader is_parameter_value_token >>= (λ v. pure (set_parameter n o v)))
 
-unfoldable pub flagged : Reader Param
-flagged = signs >>= (λ b. token parameter >>= (λ n. pure (flag b n)))
+unfoldable pub negatable_flag_reader : TokenReader Param
+negatable_flag_reader = negation_reader >>= (λ b. passing_token_reader is_parameter_name_token >>= (λ n. pure (flag_parameter b n)))
 
-unfoldable pub named : Reader Param
-named = token parameter >>= (λ n. choose (says operator_of) (setting n) (pure (flag false n)))
+unfoldable pub named_parameter_reader : TokenReader Param
+named_parameter_reader = passing_token_reader is_parameter_name_token >>= (λ n. reader_chosen_by_next_token (has_meaning_by operator_of_token) (parameter_setting_reader n) (pure (flag_parameter false n)))
 
-unfoldable pub param : Reader Param
-param = choose (is_mark 33) flagged named
+unfoldable pub parameter_reader : TokenReader Param
+parameter_reader = reader_chosen_by_next_token (is_mark_of_byte 33) negatable_flag_reader named_parameter_reader
 
-unfoldable pub params : Option Scope → Reader Node
-params s = separated 44 param >>= (λ ps. pure (node.Defaults s ps))
+unfoldable pub parameters_reader : Option Scope → TokenReader Node
+parameters_reader s = separated_list_reader 44 parameter_reader >>= (λ ps. pure (node.Defaults s ps))
 
-unfoldable pub scoped : ℕ → Reader Node
-scoped stop = scope stop >>= (λ s. params (Some s))
+unfoldable pub scoped_defaults_reader : ℕ → TokenReader Node
+scoped_defaults_reader stop = defaults_scope_reader stop >>= (λ s. parameters_reader (Some s))
 
-unfoldable pub defaults : Reader Node
-defaults = token is_defaults >>= (λ w. choose (says (scope_sign w.stop)) (scoped w.stop) (params None))
+unfoldable pub defaults_node_reader : TokenReader Node
+defaults_node_reader = passing_token_reader is_defaults >>= (λ w. reader_chosen_by_next_token (has_meaning_by (scope_kind_of_token w.stop)) (scoped_defaults_reader w.stop) (parameters_reader None))
 
 -- ---- includes and lines
 
-unfoldable pub include : Reader Node
-include = one include_word >>= (λ dir. one path_value >>= (λ path. pure (node.Include dir path)))
+unfoldable pub include_node_reader : TokenReader Node
+include_node_reader = one_token_reader include_dir_of_token >>= (λ dir. one_token_reader include_path_of_token >>= (λ path. pure (node.Include dir path)))
 
 -- A comment may stand at the end.
-unfoldable pub last : Node → Reader Node
-last n = choose comment (token comment >>= (λ _. ended n)) (ended n)
+unfoldable pub optional_comment_end_reader : Node → TokenReader Node
+optional_comment_end_reader n = reader_chosen_by_next_token is_comment_token (passing_token_reader is_comment_token >>= (λ _. end_of_line_reader n)) (end_of_line_reader n)
 
-abbrev pub anything : Piece → Bool
-anything t = true
+abbrev pub is_any_token : TokenWithBytes → Bool
+is_any_token t = true
 
 -- ---- each kind of line
 
-abbrev pub comment_line : Reader Node
-comment_line = token comment >>= (λ _. ended node.Comment)
+abbrev pub comment_line_reader : TokenReader Node
+comment_line_reader = passing_token_reader is_comment_token >>= (λ _. end_of_line_reader node.Comment)
 
-abbrev pub alias_line : Reader Node
-alias_line = alias >>= last
+abbrev pub alias_line_reader : TokenReader Node
+alias_line_reader = alias_node_reader >>= optional_comment_end_reader
 
-abbrev pub include_line : Reader Node
-include_line = include >>= last
+abbrev pub include_line_reader : TokenReader Node
+include_line_reader = include_node_reader >>= optional_comment_end_reader
 
-abbrev pub defaults_line : Reader Node
-defaults_line = defaults >>= last
+abbrev pub defaults_line_reader : TokenReader Node
+defaults_line_reader = defaults_node_reader >>= optional_comment_end_reader
 
-abbrev pub spec_line : Reader Node
-spec_line = spec >>= last
+abbrev pub spec_line_reader : TokenReader Node
+spec_line_reader = user_spec_reader >>= optional_comment_end_reader
 
-unfoldable pub line : Reader Node
-line =
-    choose anything
-    (choose comment comment_line
-    (choose (says kind_word) alias_line
-    (choose (says include_word) include_line
-    (choose is_defaults defaults_line
-    spec_line))))
-    (ended node.Blank)
+unfoldable pub whole_line_reader : TokenReader Node
+whole_line_reader =
+    reader_chosen_by_next_token is_any_token
+    (reader_chosen_by_next_token is_comment_token comment_line_reader
+    (reader_chosen_by_next_token (has_meaning_by alias_kind_of_token) alias_line_reader
+    (reader_chosen_by_next_token (has_meaning_by include_dir_of_token) include_line_reader
+    (reader_chosen_by_next_token is_defaults defaults_line_reader
+    spec_line_reader))))
+    (end_of_line_reader node.Blank)
 
 -- ---- what a line says, or its first fault
 
 -- The tokens before it can go on so.
-abbrev pub goes_on : Outcome Node → Bool
-goes_on (Read n rest) = true
-goes_on (Halt []) = true
-goes_on (Halt (t ∷ ts)) = false
+abbrev pub is_continuable_outcome : ReadOutcome Node → Bool
+is_continuable_outcome (Read n rest) = true
+is_continuable_outcome (Halt []) = true
+is_continuable_outcome (Halt (t ∷ ts)) = false
 
 -- Behind these tokens such a token may stand.
-abbrev pub may_stand : List Piece → Piece → Bool
-may_stand before t = goes_on (line (before ++ t ∷ []))
+abbrev pub is_token_allowed_after : List TokenWithBytes → TokenWithBytes → Bool
+is_token_allowed_after before t = is_continuable_outcome (whole_line_reader (before ++ t ∷ []))
 
-abbrev pub awaited : List Piece → Awaited
-awaited before = record { word = may_stand before some_word; stamp = may_stand before some_stamp; path = may_stand before some_path }
+abbrev pub expected_tokens_after : List TokenWithBytes → ExpectedTokens
+expected_tokens_after before = record { word = is_token_allowed_after before sample_name_word; stamp = is_token_allowed_after before sample_time_stamp; path = is_token_allowed_after before sample_path_token }
 
 -- why the line is refused with the first of these tokens behind those
-abbrev pub cause_at : List Piece → List Piece → Why
-cause_at before [] = EndOfLine
-cause_at before (t ∷ rest) = cause (awaited before) t
+abbrev pub cause_at_first_token : List TokenWithBytes → List TokenWithBytes → Why
+cause_at_first_token before [] = EndOfLine
+cause_at_first_token before (t ∷ rest) = syntax_fault_cause (expected_tokens_after before) t

@@ -1,44 +1,50 @@
 //! Commands.
 
 ghost use Rattle.std.specs.Prelude.{◌≡◌, Some};
-ghost use Rattle.sudoers_line.specs.declared.node.Args.TheVariants.{Any};
-ghost use Rattle.sudoers_line.specs.declared.arguments.Program.{Program as ProgramOf};
-ghost use Rattle.sudoers_line.specs.Arguments.{with_argument, program_of, program_atom};
+ghost use Rattle.sudoers_grammar.specs.declared.node.Args.TheVariants.{Any};
+ghost use Rattle.sudoers_grammar.specs.declared.command_arguments.ArglessCommand.{ArglessCommand as ProgramOf};
+ghost use Rattle.sudoers_grammar.specs.Arguments.{args_with_one_more, argless_command_of_atom, atom_of_command_and_args};
 ghost use Rattle.sudoers_line_rows.specs.declared.rows.Tables.{Tables as TablesOf};
-ghost use Rattle.sudoers_line.specs.Node.{Member as MemberOf};
-ghost use Rattle.sudoers_line_reader.specs.Reader.{many, separated, token};
-ghost use Rattle.sudoers_line.specs.Piece.{is_some};
-ghost use Rattle.sudoers_line_reader.specs.Descent.{add_argument, argument, arguments, bare, behind_word, command, scope_command};
-ghost use Rattle.sudoers_line_reader.specs.internal.Cursor.{itself, Reads};
-ghost use Rattle.sudoers_line_rows.specs.Tables.{Grown, Lasts, args_in, atom_in, digests_in, member_in, members_in};
-ghost use Rattle.sudoers_line_reader.specs.internal.Answer.{ReadsAs, Tells, word_in};
+ghost use Rattle.sudoers_grammar.specs.Node.{Member as MemberOf};
+ghost use Rattle.sudoers_line_reader.specs.Reader.{repetition_reader, separated_list_reader, passing_token_reader};
+ghost use Rattle.sudoers_grammar.specs.Piece.{is_some};
+ghost use Rattle.sudoers_line_reader.specs.Descent.{args_and_stop_with_one_more, is_argument_token, arguments_reader, command_after_digests_reader, optional_arguments_reader, command_reader, scope_command_reader};
+ghost use Rattle.sudoers_line_reader.specs.internal.Cursor.{value_itself, ReadsAsOutcome};
+ghost use Rattle.sudoers_line_rows.specs.Tables.{TablesHaveGrown, RowMeaningLasts, args_in_tables, atom_in_tables, digests_in_tables, member_in_tables, members_in_tables};
+ghost use Rattle.sudoers_line_reader.specs.internal.Answer.{RowReadsAsOutcome, ReportsDigestPresence, command_start_of_word_row};
 
-use crate::cursor::{Answer, Cursor};
-use crate::digests::digests;
-use crate::members::signs;
-use crate::row_reader::{RowReader, read_list};
-use crate::words::{WordRow, word};
+use crate::command_words::{CommandStartRow, read_command_word};
+use crate::cursor::{ReadResult, TokenCursor};
+use crate::digests::read_optional_digests;
+use crate::members::read_negation_signs;
+use crate::row_reader::{RowReader, read_separated_rows};
 use std::alloc::Global;
-use sudoers_line::{Args, Part, with_argument};
-use sudoers_line_rows::{ArgsRow, AtomRow, MemberRow, NONE, Range, Tables, keep_args, place};
+use sudoers_grammar::{Args, TokenWithText, append_argument_to_args};
+use sudoers_line_rows::{
+    ArgsRow, AtomRow, MemberRow, NONE, RowRange, Tables, convert_offset_to_u32, store_command_args,
+};
 
 /// Reads the arguments behind the first, and returns all of them, and where the last ends.
-fn more_arguments(alloc: Global, cursor: &mut Cursor<'_>, first: &Part<'_>) -> Answer<(Args, usize)>
-    ensures { Reads (many add_argument argument (token argument) (with_argument Any first.now.text.now, first.now.stop) cursor.old) itself result cursor.new }
+fn read_further_arguments(
+    alloc: Global,
+    cursor: &mut TokenCursor<'_>,
+    first: &TokenWithText<'_>,
+) -> ReadResult<(Args, usize)>
+    ensures { ReadsAsOutcome (repetition_reader args_and_stop_with_one_more is_argument_token (passing_token_reader is_argument_token) (args_with_one_more Any first.now.text.now, first.now.stop) cursor.old) value_itself result cursor.new }
 {
-    let mut args = with_argument(alloc, Args::Any, first.text)?;
+    let mut args = append_argument_to_args(alloc, Args::Any, first.text)?;
     let mut stop = first.stop;
-    while cursor.at_argument() {
-        let part = cursor.argument()?;
-        args = with_argument(alloc, args, part.text)?;
+    while cursor.is_at_argument() {
+        let part = cursor.expect_argument()?;
+        args = append_argument_to_args(alloc, args, part.text)?;
         stop = part.stop;
     }
     Ok((args, stop))
 }
 
 /// Returns the command with these arguments, if it can have any.
-fn with_args(atom: AtomRow, args: ArgsRow) -> AtomRow
-    ensures { (t : TablesOf) (p : ProgramOf) → program_of (atom_in t atom) ≡ Some p → atom_in t result ≡ program_atom p (args_in t args) }
+fn replace_command_args(atom: AtomRow, args: ArgsRow) -> AtomRow
+    ensures { (t : TablesOf) (p : ProgramOf) → argless_command_of_atom (atom_in_tables t atom) ≡ Some p → atom_in_tables t result ≡ atom_of_command_and_args p (args_in_tables t args) }
 {
     match atom {
         AtomRow::Path { path, .. } => AtomRow::Path { path, args },
@@ -48,32 +54,32 @@ fn with_args(atom: AtomRow, args: ArgsRow) -> AtomRow
 }
 
 /// Reads the arguments of this command, which can have some.
-#[tactic(auto, unfolding(crate::specs::Descent::arguments))]
-fn arguments(
+#[tactic(auto, unfolding(crate::specs::Descent::arguments_reader))]
+fn read_command_arguments(
     alloc: Global,
-    cursor: &mut Cursor<'_>,
+    cursor: &mut TokenCursor<'_>,
     tables: &mut Tables,
     member: MemberRow,
-) -> Answer<MemberRow>
-    requires { Lasts member_in tables.now member }
-    ensures reads { (p : ProgramOf) → program_of (atom_in tables.old member.atom) ≡ Some p
-        → ReadsAs (arguments p (member_in tables.old member) cursor.old) member_in tables.new result cursor.new }
-    ensures grown { Grown tables.old tables.new }
+) -> ReadResult<MemberRow>
+    requires { RowMeaningLasts member_in_tables tables.now member }
+    ensures reads { (p : ProgramOf) → argless_command_of_atom (atom_in_tables tables.old member.atom) ≡ Some p
+        → RowReadsAsOutcome (arguments_reader p (member_in_tables tables.old member) cursor.old) member_in_tables tables.new result cursor.new }
+    ensures grown { TablesHaveGrown tables.old tables.new }
 {
-    let first = cursor.first_argument()?;
-    let (args, stop) = more_arguments(alloc, cursor, &first)?;
-    let args = keep_args(tables, &args)?;
-    let stop = place(stop)?;
+    let first = cursor.expect_first_argument()?;
+    let (args, stop) = read_further_arguments(alloc, cursor, &first)?;
+    let args = store_command_args(tables, &args)?;
+    let stop = convert_offset_to_u32(stop)?;
     Ok(MemberRow {
         stop,
-        atom: with_args(member.atom, args),
+        atom: replace_command_args(member.atom, args),
         ..member
     })
 }
 
 /// Returns whether the command can have arguments.
-fn has_program(word: WordRow) -> bool
-    ensures { (t : TablesOf) → result ≡ is_some (word_in t word).0 }
+fn may_have_arguments(word: CommandStartRow) -> bool
+    ensures { (t : TablesOf) → result ≡ is_some (command_start_of_word_row t word).0 }
 {
     word.has_room
         && matches!(
@@ -83,42 +89,42 @@ fn has_program(word: WordRow) -> bool
 }
 
 /// Reads the arguments behind the word of a command, if there are any.
-fn behind_word(
+fn read_optional_arguments(
     alloc: Global,
-    cursor: &mut Cursor<'_>,
+    cursor: &mut TokenCursor<'_>,
     tables: &mut Tables,
-    word: WordRow,
-) -> Answer<MemberRow>
-    requires { Lasts word_in tables.now word }
-    ensures reads { ReadsAs (behind_word (word_in tables.old word) cursor.old) member_in tables.new result cursor.new }
-    ensures grown { Grown tables.old tables.new }
+    word: CommandStartRow,
+) -> ReadResult<MemberRow>
+    requires { RowMeaningLasts command_start_of_word_row tables.now word }
+    ensures reads { RowReadsAsOutcome (optional_arguments_reader (command_start_of_word_row tables.old word) cursor.old) member_in_tables tables.new result cursor.new }
+    ensures grown { TablesHaveGrown tables.old tables.new }
 {
-    if !has_program(word) {
+    if !may_have_arguments(word) {
         return Ok(word.member);
     }
-    if !cursor.at_argument() {
+    if !cursor.is_at_argument() {
         return Ok(word.member);
     }
-    arguments(alloc, cursor, tables, word.member)
+    read_command_arguments(alloc, cursor, tables, word.member)
 }
 
 /// Reads a command behind these digests, without its place.
-#[tactic(auto, unfolding(crate::specs::Descent::bare))]
-fn bare(
+#[tactic(auto, unfolding(crate::specs::Descent::command_after_digests_reader))]
+fn read_command_after_digests(
     alloc: Global,
-    cursor: &mut Cursor<'_>,
+    cursor: &mut TokenCursor<'_>,
     tables: &mut Tables,
-    digests: Range,
+    digests: RowRange,
     has_digests: bool,
-) -> Answer<MemberRow>
-    requires tells { Tells has_digests (digests_in tables.now digests) }
-    requires lasts { Lasts digests_in tables.now digests }
-    ensures reads { ReadsAs (bare (digests_in tables.old digests) cursor.old) member_in tables.new result cursor.new }
-    ensures grown { Grown tables.old tables.new }
+) -> ReadResult<MemberRow>
+    requires tells { ReportsDigestPresence has_digests (digests_in_tables tables.now digests) }
+    requires lasts { RowMeaningLasts digests_in_tables tables.now digests }
+    ensures reads { RowReadsAsOutcome (command_after_digests_reader (digests_in_tables tables.old digests) cursor.old) member_in_tables tables.new result cursor.new }
+    ensures grown { TablesHaveGrown tables.old tables.new }
 {
-    let negated = signs(cursor);
-    let word = word(alloc, cursor, tables, negated, digests, has_digests)?;
-    behind_word(alloc, cursor, tables, word)
+    let negated = read_negation_signs(cursor);
+    let word = read_command_word(alloc, cursor, tables, negated, digests, has_digests)?;
+    read_optional_arguments(alloc, cursor, tables, word)
 }
 
 /// Reads commands.
@@ -130,21 +136,21 @@ impl RowReader for CommandReader {
 
     ghost Said = { MemberOf };
 
-    ghost said = { member_in };
+    ghost said = { member_in_tables };
 
-    ghost rule = { λ _. command };
+    ghost rule = { λ _. command_reader };
 
-    #[tactic(auto, unfolding(crate::specs::Descent::command))]
+    #[tactic(auto, unfolding(crate::specs::Descent::command_reader))]
     fn read(
         self,
         alloc: Global,
-        cursor: &mut Cursor<'_>,
+        cursor: &mut TokenCursor<'_>,
         tables: &mut Tables,
-    ) -> Answer<MemberRow> {
-        let start = place(cursor.start())?;
-        let has_digests = cursor.at_digest();
-        let digests = digests(alloc, cursor, tables)?;
-        let row = bare(alloc, cursor, tables, digests, has_digests)?;
+    ) -> ReadResult<MemberRow> {
+        let start = convert_offset_to_u32(cursor.start_of_next_token())?;
+        let has_digests = cursor.is_at_digest_kind();
+        let digests = read_optional_digests(alloc, cursor, tables)?;
+        let row = read_command_after_digests(alloc, cursor, tables, digests, has_digests)?;
         Ok(MemberRow { start, ..row })
     }
 }
@@ -158,41 +164,45 @@ impl RowReader for ScopeCommandReader {
 
     ghost Said = { MemberOf };
 
-    ghost said = { member_in };
+    ghost said = { member_in_tables };
 
-    ghost rule = { λ _. scope_command };
+    ghost rule = { λ _. scope_command_reader };
 
-    #[tactic(auto, unfolding(crate::specs::Descent::scope_command))]
+    #[tactic(auto, unfolding(crate::specs::Descent::scope_command_reader))]
     fn read(
         self,
         alloc: Global,
-        cursor: &mut Cursor<'_>,
+        cursor: &mut TokenCursor<'_>,
         tables: &mut Tables,
-    ) -> Answer<MemberRow> {
-        let start = place(cursor.start())?;
-        let row = bare(alloc, cursor, tables, NONE, false)?;
+    ) -> ReadResult<MemberRow> {
+        let start = convert_offset_to_u32(cursor.start_of_next_token())?;
+        let row = read_command_after_digests(alloc, cursor, tables, NONE, false)?;
         Ok(MemberRow { start, ..row })
     }
 }
 
 /// Reads a list of commands.
-#[tactic(auto, using(crate::proofs::Loops::command_shrinks))]
-pub fn command_list(alloc: Global, cursor: &mut Cursor<'_>, tables: &mut Tables) -> Answer<Range>
-    ensures reads { ReadsAs (separated 44 command cursor.old) members_in tables.new result cursor.new }
-    ensures grown { Grown tables.old tables.new }
+#[tactic(auto, using(crate::proofs::Loops::next_command_reader_consumes_tokens))]
+pub fn read_command_list(
+    alloc: Global,
+    cursor: &mut TokenCursor<'_>,
+    tables: &mut Tables,
+) -> ReadResult<RowRange>
+    ensures reads { RowReadsAsOutcome (separated_list_reader 44 command_reader cursor.old) members_in_tables tables.new result cursor.new }
+    ensures grown { TablesHaveGrown tables.old tables.new }
 {
-    read_list(CommandReader, b',', alloc, cursor, tables)
+    read_separated_rows(CommandReader, b',', alloc, cursor, tables)
 }
 
 /// Reads a list of commands of a scope.
-#[tactic(auto, using(crate::proofs::Loops::scope_command_shrinks))]
-pub fn scope_command_list(
+#[tactic(auto, using(crate::proofs::Loops::next_scope_command_reader_consumes_tokens))]
+pub fn read_scope_command_list(
     alloc: Global,
-    cursor: &mut Cursor<'_>,
+    cursor: &mut TokenCursor<'_>,
     tables: &mut Tables,
-) -> Answer<Range>
-    ensures reads { ReadsAs (separated 44 scope_command cursor.old) members_in tables.new result cursor.new }
-    ensures grown { Grown tables.old tables.new }
+) -> ReadResult<RowRange>
+    ensures reads { RowReadsAsOutcome (separated_list_reader 44 scope_command_reader cursor.old) members_in_tables tables.new result cursor.new }
+    ensures grown { TablesHaveGrown tables.old tables.new }
 {
-    read_list(ScopeCommandReader, b',', alloc, cursor, tables)
+    read_separated_rows(ScopeCommandReader, b',', alloc, cursor, tables)
 }

@@ -1,20 +1,22 @@
 //! A cursor over the tokens of a line.
 
 ghost use Rattle.std.specs.Prelude.{◌≡◌, Bool, Option, drop, length, map, not, option_and_then, option_map};
-ghost use Rattle.sudoers_line.specs.Seen.{seen};
-ghost use Rattle.sudoers_line.specs.Piece.{Piece, is_mark, is_alias_name, kind_word, include_word, option_name, tag_of, digest_kind, operator_of, scope_sign};
-ghost use Rattle.sudoers_line.specs.Grammar.{is_defaults, start_of};
-ghost use Rattle.sudoers_line_reader.specs.Reader.{comes, one, token};
-ghost use Rattle.sudoers_line_reader.specs.Descent.{anything, argument, comment, digest_text, first_argument, inside, parameter, says, value};
-ghost use Rattle.sudoers_line_reader.specs.internal.Cursor.{first, itself, Reads};
+ghost use Rattle.sudoers_grammar.specs.Seen.{model_of_token_part};
+ghost use Rattle.sudoers_grammar.specs.Piece.{TokenWithBytes, is_mark_of_byte, is_alias_name, alias_kind_of_token, include_dir_of_token, option_of_token, tag_and_sign_of_token, digest_kind_of_token, operator_of_token, scope_kind_of_token};
+ghost use Rattle.sudoers_grammar.specs.Grammar.{is_defaults, start_of_first_token};
+ghost use Rattle.sudoers_line_reader.specs.Reader.{is_next_token, one_token_reader, passing_token_reader};
+ghost use Rattle.sudoers_line_reader.specs.Descent.{is_any_token, is_argument_token, is_comment_token, is_digest_token, is_first_argument_token, is_inside_runas_users, is_parameter_name_token, has_meaning_by, is_parameter_value_token};
+ghost use Rattle.sudoers_line_reader.specs.internal.Cursor.{first_token_option, value_itself, ReadsAsOutcome};
 
 use std::alloc::AllocError;
 use std::marker::Model;
-use sudoers_line::{DigestKind, Kind, Operator, OptionName, Part, Tag, begins_with};
+use sudoers_grammar::{
+    DigestKind, Kind, Operator, OptionName, Tag, TokenWithText, begins_with_byte,
+};
 
 /// Why a reader halts.
 #[derive(Clone, Copy)]
-pub enum Halted {
+pub enum HaltCause {
     /// The next token, or the end of the line, is the line's first error.
     Fault,
     /// A growth of memory was refused.
@@ -22,46 +24,46 @@ pub enum Halted {
 }
 
 /// What a reader answers.
-pub type Answer<T> = Result<T, Halted>;
+pub type ReadResult<T> = Result<T, HaltCause>;
 
-impl From<AllocError> for Halted {
+impl From<AllocError> for HaltCause {
     ghost use Rattle.std.specs.Prelude.{◌≡◌};
-    ghost use Rattle.sudoers_line_reader.specs.declared.cursor.Halted.TheVariants.{NoMemory};
+    ghost use Rattle.sudoers_line_reader.specs.declared.cursor.HaltCause.TheVariants.{NoMemory};
 
     ghost from_gives = { λ _ e. e ≡ NoMemory };
 
-    fn from(_error: AllocError) -> Halted {
-        Halted::NoMemory
+    fn from(_error: AllocError) -> HaltCause {
+        HaltCause::NoMemory
     }
 }
 
 /// The tokens that are left of a line.
 #[derive(Drop)]
-pub struct Cursor<'a> {
-    left: &'a [Part<'a>],
+pub struct TokenCursor<'a> {
+    left: &'a [TokenWithText<'a>],
 }
 
-impl<'a> Model for Cursor<'a> {
+impl<'a> Model for TokenCursor<'a> {
     ghost use Rattle.std.specs.Prelude.{List, map};
-    ghost use Rattle.sudoers_line.specs.Piece.{Piece};
-    ghost use Rattle.sudoers_line.specs.Seen.{seen};
+    ghost use Rattle.sudoers_grammar.specs.Piece.{TokenWithBytes};
+    ghost use Rattle.sudoers_grammar.specs.Seen.{model_of_token_part};
 
-    ghost Value = { List Piece };
+    ghost Value = { List TokenWithBytes };
 
-    ghost view = { λ c. map seen c.left.now };
+    ghost view = { λ c. map model_of_token_part c.left.now };
 }
 
-impl<'a> Cursor<'a> {
+impl<'a> TokenCursor<'a> {
     /// Returns a cursor before all these tokens.
-    pub fn new(left: &'a [Part<'a>]) -> Self
-        ensures { result ≡ map seen left.now }
+    pub fn new(left: &'a [TokenWithText<'a>]) -> Self
+        ensures { result ≡ map model_of_token_part left.now }
     {
-        Cursor { left }
+        TokenCursor { left }
     }
 
     /// Returns the next token.
-    pub fn peek(&self) -> Option<Part<'a>>
-        ensures { option_map seen result ≡ first self.now }
+    pub fn peek(&self) -> Option<TokenWithText<'a>>
+        ensures { option_map model_of_token_part result ≡ first_token_option self.now }
     {
         match self.left {
             [] => None,
@@ -77,7 +79,7 @@ impl<'a> Cursor<'a> {
     }
 
     /// Passes the next token.
-    pub fn bump(&mut self)
+    pub fn pass_next_token(&mut self)
         ensures { self.new ≡ drop 1 self.old }
     {
         match self.left {
@@ -87,15 +89,15 @@ impl<'a> Cursor<'a> {
     }
 
     /// Returns whether the next token is this mark.
-    pub fn at_mark(&self, mark: u8) -> bool
-        ensures { result ≡ comes (is_mark mark) self.now }
+    pub fn is_at_mark(&self, mark: u8) -> bool
+        ensures { result ≡ is_next_token (is_mark_of_byte mark) self.now }
     {
-        self.peek().is_some_and(|part| part.is_mark(mark))
+        self.peek().is_some_and(|part| part.is_punct_mark(mark))
     }
 
     /// Returns where the next token begins; 0 if none is left.
-    pub fn start(&self) -> usize
-        ensures { result ≡ start_of self.now }
+    pub fn start_of_next_token(&self) -> usize
+        ensures { result ≡ start_of_first_token self.now }
     {
         match self.peek() {
             None => 0,
@@ -104,230 +106,233 @@ impl<'a> Cursor<'a> {
     }
 
     /// Passes the next token, if it is said to be one that may stand here.
-    pub fn pass(&mut self, holds: bool) -> Answer<Part<'a>>
-        ensures { (test : Piece → Bool) → holds ≡ comes test self.old → Reads (token test self.old) seen result self.new }
+    pub fn pass_token_if(&mut self, holds: bool) -> ReadResult<TokenWithText<'a>>
+        ensures { (test : TokenWithBytes → Bool) → holds ≡ is_next_token test self.old → ReadsAsOutcome (passing_token_reader test self.old) model_of_token_part result self.new }
     {
         match self.peek() {
             Some(part) if holds => {
-                self.bump();
+                self.pass_next_token();
                 Ok(part)
             }
-            _ => Err(Halted::Fault),
+            _ => Err(HaltCause::Fault),
         }
     }
 
     /// Passes the next token, which says this, if it says anything.
-    pub fn take<T: Drop>(&mut self, found: Option<T>) -> Answer<T>
-        ensures { (says : Piece → Option T) → found ≡ option_and_then says (first self.old) → Reads (one says self.old) itself result self.new }
+    pub fn pass_token_with_meaning<T: Drop>(&mut self, found: Option<T>) -> ReadResult<T>
+        ensures { (says : TokenWithBytes → Option T) → found ≡ option_and_then says (first_token_option self.old) → ReadsAsOutcome (one_token_reader says self.old) value_itself result self.new }
     {
         match found {
-            None => Err(Halted::Fault),
+            None => Err(HaltCause::Fault),
             Some(found) => {
-                self.bump();
+                self.pass_next_token();
                 Ok(found)
             }
         }
     }
 
     /// Passes this mark.
-    pub fn mark(&mut self, mark: u8) -> Answer<Part<'a>>
-        ensures { Reads (token (is_mark mark) self.old) seen result self.new }
+    pub fn expect_mark(&mut self, mark: u8) -> ReadResult<TokenWithText<'a>>
+        ensures { ReadsAsOutcome (passing_token_reader (is_mark_of_byte mark) self.old) model_of_token_part result self.new }
     {
-        self.pass(self.at_mark(mark))
+        self.pass_token_if(self.is_at_mark(mark))
     }
 
     /// Passes the text of a digest.
-    pub fn digest_text(&mut self) -> Answer<Part<'a>>
-        ensures { Reads (token digest_text self.old) seen result self.new }
+    pub fn expect_digest_text(&mut self) -> ReadResult<TokenWithText<'a>>
+        ensures { ReadsAsOutcome (passing_token_reader is_digest_token self.old) model_of_token_part result self.new }
     {
-        self.pass(self.peek().is_some_and(|part| part.is_digest()))
+        self.pass_token_if(self.peek().is_some_and(|part| part.is_digest()))
     }
 
     /// Passes the name of an alias.
-    pub fn alias_name(&mut self) -> Answer<Part<'a>>
-        ensures { Reads (token is_alias_name self.old) seen result self.new }
+    pub fn expect_alias_name(&mut self) -> ReadResult<TokenWithText<'a>>
+        ensures { ReadsAsOutcome (passing_token_reader is_alias_name self.old) model_of_token_part result self.new }
     {
-        self.pass(self.peek().is_some_and(|part| part.is_alias_name()))
+        self.pass_token_if(self.peek().is_some_and(|part| part.is_alias_name()))
     }
 
     /// Passes the word `Defaults`.
-    pub fn defaults(&mut self) -> Answer<Part<'a>>
-        ensures { Reads (token is_defaults self.old) seen result self.new }
+    pub fn expect_defaults_word(&mut self) -> ReadResult<TokenWithText<'a>>
+        ensures { ReadsAsOutcome (passing_token_reader is_defaults self.old) model_of_token_part result self.new }
     {
-        self.pass(self.at_defaults())
+        self.pass_token_if(self.is_at_defaults_word())
     }
 
     /// Passes the name of a parameter.
-    pub fn parameter(&mut self) -> Answer<Part<'a>>
-        ensures { Reads (token parameter self.old) seen result self.new }
+    pub fn expect_parameter_name(&mut self) -> ReadResult<TokenWithText<'a>>
+        ensures { ReadsAsOutcome (passing_token_reader is_parameter_name_token self.old) model_of_token_part result self.new }
     {
-        self.pass(self.peek().is_some_and(|part| part.is_parameter()))
+        self.pass_token_if(self.peek().is_some_and(|part| part.is_parameter_name()))
     }
 
     /// Passes the value of a parameter.
-    pub fn value(&mut self) -> Answer<Part<'a>>
-        ensures { Reads (token value self.old) seen result self.new }
+    pub fn expect_parameter_value(&mut self) -> ReadResult<TokenWithText<'a>>
+        ensures { ReadsAsOutcome (passing_token_reader is_parameter_value_token self.old) model_of_token_part result self.new }
     {
-        self.pass(self.peek().is_some_and(|part| part.is_value()))
+        self.pass_token_if(self.peek().is_some_and(|part| part.is_value()))
     }
 
     /// Passes a word with which a line of aliases begins.
-    pub fn kind_word(&mut self) -> Answer<Kind>
-        ensures { Reads (one kind_word self.old) itself result self.new }
+    pub fn expect_alias_keyword(&mut self) -> ReadResult<Kind>
+        ensures { ReadsAsOutcome (one_token_reader alias_kind_of_token self.old) value_itself result self.new }
     {
-        self.take(self.peek().and_then(|part| part.kind_word()))
+        self.pass_token_with_meaning(self.peek().and_then(|part| part.alias_kind()))
     }
 
     /// Passes a word with which an include begins.
-    pub fn include_word(&mut self) -> Answer<bool>
-        ensures { Reads (one include_word self.old) itself result self.new }
+    pub fn expect_include_word(&mut self) -> ReadResult<bool>
+        ensures { ReadsAsOutcome (one_token_reader include_dir_of_token self.old) value_itself result self.new }
     {
-        self.take(self.peek().and_then(|part| part.include_word()))
+        self.pass_token_with_meaning(self.peek().and_then(|part| part.include_is_dir()))
     }
 
     /// Passes the name of an option.
-    pub fn option_name(&mut self) -> Answer<OptionName>
-        ensures { Reads (one option_name self.old) itself result self.new }
+    pub fn expect_option_name(&mut self) -> ReadResult<OptionName>
+        ensures { ReadsAsOutcome (one_token_reader option_of_token self.old) value_itself result self.new }
     {
-        self.take(self.peek().and_then(|part| part.option_name()))
+        self.pass_token_with_meaning(self.peek().and_then(|part| part.option_name()))
     }
 
     /// Passes a tag.
-    pub fn tag(&mut self) -> Answer<(Tag, bool)>
-        ensures { Reads (one tag_of self.old) itself result self.new }
+    pub fn expect_tag(&mut self) -> ReadResult<(Tag, bool)>
+        ensures { ReadsAsOutcome (one_token_reader tag_and_sign_of_token self.old) value_itself result self.new }
     {
-        self.take(self.peek().and_then(|part| part.tag()))
+        self.pass_token_with_meaning(self.peek().and_then(|part| part.tag_with_sign()))
     }
 
     /// Passes the kind of a digest.
-    pub fn digest_kind(&mut self) -> Answer<DigestKind>
-        ensures { Reads (one digest_kind self.old) itself result self.new }
+    pub fn expect_digest_kind(&mut self) -> ReadResult<DigestKind>
+        ensures { ReadsAsOutcome (one_token_reader digest_kind_of_token self.old) value_itself result self.new }
     {
-        self.take(self.peek().and_then(|part| part.digest_kind()))
+        self.pass_token_with_meaning(self.peek().and_then(|part| part.digest_kind()))
     }
 
     /// Passes the operator of a parameter.
-    pub fn operator(&mut self) -> Answer<Operator>
-        ensures { Reads (one operator_of self.old) itself result self.new }
+    pub fn expect_operator(&mut self) -> ReadResult<Operator>
+        ensures { ReadsAsOutcome (one_token_reader operator_of_token self.old) value_itself result self.new }
     {
-        self.take(self.peek().and_then(|part| part.operator()))
+        self.pass_token_with_meaning(self.peek().and_then(|part| part.operator()))
     }
 
     /// Returns whether the next token is the kind of a digest.
-    pub fn at_digest(&self) -> bool
-        ensures { result ≡ comes (says digest_kind) self.now }
+    pub fn is_at_digest_kind(&self) -> bool
+        ensures { result ≡ is_next_token (has_meaning_by digest_kind_of_token) self.now }
     {
         self.peek().is_some_and(|part| part.digest_kind().is_some())
     }
 
     /// Returns whether the next token is the name of an option.
-    pub fn at_option(&self) -> bool
-        ensures { result ≡ comes (says option_name) self.now }
+    pub fn is_at_option_name(&self) -> bool
+        ensures { result ≡ is_next_token (has_meaning_by option_of_token) self.now }
     {
         self.peek().is_some_and(|part| part.option_name().is_some())
     }
 
     /// Returns whether the next token is a tag.
-    pub fn at_tag(&self) -> bool
-        ensures { result ≡ comes (says tag_of) self.now }
+    pub fn is_at_tag(&self) -> bool
+        ensures { result ≡ is_next_token (has_meaning_by tag_and_sign_of_token) self.now }
     {
-        self.peek().is_some_and(|part| part.tag().is_some())
+        self.peek()
+            .is_some_and(|part| part.tag_with_sign().is_some())
     }
 
     /// Returns whether the next token is the operator of a parameter.
-    pub fn at_operator(&self) -> bool
-        ensures { result ≡ comes (says operator_of) self.now }
+    pub fn is_at_operator(&self) -> bool
+        ensures { result ≡ is_next_token (has_meaning_by operator_of_token) self.now }
     {
         self.peek().is_some_and(|part| part.operator().is_some())
     }
 
     /// Returns whether a token is left that ends no list of runas users.
-    pub fn is_inside(&self) -> bool
-        ensures { result ≡ comes inside self.now }
+    pub fn is_inside_runas_user_list(&self) -> bool
+        ensures { result ≡ is_next_token is_inside_runas_users self.now }
     {
-        self.peek()
-            .is_some_and(|part| !(part.is_mark(b')') || part.is_mark(b':')))
+        self.peek().is_some_and(|part| !(part.is_punct_mark(b')') || part.is_punct_mark(b':')))
     }
 
     /// Returns whether the next token is an argument.
-    pub fn at_argument(&self) -> bool
-        ensures { result ≡ comes argument self.now }
+    pub fn is_at_argument(&self) -> bool
+        ensures { result ≡ is_next_token is_argument_token self.now }
     {
         self.peek().is_some_and(|part| part.is_arg())
     }
 
     /// Passes the first argument of a command.
-    pub fn first_argument(&mut self) -> Answer<Part<'a>>
-        ensures { Reads (token first_argument self.old) seen result self.new }
+    pub fn expect_first_argument(&mut self) -> ReadResult<TokenWithText<'a>>
+        ensures { ReadsAsOutcome (passing_token_reader is_first_argument_token self.old) model_of_token_part result self.new }
     {
         let holds = self
             .peek()
-            .is_some_and(|part| part.is_arg() && !begins_with(b'^', part.text));
-        self.pass(holds)
+            .is_some_and(|part| part.is_arg() && !begins_with_byte(b'^', part.text));
+        self.pass_token_if(holds)
     }
 
     /// Passes a further argument of a command.
-    pub fn argument(&mut self) -> Answer<Part<'a>>
-        ensures { Reads (token argument self.old) seen result self.new }
+    pub fn expect_argument(&mut self) -> ReadResult<TokenWithText<'a>>
+        ensures { ReadsAsOutcome (passing_token_reader is_argument_token self.old) model_of_token_part result self.new }
     {
-        self.pass(self.at_argument())
+        self.pass_token_if(self.is_at_argument())
     }
 
     /// Returns whether the next token is the sign of a scope, directly behind the word that ends at this byte.
-    pub fn at_scope(&self, stop: usize) -> bool
-        ensures { result ≡ comes (says (scope_sign stop)) self.now }
+    pub fn is_at_scope_sign(&self, stop: usize) -> bool
+        ensures { result ≡ is_next_token (has_meaning_by (scope_kind_of_token stop)) self.now }
     {
         self.peek()
-            .is_some_and(|part| part.scope_sign(stop).is_some())
+            .is_some_and(|part| part.scope_kind_of_sign_after(stop).is_some())
     }
 
     /// Passes the sign of a scope, directly behind the word that ends at this byte.
-    pub fn scope_sign(&mut self, stop: usize) -> Answer<Kind>
-        ensures { Reads (one (scope_sign stop) self.old) itself result self.new }
+    pub fn expect_scope_sign(&mut self, stop: usize) -> ReadResult<Kind>
+        ensures { ReadsAsOutcome (one_token_reader (scope_kind_of_token stop) self.old) value_itself result self.new }
     {
-        self.take(self.peek().and_then(|part| part.scope_sign(stop)))
+        self.pass_token_with_meaning(
+            self.peek()
+                .and_then(|part| part.scope_kind_of_sign_after(stop)),
+        )
     }
 
     /// Returns whether the next token is a comment.
-    pub fn at_comment(&self) -> bool
-        ensures { result ≡ comes comment self.now }
+    pub fn is_at_comment(&self) -> bool
+        ensures { result ≡ is_next_token is_comment_token self.now }
     {
         self.peek().is_some_and(|part| part.is_comment())
     }
 
     /// Returns whether the next token is a word with which a line of aliases begins.
-    pub fn at_kind_word(&self) -> bool
-        ensures { result ≡ comes (says kind_word) self.now }
+    pub fn is_at_alias_keyword(&self) -> bool
+        ensures { result ≡ is_next_token (has_meaning_by alias_kind_of_token) self.now }
     {
-        self.peek().is_some_and(|part| part.kind_word().is_some())
+        self.peek().is_some_and(|part| part.alias_kind().is_some())
     }
 
     /// Returns whether the next token is a word with which an include begins.
-    pub fn at_include(&self) -> bool
-        ensures { result ≡ comes (says include_word) self.now }
+    pub fn is_at_include_word(&self) -> bool
+        ensures { result ≡ is_next_token (has_meaning_by include_dir_of_token) self.now }
     {
         self.peek()
-            .is_some_and(|part| part.include_word().is_some())
+            .is_some_and(|part| part.include_is_dir().is_some())
     }
 
     /// Returns whether the next token is the word `Defaults`.
-    pub fn at_defaults(&self) -> bool
-        ensures { result ≡ comes is_defaults self.now }
+    pub fn is_at_defaults_word(&self) -> bool
+        ensures { result ≡ is_next_token is_defaults self.now }
     {
-        self.peek().is_some_and(|part| part.is_defaults())
+        self.peek().is_some_and(|part| part.is_defaults_word())
     }
 
     /// Returns whether no token is left.
-    pub fn is_done(&self) -> bool
-        ensures { comes anything self.now ≡ not result }
+    pub fn has_no_tokens_left(&self) -> bool
+        ensures { is_next_token is_any_token self.now ≡ not result }
     {
         self.peek().is_none()
     }
 
     /// Passes a comment.
-    pub fn comment(&mut self) -> Answer<Part<'a>>
-        ensures { Reads (token comment self.old) seen result self.new }
+    pub fn expect_comment(&mut self) -> ReadResult<TokenWithText<'a>>
+        ensures { ReadsAsOutcome (passing_token_reader is_comment_token self.old) model_of_token_part result self.new }
     {
-        self.pass(self.at_comment())
+        self.pass_token_if(self.is_at_comment())
     }
 }

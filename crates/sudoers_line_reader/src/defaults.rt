@@ -1,48 +1,48 @@
 //! Lines of Defaults.
 
 ghost use Rattle.std.specs.Prelude.{◌≡◌, None};
-ghost use Rattle.sudoers_line.specs.Piece.{scope_sign};
-ghost use Rattle.sudoers_line_reader.specs.Reader.{one, perhaps};
-ghost use Rattle.sudoers_line_reader.specs.Descent.{defaults, params, scope, scoped};
-ghost use Rattle.sudoers_line_reader.specs.internal.Cursor.{itself, Reads};
-ghost use Rattle.sudoers_line_rows.specs.Tables.{Grown, Lasts, node_in, scope_in};
-ghost use Rattle.sudoers_line_reader.specs.internal.Answer.{ReadsAs};
+ghost use Rattle.sudoers_grammar.specs.Piece.{scope_kind_of_token};
+ghost use Rattle.sudoers_line_reader.specs.Reader.{one_token_reader, optional_reader};
+ghost use Rattle.sudoers_line_reader.specs.Descent.{defaults_node_reader, parameters_reader, defaults_scope_reader, scoped_defaults_reader};
+ghost use Rattle.sudoers_line_reader.specs.internal.Cursor.{value_itself, ReadsAsOutcome};
+ghost use Rattle.sudoers_line_rows.specs.Tables.{TablesHaveGrown, RowMeaningLasts, node_in_tables, scope_in_tables};
+ghost use Rattle.sudoers_line_reader.specs.internal.Answer.{RowReadsAsOutcome};
 
-use crate::cursor::{Answer, Cursor};
-use crate::lists::scope_list;
-use crate::params::params;
+use crate::cursor::{ReadResult, TokenCursor};
+use crate::defaults_params::read_parameter_list;
+use crate::lists::read_scope_member_list;
 use std::alloc::Global;
 use sudoers_line_rows::{NodeRow, ScopeRow, Tables};
 
 /// Reads a scope, directly behind the word that ends at this byte.
-#[tactic(auto, unfolding(crate::specs::Descent::scope))]
-fn scope(
+#[tactic(auto, unfolding(crate::specs::Descent::defaults_scope_reader))]
+fn read_defaults_scope(
     alloc: Global,
-    cursor: &mut Cursor<'_>,
+    cursor: &mut TokenCursor<'_>,
     tables: &mut Tables,
     stop: usize,
-) -> Answer<ScopeRow>
-    ensures reads { ReadsAs (scope stop cursor.old) scope_in tables.new result cursor.new }
-    ensures grown { Grown tables.old tables.new }
+) -> ReadResult<ScopeRow>
+    ensures reads { RowReadsAsOutcome (defaults_scope_reader stop cursor.old) scope_in_tables tables.new result cursor.new }
+    ensures grown { TablesHaveGrown tables.old tables.new }
 {
-    let kind = cursor.scope_sign(stop)?;
-    let members = scope_list(alloc, cursor, tables, kind)?;
+    let kind = cursor.expect_scope_sign(stop)?;
+    let members = read_scope_member_list(alloc, cursor, tables, kind)?;
     Ok(ScopeRow { kind, members })
 }
 
 /// Reads a scope and parameters.
-#[tactic(auto, unfolding(crate::specs::Descent::scoped, crate::specs::Descent::params))]
-fn scoped(
+#[tactic(auto, unfolding(crate::specs::Descent::scoped_defaults_reader, crate::specs::Descent::parameters_reader))]
+fn read_scoped_parameters(
     alloc: Global,
-    cursor: &mut Cursor<'_>,
+    cursor: &mut TokenCursor<'_>,
     tables: &mut Tables,
     stop: usize,
-) -> Answer<NodeRow>
-    ensures reads { ReadsAs (scoped stop cursor.old) node_in tables.new result cursor.new }
-    ensures grown { Grown tables.old tables.new }
+) -> ReadResult<NodeRow>
+    ensures reads { RowReadsAsOutcome (scoped_defaults_reader stop cursor.old) node_in_tables tables.new result cursor.new }
+    ensures grown { TablesHaveGrown tables.old tables.new }
 {
-    let scope = scope(alloc, cursor, tables, stop)?;
-    let params = params(alloc, cursor, tables)?;
+    let scope = read_defaults_scope(alloc, cursor, tables, stop)?;
+    let params = read_parameter_list(alloc, cursor, tables)?;
     Ok(NodeRow::Defaults {
         scope: Some(scope),
         params,
@@ -50,12 +50,16 @@ fn scoped(
 }
 
 /// Reads parameters that have no scope.
-#[tactic(auto, unfolding(crate::specs::Descent::params))]
-fn unscoped(alloc: Global, cursor: &mut Cursor<'_>, tables: &mut Tables) -> Answer<NodeRow>
-    ensures reads { ReadsAs (params None cursor.old) node_in tables.new result cursor.new }
-    ensures grown { Grown tables.old tables.new }
+#[tactic(auto, unfolding(crate::specs::Descent::parameters_reader))]
+fn read_unscoped_parameters(
+    alloc: Global,
+    cursor: &mut TokenCursor<'_>,
+    tables: &mut Tables,
+) -> ReadResult<NodeRow>
+    ensures reads { RowReadsAsOutcome (parameters_reader None cursor.old) node_in_tables tables.new result cursor.new }
+    ensures grown { TablesHaveGrown tables.old tables.new }
 {
-    let params = params(alloc, cursor, tables)?;
+    let params = read_parameter_list(alloc, cursor, tables)?;
     Ok(NodeRow::Defaults {
         scope: None,
         params,
@@ -63,15 +67,19 @@ fn unscoped(alloc: Global, cursor: &mut Cursor<'_>, tables: &mut Tables) -> Answ
 }
 
 /// Reads a line of Defaults.
-#[tactic(auto, unfolding(crate::specs::Descent::defaults))]
-pub fn defaults(alloc: Global, cursor: &mut Cursor<'_>, tables: &mut Tables) -> Answer<NodeRow>
-    ensures reads { ReadsAs (defaults cursor.old) node_in tables.new result cursor.new }
-    ensures grown { Grown tables.old tables.new }
+#[tactic(auto, unfolding(crate::specs::Descent::defaults_node_reader))]
+pub fn read_defaults_line(
+    alloc: Global,
+    cursor: &mut TokenCursor<'_>,
+    tables: &mut Tables,
+) -> ReadResult<NodeRow>
+    ensures reads { RowReadsAsOutcome (defaults_node_reader cursor.old) node_in_tables tables.new result cursor.new }
+    ensures grown { TablesHaveGrown tables.old tables.new }
 {
-    let word = cursor.defaults()?;
-    if cursor.at_scope(word.stop) {
-        scoped(alloc, cursor, tables, word.stop)
+    let word = cursor.expect_defaults_word()?;
+    if cursor.is_at_scope_sign(word.stop) {
+        read_scoped_parameters(alloc, cursor, tables, word.stop)
     } else {
-        unscoped(alloc, cursor, tables)
+        read_unscoped_parameters(alloc, cursor, tables)
     }
 }

@@ -1,15 +1,15 @@
 //! Digests of commands.
 
-ghost use Rattle.sudoers_line_reader.specs.Reader.{separated};
-ghost use Rattle.sudoers_line_reader.specs.Descent.{digest, digests};
-ghost use Rattle.sudoers_line_rows.specs.Tables.{Grown, digest_in, digests_in};
-ghost use Rattle.sudoers_line.specs.Node.{Digest as DigestOf};
-ghost use Rattle.sudoers_line_reader.specs.internal.Answer.{ReadsAs};
+ghost use Rattle.sudoers_line_reader.specs.Reader.{separated_list_reader};
+ghost use Rattle.sudoers_line_reader.specs.Descent.{digest_reader, optional_digests_reader};
+ghost use Rattle.sudoers_line_rows.specs.Tables.{TablesHaveGrown, digest_in_tables, digests_in_tables};
+ghost use Rattle.sudoers_grammar.specs.Node.{Digest as DigestOf};
+ghost use Rattle.sudoers_line_reader.specs.internal.Answer.{RowReadsAsOutcome};
 
-use crate::cursor::{Answer, Cursor};
-use crate::row_reader::{RowReader, read_list};
+use crate::cursor::{ReadResult, TokenCursor};
+use crate::row_reader::{RowReader, read_separated_rows};
 use std::alloc::Global;
-use sudoers_line_rows::{DigestRow, NONE, Range, Tables, keep_text};
+use sudoers_line_rows::{DigestRow, NONE, RowRange, Tables, store_text};
 
 /// Reads digests.
 #[derive(Clone, Copy)]
@@ -20,42 +20,50 @@ impl RowReader for DigestReader {
 
     ghost Said = { DigestOf };
 
-    ghost said = { digest_in };
+    ghost said = { digest_in_tables };
 
-    ghost rule = { λ _. digest };
+    ghost rule = { λ _. digest_reader };
 
-    #[tactic(auto, unfolding(crate::specs::Descent::digest))]
+    #[tactic(auto, unfolding(crate::specs::Descent::digest_reader))]
     fn read(
         self,
         _alloc: Global,
-        cursor: &mut Cursor<'_>,
+        cursor: &mut TokenCursor<'_>,
         tables: &mut Tables,
-    ) -> Answer<DigestRow> {
-        let kind = cursor.digest_kind()?;
-        cursor.mark(b':')?;
-        let part = cursor.digest_text()?;
-        let text = keep_text(tables, part.text)?;
+    ) -> ReadResult<DigestRow> {
+        let kind = cursor.expect_digest_kind()?;
+        cursor.expect_mark(b':')?;
+        let part = cursor.expect_digest_text()?;
+        let text = store_text(tables, part.text)?;
         Ok(DigestRow { kind, text })
     }
 }
 
 /// Reads a list of digests.
-#[tactic(auto, using(crate::proofs::Loops::digest_shrinks))]
-pub fn digest_list(alloc: Global, cursor: &mut Cursor<'_>, tables: &mut Tables) -> Answer<Range>
-    ensures reads { ReadsAs (separated 44 digest cursor.old) digests_in tables.new result cursor.new }
-    ensures grown { Grown tables.old tables.new }
+#[tactic(auto, using(crate::proofs::Loops::next_digest_reader_consumes_tokens))]
+pub fn read_digest_list(
+    alloc: Global,
+    cursor: &mut TokenCursor<'_>,
+    tables: &mut Tables,
+) -> ReadResult<RowRange>
+    ensures reads { RowReadsAsOutcome (separated_list_reader 44 digest_reader cursor.old) digests_in_tables tables.new result cursor.new }
+    ensures grown { TablesHaveGrown tables.old tables.new }
 {
-    read_list(DigestReader, b',', alloc, cursor, tables)
+    read_separated_rows(DigestReader, b',', alloc, cursor, tables)
 }
 
 /// Reads the digests before a command, if any.
-#[tactic(auto, unfolding(crate::specs::Descent::digests))]
-pub fn digests(alloc: Global, cursor: &mut Cursor<'_>, tables: &mut Tables) -> Answer<Range>
-    ensures reads { ReadsAs (digests cursor.old) digests_in tables.new result cursor.new }
-    ensures grown { Grown tables.old tables.new }
+#[tactic(auto, unfolding(crate::specs::Descent::optional_digests_reader))]
+pub fn read_optional_digests(
+    alloc: Global,
+    cursor: &mut TokenCursor<'_>,
+    tables: &mut Tables,
+) -> ReadResult<RowRange>
+    ensures reads { RowReadsAsOutcome (optional_digests_reader cursor.old) digests_in_tables tables.new result cursor.new }
+    ensures grown { TablesHaveGrown tables.old tables.new }
 {
-    if cursor.at_digest() {
-        digest_list(alloc, cursor, tables)
+    if cursor.is_at_digest_kind() {
+        read_digest_list(alloc, cursor, tables)
     } else {
         Ok(NONE)
     }

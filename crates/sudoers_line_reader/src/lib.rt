@@ -1,23 +1,23 @@
 //! The reader of one line as a descent: one function for each rule of the grammar.
 #![tactic(auto)]
 
-mod aliases;
+mod alias_lines;
+mod command_words;
 mod commands;
 mod cursor;
 mod defaults;
+mod defaults_params;
 mod digests;
 mod includes;
-mod kept;
 pub mod laws;
-mod lines;
 mod lists;
 mod members;
 mod options;
-mod params;
 mod reading;
 mod row_reader;
 mod runas;
 mod specs_of_users;
-mod words;
+mod table_rows;
+mod whole_lines;
 
-pub use reading::{Reading, parse, read_line};
+pub use reading::{ParsedLine, parse, read_line};

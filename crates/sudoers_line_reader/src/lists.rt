@@ -1,46 +1,46 @@
 //! Lists of commands, and lists of an alias or a scope.
 
-ghost use Rattle.sudoers_line_reader.specs.Descent.{list, scope_list};
-ghost use Rattle.sudoers_line_rows.specs.Tables.{Grown, members_in};
-ghost use Rattle.sudoers_line_reader.specs.internal.Answer.{ReadsAs};
+ghost use Rattle.sudoers_line_reader.specs.Descent.{alias_list_reader, scope_list_reader};
+ghost use Rattle.sudoers_line_rows.specs.Tables.{TablesHaveGrown, members_in_tables};
+ghost use Rattle.sudoers_line_reader.specs.internal.Answer.{RowReadsAsOutcome};
 
-use crate::commands::{command_list, scope_command_list};
-use crate::cursor::{Answer, Cursor};
-use crate::members::members;
+use crate::commands::{read_command_list, read_scope_command_list};
+use crate::cursor::{ReadResult, TokenCursor};
+use crate::members::read_member_list;
 use std::alloc::Global;
-use sudoers_line::Kind;
-use sudoers_line_rows::{Range, Tables};
+use sudoers_grammar::Kind;
+use sudoers_line_rows::{RowRange, Tables};
 
 /// Reads the list of an alias of this kind.
-#[tactic(auto, unfolding(crate::specs::Descent::list, crate::specs::Descent::members))]
-pub fn list(
+#[tactic(auto, unfolding(crate::specs::Descent::alias_list_reader, crate::specs::Descent::member_list_reader))]
+pub fn read_alias_member_list(
     alloc: Global,
-    cursor: &mut Cursor<'_>,
+    cursor: &mut TokenCursor<'_>,
     tables: &mut Tables,
     kind: Kind,
-) -> Answer<Range>
-    ensures reads { ReadsAs (list kind cursor.old) members_in tables.new result cursor.new }
-    ensures grown { Grown tables.old tables.new }
+) -> ReadResult<RowRange>
+    ensures reads { RowReadsAsOutcome (alias_list_reader kind cursor.old) members_in_tables tables.new result cursor.new }
+    ensures grown { TablesHaveGrown tables.old tables.new }
 {
     match kind {
-        Kind::User | Kind::Runas | Kind::Host => members(alloc, cursor, tables, kind),
-        Kind::Cmnd => command_list(alloc, cursor, tables),
+        Kind::User | Kind::Runas | Kind::Host => read_member_list(alloc, cursor, tables, kind),
+        Kind::Cmnd => read_command_list(alloc, cursor, tables),
     }
 }
 
 /// Reads the list of a scope of this kind.
-#[tactic(auto, unfolding(crate::specs::Descent::scope_list, crate::specs::Descent::members))]
-pub fn scope_list(
+#[tactic(auto, unfolding(crate::specs::Descent::scope_list_reader, crate::specs::Descent::member_list_reader))]
+pub fn read_scope_member_list(
     alloc: Global,
-    cursor: &mut Cursor<'_>,
+    cursor: &mut TokenCursor<'_>,
     tables: &mut Tables,
     kind: Kind,
-) -> Answer<Range>
-    ensures reads { ReadsAs (scope_list kind cursor.old) members_in tables.new result cursor.new }
-    ensures grown { Grown tables.old tables.new }
+) -> ReadResult<RowRange>
+    ensures reads { RowReadsAsOutcome (scope_list_reader kind cursor.old) members_in_tables tables.new result cursor.new }
+    ensures grown { TablesHaveGrown tables.old tables.new }
 {
     match kind {
-        Kind::User | Kind::Runas | Kind::Host => members(alloc, cursor, tables, kind),
-        Kind::Cmnd => scope_command_list(alloc, cursor, tables),
+        Kind::User | Kind::Runas | Kind::Host => read_member_list(alloc, cursor, tables, kind),
+        Kind::Cmnd => read_scope_command_list(alloc, cursor, tables),
     }
 }

@@ -1,50 +1,52 @@
 //! Signs, and lists of members.
 
-ghost use Rattle.sudoers_line.specs.Node.{Member as MemberOf};
-ghost use Rattle.sudoers_line_reader.specs.Reader.{one};
-ghost use Rattle.sudoers_line_reader.specs.Descent.{signs, one_atom, member, members};
-ghost use Rattle.sudoers_line_reader.specs.internal.Cursor.{Reads, IsSigned};
-ghost use Rattle.sudoers_line_rows.specs.Tables.{Grown, member_in, members_in};
-ghost use Rattle.sudoers_line_reader.specs.internal.Answer.{ReadsAs};
+ghost use Rattle.sudoers_grammar.specs.Node.{Member as MemberOf};
+ghost use Rattle.sudoers_line_reader.specs.Reader.{one_token_reader};
+ghost use Rattle.sudoers_line_reader.specs.Descent.{negation_reader, member_of_single_token, member_reader, member_list_reader};
+ghost use Rattle.sudoers_line_reader.specs.internal.Cursor.{ReadsAsOutcome, SignsReadAs};
+ghost use Rattle.sudoers_line_rows.specs.Tables.{TablesHaveGrown, member_in_tables, members_in_tables};
+ghost use Rattle.sudoers_line_reader.specs.internal.Answer.{RowReadsAsOutcome};
 
-use crate::cursor::{Answer, Cursor, Halted};
-use crate::row_reader::{RowReader, read_list};
+use crate::cursor::{HaltCause, ReadResult, TokenCursor};
+use crate::row_reader::{RowReader, read_separated_rows};
 use std::alloc::Global;
-use sudoers_line::Kind;
-use sudoers_line_rows::{MemberRow, NONE, Range, Tables, keep_member, place};
+use sudoers_grammar::Kind;
+use sudoers_line_rows::{
+    MemberRow, NONE, RowRange, Tables, convert_offset_to_u32, store_member_atom,
+};
 
 /// Passes signs, and returns whether their number is odd.
-pub fn signs(cursor: &mut Cursor<'_>) -> bool
-    ensures { IsSigned (signs cursor.old) result cursor.new }
+pub fn read_negation_signs(cursor: &mut TokenCursor<'_>) -> bool
+    ensures { SignsReadAs (negation_reader cursor.old) result cursor.new }
 {
     let mut negated = false;
-    while cursor.at_mark(b'!') {
-        cursor.bump();
+    while cursor.is_at_mark(b'!') {
+        cursor.pass_next_token();
         negated = !negated;
     }
     negated
 }
 
 /// Reads one token as a member of a list of this kind, without its place and its signs.
-#[tactic(auto, unfolding(crate::specs::Reader::one))]
-fn one_atom(
+#[tactic(auto, unfolding(crate::specs::Reader::one_token_reader))]
+fn read_single_token_member(
     alloc: Global,
-    cursor: &mut Cursor<'_>,
+    cursor: &mut TokenCursor<'_>,
     tables: &mut Tables,
     kind: Kind,
     negated: bool,
-) -> Answer<MemberRow>
-    ensures reads { ReadsAs (one (one_atom kind negated) cursor.old) member_in tables.new result cursor.new }
-    ensures grown { Grown tables.old tables.new }
+) -> ReadResult<MemberRow>
+    ensures reads { RowReadsAsOutcome (one_token_reader (member_of_single_token kind negated) cursor.old) member_in_tables tables.new result cursor.new }
+    ensures grown { TablesHaveGrown tables.old tables.new }
 {
     let Some(part) = cursor.peek() else {
-        return Err(Halted::Fault);
+        return Err(HaltCause::Fault);
     };
-    let stop = place(part.stop)?;
-    let Some(atom) = keep_member(alloc, tables, kind, &part)? else {
-        return Err(Halted::Fault);
+    let stop = convert_offset_to_u32(part.stop)?;
+    let Some(atom) = store_member_atom(alloc, tables, kind, &part)? else {
+        return Err(HaltCause::Fault);
     };
-    cursor.bump();
+    cursor.pass_next_token();
     Ok(MemberRow {
         start: 0,
         stop,
@@ -65,34 +67,34 @@ impl RowReader for MemberReader {
 
     ghost Said = { MemberOf };
 
-    ghost said = { member_in };
+    ghost said = { member_in_tables };
 
-    ghost rule = { λ it. member it.kind };
+    ghost rule = { λ it. member_reader it.kind };
 
-    #[tactic(auto, unfolding(crate::specs::Descent::member))]
+    #[tactic(auto, unfolding(crate::specs::Descent::member_reader))]
     fn read(
         self,
         alloc: Global,
-        cursor: &mut Cursor<'_>,
+        cursor: &mut TokenCursor<'_>,
         tables: &mut Tables,
-    ) -> Answer<MemberRow> {
-        let start = place(cursor.start())?;
-        let negated = signs(cursor);
-        let row = one_atom(alloc, cursor, tables, self.kind, negated)?;
+    ) -> ReadResult<MemberRow> {
+        let start = convert_offset_to_u32(cursor.start_of_next_token())?;
+        let negated = read_negation_signs(cursor);
+        let row = read_single_token_member(alloc, cursor, tables, self.kind, negated)?;
         Ok(MemberRow { start, ..row })
     }
 }
 
 /// Reads a list of members of this kind.
-#[tactic(auto, unfolding(crate::specs::Descent::members))]
-pub fn members(
+#[tactic(auto, unfolding(crate::specs::Descent::member_list_reader))]
+pub fn read_member_list(
     alloc: Global,
-    cursor: &mut Cursor<'_>,
+    cursor: &mut TokenCursor<'_>,
     tables: &mut Tables,
     kind: Kind,
-) -> Answer<Range>
-    ensures reads { ReadsAs (members kind cursor.old) members_in tables.new result cursor.new }
-    ensures grown { Grown tables.old tables.new }
+) -> ReadResult<RowRange>
+    ensures reads { RowReadsAsOutcome (member_list_reader kind cursor.old) members_in_tables tables.new result cursor.new }
+    ensures grown { TablesHaveGrown tables.old tables.new }
 {
-    read_list(MemberReader { kind }, b',', alloc, cursor, tables)
+    read_separated_rows(MemberReader { kind }, b',', alloc, cursor, tables)
 }

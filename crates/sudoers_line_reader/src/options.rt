@@ -1,37 +1,37 @@
 //! Options and tags of commands.
 
 ghost use Rattle.std.specs.Prelude.{ℕ, Bool, List, []};
-ghost use Rattle.sudoers_line.specs.declared.node.OptionName.{OptionName as OptionNameOf};
-ghost use Rattle.sudoers_line.specs.Piece.{option_name, tag_of};
-ghost use Rattle.sudoers_line.specs.Atom.{option_value};
-ghost use Rattle.sudoers_line.specs.declared.node.Tag.{Tag as TagOf};
-ghost use Rattle.sudoers_line_reader.specs.Reader.{many, one, snoc};
-ghost use Rattle.sudoers_line_reader.specs.Descent.{option, says, tag};
-ghost use Rattle.sudoers_line_rows.specs.Tables.{Grown, option_in, options_in, tag_in, tags_in, text_in};
-ghost use Rattle.sudoers_line_reader.specs.internal.Answer.{ReadsAs};
+ghost use Rattle.sudoers_grammar.specs.declared.node.OptionName.{OptionName as OptionNameOf};
+ghost use Rattle.sudoers_grammar.specs.Piece.{option_of_token, tag_and_sign_of_token};
+ghost use Rattle.sudoers_grammar.specs.Atom.{option_value_of_token};
+ghost use Rattle.sudoers_grammar.specs.declared.node.Tag.{Tag as TagOf};
+ghost use Rattle.sudoers_line_reader.specs.Reader.{repetition_reader, one_token_reader, snoc};
+ghost use Rattle.sudoers_line_reader.specs.Descent.{option_reader, has_meaning_by, tag_reader};
+ghost use Rattle.sudoers_line_rows.specs.Tables.{TablesHaveGrown, option_in_tables, options_in_tables, tag_in_tables, tags_in_tables, text_in_tables};
+ghost use Rattle.sudoers_line_reader.specs.internal.Answer.{RowReadsAsOutcome};
 
-use crate::cursor::{Answer, Cursor, Halted};
-use crate::row_reader::{Lookahead, RowReader, read_many};
+use crate::cursor::{HaltCause, ReadResult, TokenCursor};
+use crate::row_reader::{LookaheadRowReader, RowReader, read_repeated_rows};
 use std::alloc::Global;
-use sudoers_line::{OptionName, option_value};
-use sudoers_line_rows::{OptionRow, Range, Tables, TagRow, Text, keep_text};
+use sudoers_grammar::{OptionName, parse_option_value};
+use sudoers_line_rows::{ByteRange, OptionRow, RowRange, Tables, TagRow, store_text};
 
 /// Reads the value of this option.
-fn value(
+fn read_option_value(
     alloc: Global,
-    cursor: &mut Cursor<'_>,
+    cursor: &mut TokenCursor<'_>,
     tables: &mut Tables,
     name: OptionName,
-) -> Answer<Text>
-    ensures reads { ReadsAs (one (option_value name) cursor.old) text_in tables.new result cursor.new }
-    ensures grown { Grown tables.old tables.new }
+) -> ReadResult<ByteRange>
+    ensures reads { RowReadsAsOutcome (one_token_reader (option_value_of_token name) cursor.old) text_in_tables tables.new result cursor.new }
+    ensures grown { TablesHaveGrown tables.old tables.new }
 {
     let Some(part) = cursor.peek() else {
-        return Err(Halted::Fault);
+        return Err(HaltCause::Fault);
     };
-    let found = option_value(alloc, name, &part)?;
-    let value = cursor.take(found)?;
-    Ok(keep_text(tables, value.as_slice())?)
+    let found = parse_option_value(alloc, name, &part)?;
+    let value = cursor.pass_token_with_meaning(found)?;
+    Ok(store_text(tables, value.as_slice())?)
 }
 
 /// Reads options.
@@ -43,29 +43,29 @@ impl RowReader for OptionReader {
 
     ghost Said = { OptionNameOf × List ℕ };
 
-    ghost said = { option_in };
+    ghost said = { option_in_tables };
 
-    ghost rule = { λ _. option };
+    ghost rule = { λ _. option_reader };
 
-    #[tactic(auto, unfolding(crate::specs::Descent::option))]
+    #[tactic(auto, unfolding(crate::specs::Descent::option_reader))]
     fn read(
         self,
         alloc: Global,
-        cursor: &mut Cursor<'_>,
+        cursor: &mut TokenCursor<'_>,
         tables: &mut Tables,
-    ) -> Answer<OptionRow> {
-        let name = cursor.option_name()?;
-        cursor.mark(b'=')?;
-        let value = value(alloc, cursor, tables, name)?;
+    ) -> ReadResult<OptionRow> {
+        let name = cursor.expect_option_name()?;
+        cursor.expect_mark(b'=')?;
+        let value = read_option_value(alloc, cursor, tables, name)?;
         Ok(OptionRow { name, value })
     }
 }
 
-impl Lookahead for OptionReader {
-    ghost begins = { λ _. says option_name };
+impl LookaheadRowReader for OptionReader {
+    ghost begins = { λ _. has_meaning_by option_of_token };
 
-    fn comes(self, cursor: &Cursor<'_>) -> bool {
-        cursor.at_option()
+    fn comes(self, cursor: &TokenCursor<'_>) -> bool {
+        cursor.is_at_option_name()
     }
 }
 
@@ -78,40 +78,53 @@ impl RowReader for TagReader {
 
     ghost Said = { TagOf × Bool };
 
-    ghost said = { tag_in };
+    ghost said = { tag_in_tables };
 
-    ghost rule = { λ _. tag };
+    ghost rule = { λ _. tag_reader };
 
-    #[tactic(auto, unfolding(crate::specs::Descent::tag))]
-    fn read(self, _alloc: Global, cursor: &mut Cursor<'_>, tables: &mut Tables) -> Answer<TagRow> {
-        let (tag, on) = cursor.tag()?;
-        cursor.mark(b':')?;
+    #[tactic(auto, unfolding(crate::specs::Descent::tag_reader))]
+    fn read(
+        self,
+        _alloc: Global,
+        cursor: &mut TokenCursor<'_>,
+        tables: &mut Tables,
+    ) -> ReadResult<TagRow> {
+        let (tag, on) = cursor.expect_tag()?;
+        cursor.expect_mark(b':')?;
         Ok(TagRow { tag, on })
     }
 }
 
-impl Lookahead for TagReader {
-    ghost begins = { λ _. says tag_of };
+impl LookaheadRowReader for TagReader {
+    ghost begins = { λ _. has_meaning_by tag_and_sign_of_token };
 
-    fn comes(self, cursor: &Cursor<'_>) -> bool {
-        cursor.at_tag()
+    fn comes(self, cursor: &TokenCursor<'_>) -> bool {
+        cursor.is_at_tag()
     }
 }
 
 /// Reads the options of a command.
-#[tactic(auto, using(crate::proofs::SpecLaws::option_shrinks))]
-pub fn options(alloc: Global, cursor: &mut Cursor<'_>, tables: &mut Tables) -> Answer<Range>
-    ensures reads { ReadsAs (many snoc (says option_name) option [] cursor.old) options_in tables.new result cursor.new }
-    ensures grown { Grown tables.old tables.new }
+#[tactic(auto, using(crate::proofs::SpecLaws::option_reader_consumes_tokens))]
+pub fn read_command_options(
+    alloc: Global,
+    cursor: &mut TokenCursor<'_>,
+    tables: &mut Tables,
+) -> ReadResult<RowRange>
+    ensures reads { RowReadsAsOutcome (repetition_reader snoc (has_meaning_by option_of_token) option_reader [] cursor.old) options_in_tables tables.new result cursor.new }
+    ensures grown { TablesHaveGrown tables.old tables.new }
 {
-    read_many(OptionReader, Vec::new(alloc), alloc, cursor, tables)
+    read_repeated_rows(OptionReader, Vec::new(alloc), alloc, cursor, tables)
 }
 
 /// Reads the tags of a command.
-#[tactic(auto, using(crate::proofs::SpecLaws::tag_shrinks))]
-pub fn tags(alloc: Global, cursor: &mut Cursor<'_>, tables: &mut Tables) -> Answer<Range>
-    ensures reads { ReadsAs (many snoc (says tag_of) tag [] cursor.old) tags_in tables.new result cursor.new }
-    ensures grown { Grown tables.old tables.new }
+#[tactic(auto, using(crate::proofs::SpecLaws::tag_reader_consumes_tokens))]
+pub fn read_command_tags(
+    alloc: Global,
+    cursor: &mut TokenCursor<'_>,
+    tables: &mut Tables,
+) -> ReadResult<RowRange>
+    ensures reads { RowReadsAsOutcome (repetition_reader snoc (has_meaning_by tag_and_sign_of_token) tag_reader [] cursor.old) tags_in_tables tables.new result cursor.new }
+    ensures grown { TablesHaveGrown tables.old tables.new }
 {
-    read_many(TagReader, Vec::new(alloc), alloc, cursor, tables)
+    read_repeated_rows(TagReader, Vec::new(alloc), alloc, cursor, tables)
 }

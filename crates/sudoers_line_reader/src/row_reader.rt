@@ -1,69 +1,79 @@
 //! Readers of rows, and of lists of rows.
 
 ghost use Rattle.std.specs.Prelude.{◌≡◌, ◌∷◌, ◌++◌, [], Bool, map, OnOk};
-ghost use Rattle.sudoers_line.specs.Piece.{Piece, is_mark};
+ghost use Rattle.sudoers_grammar.specs.Piece.{TokenWithBytes, is_mark_of_byte};
 ghost use Rattle.sudoers_line_rows.specs.declared.rows.Tables.{Tables as TablesOf};
-ghost use Rattle.sudoers_line_rows.specs.Tables.{Grown, listed};
-ghost use Rattle.sudoers_line_reader.specs.Reader.{Reader, Shrinks, behind, comes, many, separated, snoc};
-ghost use Rattle.sudoers_line_reader.specs.internal.Answer.{ReadsAs};
+ghost use Rattle.sudoers_line_rows.specs.Tables.{TablesHaveGrown, values_of_row_range};
+ghost use Rattle.sudoers_line_reader.specs.Reader.{TokenReader, ReaderConsumesTokens, reader_after_mark, is_next_token, repetition_reader, separated_list_reader, snoc};
+ghost use Rattle.sudoers_line_reader.specs.internal.Answer.{RowReadsAsOutcome};
 
-use crate::cursor::{Answer, Cursor};
-use crate::kept::Kept;
+use crate::cursor::{ReadResult, TokenCursor};
+use crate::table_rows::TableRow;
 use std::alloc::{AllocError, Global};
-use sudoers_line_rows::{Range, Tables};
+use sudoers_line_rows::{RowRange, Tables};
 
 /// A reader of rows of one kind.
 pub trait RowReader: Copy {
-    type Row: Kept;
+    type Row: TableRow;
 
     ghost Said: { Type 0 };
 
     ghost said: { TablesOf → Self.Row → Said };
 
-    ghost rule: { Self → Reader Said };
+    ghost rule: { Self → TokenReader Said };
 
     /// Reads a row.
-    fn read(self, alloc: Global, cursor: &mut Cursor<'_>, tables: &mut Tables) -> Answer<Self::Row>
-        ensures reads { ReadsAs (rule self cursor.old) said tables.new result cursor.new }
-        ensures grown { Grown tables.old tables.new };
+    fn read(
+        self,
+        alloc: Global,
+        cursor: &mut TokenCursor<'_>,
+        tables: &mut Tables,
+    ) -> ReadResult<Self::Row>
+        ensures reads { RowReadsAsOutcome (rule self cursor.old) said tables.new result cursor.new }
+        ensures grown { TablesHaveGrown tables.old tables.new };
 }
 
 /// A reader that tells by the next token whether it reads a row.
-pub trait Lookahead: RowReader {
-    ghost begins: { Self → Piece → Bool };
+pub trait LookaheadRowReader: RowReader {
+    ghost begins: { Self → TokenWithBytes → Bool };
 
     /// Returns whether a row comes next.
-    fn comes(self, cursor: &Cursor<'_>) -> bool
-        ensures { result ≡ comes (begins self) cursor.now };
+    fn comes(self, cursor: &TokenCursor<'_>) -> bool
+        ensures { result ≡ is_next_token (begins self) cursor.now };
 }
 
 /// A reader of this mark and of what another reader reads behind it.
 #[derive(Clone, Copy)]
-struct Behind<R> {
+struct AfterMarkReader<R> {
     mark: u8,
     reader: R,
 }
 
-impl<R: RowReader> RowReader for Behind<R> {
+impl<R: RowReader> RowReader for AfterMarkReader<R> {
     type Row = R::Row;
 
     ghost Said = { R.Said };
 
     ghost said = { R.said };
 
-    ghost rule = { λ it. behind it.mark (R.rule it.reader) };
+    ghost rule = { λ it. reader_after_mark it.mark (R.rule it.reader) };
 
-    fn read(self, alloc: Global, cursor: &mut Cursor<'_>, tables: &mut Tables) -> Answer<R::Row> {
-        cursor.mark(self.mark)?;
+    fn read(
+        self,
+        alloc: Global,
+        cursor: &mut TokenCursor<'_>,
+        tables: &mut Tables,
+    ) -> ReadResult<R::Row> {
+        cursor.expect_mark(self.mark)?;
         self.reader.read(alloc, cursor, tables)
     }
 }
 
-impl<R: RowReader> Lookahead for Behind<R> {
-    ghost begins = { λ it. is_mark it.mark };
+impl<R: RowReader> LookaheadRowReader for AfterMarkReader<R> {
+    ghost begins = { λ it. is_mark_of_byte it.mark };
 
-    fn comes(self, cursor: &Cursor<'_>) -> bool {
-        cursor.at_mark(self.mark)
+    fn comes(self, cursor: &TokenCursor<'_>) -> bool {
+        cursor.is_at_mark(self.mark)
     }
 }
 
@@ -76,17 +86,17 @@ fn push<T: Drop>(rows: &mut Vec<T>, row: T) -> Result<(), AllocError>
 }
 
 /// Reads rows while they come, and keeps them behind these.
-pub fn read_many<R: Lookahead>(
+pub fn read_repeated_rows<R: LookaheadRowReader>(
     reader: R,
     rows: Vec<R::Row>,
     alloc: Global,
-    cursor: &mut Cursor<'_>,
+    cursor: &mut TokenCursor<'_>,
     tables: &mut Tables,
-) -> Answer<Range>
-    requires shrinks { Shrinks (R.rule reader) }
-    requires last { (u : TablesOf) → Grown tables.now u → map (R.said u) rows.items ≡ map (R.said tables.now) rows.items }
-    ensures reads { ReadsAs (many snoc (R.begins reader) (R.rule reader) (map (R.said tables.old) rows.items) cursor.old) (λ t. listed (R.Row.table t) (R.said t)) tables.new result cursor.new }
-    ensures grown { Grown tables.old tables.new }
+) -> ReadResult<RowRange>
+    requires shrinks { ReaderConsumesTokens (R.rule reader) }
+    requires last { (u : TablesOf) → TablesHaveGrown tables.now u → map (R.said u) rows.items ≡ map (R.said tables.now) rows.items }
+    ensures reads { RowReadsAsOutcome (repetition_reader snoc (R.begins reader) (R.rule reader) (map (R.said tables.old) rows.items) cursor.old) (λ t. values_of_row_range (R.Row.table t) (R.said t)) tables.new result cursor.new }
+    ensures grown { TablesHaveGrown tables.old tables.new }
 {
     let mut rows = rows;
     while reader.comes(cursor) {
@@ -97,19 +107,25 @@ pub fn read_many<R: Lookahead>(
 }
 
 /// Reads rows with this mark between two, and keeps them.
-pub fn read_list<R: RowReader>(
+pub fn read_separated_rows<R: RowReader>(
     reader: R,
     mark: u8,
     alloc: Global,
-    cursor: &mut Cursor<'_>,
+    cursor: &mut TokenCursor<'_>,
     tables: &mut Tables,
-) -> Answer<Range>
-    requires { Shrinks (behind mark (R.rule reader)) }
-    ensures reads { ReadsAs (separated mark (R.rule reader) cursor.old) (λ t. listed (R.Row.table t) (R.said t)) tables.new result cursor.new }
-    ensures grown { Grown tables.old tables.new }
+) -> ReadResult<RowRange>
+    requires { ReaderConsumesTokens (reader_after_mark mark (R.rule reader)) }
+    ensures reads { RowReadsAsOutcome (separated_list_reader mark (R.rule reader) cursor.old) (λ t. values_of_row_range (R.Row.table t) (R.said t)) tables.new result cursor.new }
+    ensures grown { TablesHaveGrown tables.old tables.new }
 {
     let first = reader.read(alloc, cursor, tables)?;
     let mut rows = Vec::new(alloc);
     push(&mut rows, first)?;
-    read_many(Behind { mark, reader }, rows, alloc, cursor, tables)
+    read_repeated_rows(
+        AfterMarkReader { mark, reader },
+        rows,
+        alloc,
+        cursor,
+        tables,
+    )
 }

@@ -1,20 +1,20 @@
 //! User specifications.
 
-ghost use Rattle.sudoers_line.specs.Node.{CmdSpec as CmdSpecOf, HostGroup as HostGroupOf};
-ghost use Rattle.sudoers_line_reader.specs.Reader.{separated};
-ghost use Rattle.sudoers_line_reader.specs.Descent.{cmd_spec, host_group, spec};
-ghost use Rattle.sudoers_line_rows.specs.Tables.{Grown, command_in, commands_in, group_in, groups_in, node_in};
-ghost use Rattle.sudoers_line_reader.specs.internal.Answer.{ReadsAs};
+ghost use Rattle.sudoers_grammar.specs.Node.{CmdSpec as CmdSpecOf, HostGroup as HostGroupOf};
+ghost use Rattle.sudoers_line_reader.specs.Reader.{separated_list_reader};
+ghost use Rattle.sudoers_line_reader.specs.Descent.{cmd_spec_reader, host_group_reader, user_spec_reader};
+ghost use Rattle.sudoers_line_rows.specs.Tables.{TablesHaveGrown, command_in_tables, commands_in_tables, host_group_in_tables, host_groups_in_tables, node_in_tables};
+ghost use Rattle.sudoers_line_reader.specs.internal.Answer.{RowReadsAsOutcome};
 
 use crate::commands::CommandReader;
-use crate::cursor::{Answer, Cursor};
-use crate::members::members;
-use crate::options::{options, tags};
-use crate::row_reader::{RowReader, read_list};
-use crate::runas::maybe_runas;
+use crate::cursor::{ReadResult, TokenCursor};
+use crate::members::read_member_list;
+use crate::options::{read_command_options, read_command_tags};
+use crate::row_reader::{RowReader, read_separated_rows};
+use crate::runas::read_optional_runas;
 use std::alloc::Global;
-use sudoers_line::Kind;
-use sudoers_line_rows::{CommandRow, GroupRow, NodeRow, Range, Tables};
+use sudoers_grammar::Kind;
+use sudoers_line_rows::{CommandRow, HostGroupRow, NodeRow, RowRange, Tables};
 
 /// Reads commands with what stands before them.
 #[derive(Clone, Copy)]
@@ -25,20 +25,20 @@ impl RowReader for CmdSpecReader {
 
     ghost Said = { CmdSpecOf };
 
-    ghost said = { command_in };
+    ghost said = { command_in_tables };
 
-    ghost rule = { λ _. cmd_spec };
+    ghost rule = { λ _. cmd_spec_reader };
 
-    #[tactic(auto, unfolding(crate::specs::Descent::cmd_spec))]
+    #[tactic(auto, unfolding(crate::specs::Descent::cmd_spec_reader))]
     fn read(
         self,
         alloc: Global,
-        cursor: &mut Cursor<'_>,
+        cursor: &mut TokenCursor<'_>,
         tables: &mut Tables,
-    ) -> Answer<CommandRow> {
-        let runas = maybe_runas(alloc, cursor, tables)?;
-        let options = options(alloc, cursor, tables)?;
-        let tags = tags(alloc, cursor, tables)?;
+    ) -> ReadResult<CommandRow> {
+        let runas = read_optional_runas(alloc, cursor, tables)?;
+        let options = read_command_options(alloc, cursor, tables)?;
+        let tags = read_command_tags(alloc, cursor, tables)?;
         let member = CommandReader.read(alloc, cursor, tables)?;
         Ok(CommandRow {
             runas,
@@ -50,12 +50,16 @@ impl RowReader for CmdSpecReader {
 }
 
 /// Reads a list of commands with what stands before them.
-#[tactic(auto, using(crate::proofs::Loops::cmd_spec_shrinks))]
-pub fn cmd_spec_list(alloc: Global, cursor: &mut Cursor<'_>, tables: &mut Tables) -> Answer<Range>
-    ensures reads { ReadsAs (separated 44 cmd_spec cursor.old) commands_in tables.new result cursor.new }
-    ensures grown { Grown tables.old tables.new }
+#[tactic(auto, using(crate::proofs::Loops::next_cmd_spec_reader_consumes_tokens))]
+pub fn read_cmd_spec_list(
+    alloc: Global,
+    cursor: &mut TokenCursor<'_>,
+    tables: &mut Tables,
+) -> ReadResult<RowRange>
+    ensures reads { RowReadsAsOutcome (separated_list_reader 44 cmd_spec_reader cursor.old) commands_in_tables tables.new result cursor.new }
+    ensures grown { TablesHaveGrown tables.old tables.new }
 {
-    read_list(CmdSpecReader, b',', alloc, cursor, tables)
+    read_separated_rows(CmdSpecReader, b',', alloc, cursor, tables)
 }
 
 /// Reads hosts and commands.
@@ -63,39 +67,52 @@ pub fn cmd_spec_list(alloc: Global, cursor: &mut Cursor<'_>, tables: &mut Tables
 pub struct HostGroupReader;
 
 impl RowReader for HostGroupReader {
-    type Row = GroupRow;
+    type Row = HostGroupRow;
 
     ghost Said = { HostGroupOf };
 
-    ghost said = { group_in };
+    ghost said = { host_group_in_tables };
 
-    ghost rule = { λ _. host_group };
+    ghost rule = { λ _. host_group_reader };
 
-    #[tactic(auto, unfolding(crate::specs::Descent::host_group))]
-    fn read(self, alloc: Global, cursor: &mut Cursor<'_>, tables: &mut Tables) -> Answer<GroupRow> {
-        let hosts = members(alloc, cursor, tables, Kind::Host)?;
-        cursor.mark(b'=')?;
-        let commands = cmd_spec_list(alloc, cursor, tables)?;
-        Ok(GroupRow { hosts, commands })
+    #[tactic(auto, unfolding(crate::specs::Descent::host_group_reader))]
+    fn read(
+        self,
+        alloc: Global,
+        cursor: &mut TokenCursor<'_>,
+        tables: &mut Tables,
+    ) -> ReadResult<HostGroupRow> {
+        let hosts = read_member_list(alloc, cursor, tables, Kind::Host)?;
+        cursor.expect_mark(b'=')?;
+        let commands = read_cmd_spec_list(alloc, cursor, tables)?;
+        Ok(HostGroupRow { hosts, commands })
     }
 }
 
 /// Reads a list of host groups.
-#[tactic(auto, using(crate::proofs::Loops::host_group_shrinks))]
-pub fn host_group_list(alloc: Global, cursor: &mut Cursor<'_>, tables: &mut Tables) -> Answer<Range>
-    ensures reads { ReadsAs (separated 58 host_group cursor.old) groups_in tables.new result cursor.new }
-    ensures grown { Grown tables.old tables.new }
+#[tactic(auto, using(crate::proofs::Loops::next_host_group_reader_consumes_tokens))]
+pub fn read_host_group_list(
+    alloc: Global,
+    cursor: &mut TokenCursor<'_>,
+    tables: &mut Tables,
+) -> ReadResult<RowRange>
+    ensures reads { RowReadsAsOutcome (separated_list_reader 58 host_group_reader cursor.old) host_groups_in_tables tables.new result cursor.new }
+    ensures grown { TablesHaveGrown tables.old tables.new }
 {
-    read_list(HostGroupReader, b':', alloc, cursor, tables)
+    read_separated_rows(HostGroupReader, b':', alloc, cursor, tables)
 }
 
 /// Reads a user specification.
-#[tactic(auto, unfolding(crate::specs::Descent::spec))]
-pub fn spec(alloc: Global, cursor: &mut Cursor<'_>, tables: &mut Tables) -> Answer<NodeRow>
-    ensures reads { ReadsAs (spec cursor.old) node_in tables.new result cursor.new }
-    ensures grown { Grown tables.old tables.new }
+#[tactic(auto, unfolding(crate::specs::Descent::user_spec_reader))]
+pub fn read_user_specification(
+    alloc: Global,
+    cursor: &mut TokenCursor<'_>,
+    tables: &mut Tables,
+) -> ReadResult<NodeRow>
+    ensures reads { RowReadsAsOutcome (user_spec_reader cursor.old) node_in_tables tables.new result cursor.new }
+    ensures grown { TablesHaveGrown tables.old tables.new }
 {
-    let users = members(alloc, cursor, tables, Kind::User)?;
-    let groups = host_group_list(alloc, cursor, tables)?;
+    let users = read_member_list(alloc, cursor, tables, Kind::User)?;
+    let groups = read_host_group_list(alloc, cursor, tables)?;
     Ok(NodeRow::Spec { users, groups })
 }

@@ -3,46 +3,46 @@ use Rattle.std.proofs.Common.{◌≡◌, ℕ, List, [], ◌++◌, length, take, 
 use Rattle.std.specs.Prelude.{Result, Ok, Err, OnErr}
 use Rattle.std.proofs.Math.Seq.{take-append_seam}
 use Rattle.sudoers_line_rows.specs.declared.rows.Tables.{Tables}
-use Rattle.sudoers_line_rows.specs.declared.counts.Counts.{Counts}
-use Rattle.sudoers_line_rows.specs.Counts.{counts_of, IsCut}
-use Rattle.sudoers_line_rows.specs.Tables.{Grows, Grown}
+use Rattle.sudoers_line_rows.specs.declared.row_counts.TableRowCounts.{TableRowCounts}
+use Rattle.sudoers_line_rows.specs.Counts.{row_counts_of_tables, IsTruncatedToCounts}
+use Rattle.sudoers_line_rows.specs.Tables.{IsExtendedList, TablesHaveGrown}
 
-same_rows : {X : Type 0} (xs ys zs : List X) (n : ℕ) → Grows xs ys → n ≡ length xs → zs ≡ take n ys → zs ≡ xs
-same_rows xs ys zs n (more, e) count cut = cut ∙ ap (take n) e ∙ ap (λ k. take k (xs ++ more)) count ∙ take-append_seam xs more
+cut_extended_list_is_original : {X : Type 0} (xs ys zs : List X) (n : ℕ) → IsExtendedList xs ys → n ≡ length xs → zs ≡ take n ys → zs ≡ xs
+cut_extended_list_is_original xs ys zs n (more, e) count cut = cut ∙ ap (take n) e ∙ ap (λ k. take k (xs ++ more)) count ∙ take-append_seam xs more
 
-to : {X : Type 0} (xs ys zs : List X) (n : ℕ) → Grows xs ys → n ≡ length xs → zs ≡ take n ys → Grows xs zs
-to xs ys zs n g count cut = ([], same_rows xs ys zs n g count cut ∙ sym (append-nil xs))
+original_extends_to_cut_list : {X : Type 0} (xs ys zs : List X) (n : ℕ) → IsExtendedList xs ys → n ≡ length xs → zs ≡ take n ys → IsExtendedList xs zs
+original_extends_to_cut_list xs ys zs n g count cut = ([], cut_extended_list_is_original xs ys zs n g count cut ∙ sym (append-nil xs))
 
-from : {X : Type 0} (xs ys zs : List X) (n : ℕ) → Grows xs ys → n ≡ length xs → zs ≡ take n ys → Grows zs xs
-from xs ys zs n g count cut = ([], sym (same_rows xs ys zs n g count cut) ∙ sym (append-nil zs))
+cut_list_extends_to_original : {X : Type 0} (xs ys zs : List X) (n : ℕ) → IsExtendedList xs ys → n ≡ length xs → zs ≡ take n ys → IsExtendedList zs xs
+cut_list_extends_to_original xs ys zs n g count cut = ([], sym (cut_extended_list_is_original xs ys zs n g count cut) ∙ sym (append-nil zs))
 
-pub on_err : {A E : Type 0} {P : Type 0} (r : Result A E) → P → OnErr r P
-on_err (Ok x) p = tt
-on_err (Err e) p = p
+pub on_err_holds_if_claim_holds : {A E : Type 0} {P : Type 0} (r : Result A E) → P → OnErr r P
+on_err_holds_if_claim_holds (Ok x) p = tt
+on_err_holds_if_claim_holds (Err e) p = p
 
-module _ (t u v : Tables) (c : Counts) (counts : c ≡ counts_of t) (g : Grown t u) (cut : IsCut c u v) where
-  pub cut_grown : Grown t v
+module _ (t u v : Tables) (c : TableRowCounts) (counts : c ≡ row_counts_of_tables t) (g : TablesHaveGrown t u) (cut : IsTruncatedToCounts c u v) where
+  pub cut_grown : TablesHaveGrown t v
   cut_grown = record {
-    bytes = to _ _ _ _ g.bytes (ap (λ (k : Counts). k.bytes) counts) cut.bytes;
-    digests = to _ _ _ _ g.digests (ap (λ (k : Counts). k.digests) counts) cut.digests;
-    members = to _ _ _ _ g.members (ap (λ (k : Counts). k.members) counts) cut.members;
-    options = to _ _ _ _ g.options (ap (λ (k : Counts). k.options) counts) cut.options;
-    tags = to _ _ _ _ g.tags (ap (λ (k : Counts). k.tags) counts) cut.tags;
-    commands = to _ _ _ _ g.commands (ap (λ (k : Counts). k.commands) counts) cut.commands;
-    groups = to _ _ _ _ g.groups (ap (λ (k : Counts). k.groups) counts) cut.groups;
-    defs = to _ _ _ _ g.defs (ap (λ (k : Counts). k.defs) counts) cut.defs;
-    params = to _ _ _ _ g.params (ap (λ (k : Counts). k.params) counts) cut.params;
+    bytes = original_extends_to_cut_list _ _ _ _ g.bytes (ap (λ (k : TableRowCounts). k.bytes) counts) cut.bytes;
+    digests = original_extends_to_cut_list _ _ _ _ g.digests (ap (λ (k : TableRowCounts). k.digests) counts) cut.digests;
+    members = original_extends_to_cut_list _ _ _ _ g.members (ap (λ (k : TableRowCounts). k.members) counts) cut.members;
+    options = original_extends_to_cut_list _ _ _ _ g.options (ap (λ (k : TableRowCounts). k.options) counts) cut.options;
+    tags = original_extends_to_cut_list _ _ _ _ g.tags (ap (λ (k : TableRowCounts). k.tags) counts) cut.tags;
+    commands = original_extends_to_cut_list _ _ _ _ g.commands (ap (λ (k : TableRowCounts). k.commands) counts) cut.commands;
+    groups = original_extends_to_cut_list _ _ _ _ g.groups (ap (λ (k : TableRowCounts). k.groups) counts) cut.groups;
+    defs = original_extends_to_cut_list _ _ _ _ g.defs (ap (λ (k : TableRowCounts). k.defs) counts) cut.defs;
+    params = original_extends_to_cut_list _ _ _ _ g.params (ap (λ (k : TableRowCounts). k.params) counts) cut.params;
   }
 
-  pub cut_back : Grown v t
+  pub cut_back : TablesHaveGrown v t
   cut_back = record {
-    bytes = from _ _ _ _ g.bytes (ap (λ (k : Counts). k.bytes) counts) cut.bytes;
-    digests = from _ _ _ _ g.digests (ap (λ (k : Counts). k.digests) counts) cut.digests;
-    members = from _ _ _ _ g.members (ap (λ (k : Counts). k.members) counts) cut.members;
-    options = from _ _ _ _ g.options (ap (λ (k : Counts). k.options) counts) cut.options;
-    tags = from _ _ _ _ g.tags (ap (λ (k : Counts). k.tags) counts) cut.tags;
-    commands = from _ _ _ _ g.commands (ap (λ (k : Counts). k.commands) counts) cut.commands;
-    groups = from _ _ _ _ g.groups (ap (λ (k : Counts). k.groups) counts) cut.groups;
-    defs = from _ _ _ _ g.defs (ap (λ (k : Counts). k.defs) counts) cut.defs;
-    params = from _ _ _ _ g.params (ap (λ (k : Counts). k.params) counts) cut.params;
+    bytes = cut_list_extends_to_original _ _ _ _ g.bytes (ap (λ (k : TableRowCounts). k.bytes) counts) cut.bytes;
+    digests = cut_list_extends_to_original _ _ _ _ g.digests (ap (λ (k : TableRowCounts). k.digests) counts) cut.digests;
+    members = cut_list_extends_to_original _ _ _ _ g.members (ap (λ (k : TableRowCounts). k.members) counts) cut.members;
+    options = cut_list_extends_to_original _ _ _ _ g.options (ap (λ (k : TableRowCounts). k.options) counts) cut.options;
+    tags = cut_list_extends_to_original _ _ _ _ g.tags (ap (λ (k : TableRowCounts). k.tags) counts) cut.tags;
+    commands = cut_list_extends_to_original _ _ _ _ g.commands (ap (λ (k : TableRowCounts). k.commands) counts) cut.commands;
+    groups = cut_list_extends_to_original _ _ _ _ g.groups (ap (λ (k : TableRowCounts). k.groups) counts) cut.groups;
+    defs = cut_list_extends_to_original _ _ _ _ g.defs (ap (λ (k : TableRowCounts). k.defs) counts) cut.defs;
+    params = cut_list_extends_to_original _ _ _ _ g.params (ap (λ (k : TableRowCounts). k.params) counts) cut.params;
   }

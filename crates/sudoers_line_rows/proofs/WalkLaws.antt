@@ -1,7 +1,7 @@
 -- The aliases among members of lists one after another.
 use Rattle.std.proofs.Common.{◌≡◌, List, ◌++◌}
 use Rattle.std.proofs.lemmas.Grind.{flat_map-append}
-use Rattle.sudoers_line.specs.Listed.{Listed, alias_of, aliases_among}
+use Rattle.sudoers_grammar.specs.Listed.{ListedMember, alias_member_of_atom, aliases_among_listed}
 
-pub aliases_append : (xs ys : List Listed) → aliases_among (xs ++ ys) ≡ aliases_among xs ++ aliases_among ys
-aliases_append xs ys = flat_map-append (λ (l : Listed). alias_of l.0 l.1 l.1.atom) xs ys
+pub aliases_among_appended_lists_are_appended : (xs ys : List ListedMember) → aliases_among_listed (xs ++ ys) ≡ aliases_among_listed xs ++ aliases_among_listed ys
+aliases_among_appended_lists_are_appended xs ys = flat_map-append (λ (l : ListedMember). alias_member_of_atom l.0 l.1 l.1.atom) xs ys

@@ -1,10 +1,10 @@
 -- How many rows tables have, and tables that are cut back.
 use Rattle.std.specs.Prelude.{◌≡◌, take, length}
 use Rattle.sudoers_line_rows.specs.declared.rows.Tables.{Tables}
-use Rattle.sudoers_line_rows.specs.declared.counts.Counts.{Counts}
+use Rattle.sudoers_line_rows.specs.declared.row_counts.TableRowCounts.{TableRowCounts}
 
-abbrev pub counts_of : Tables → Counts
-counts_of t = record {
+abbrev pub row_counts_of_tables : Tables → TableRowCounts
+row_counts_of_tables t = record {
   bytes = length t.bytes.items;
   digests = length t.digests.items;
   members = length t.members.items;
@@ -17,7 +17,7 @@ counts_of t = record {
 }
 
 -- The second has so many rows of the first, the earliest.
-pub record IsCut (c : Counts) (t u : Tables) : Type 0 where
+pub record IsTruncatedToCounts (c : TableRowCounts) (t u : Tables) : Type 0 where
   pub bytes : u.bytes.items ≡ take c.bytes t.bytes.items
   pub digests : u.digests.items ≡ take c.digests t.digests.items
   pub members : u.members.items ≡ take c.members t.members.items

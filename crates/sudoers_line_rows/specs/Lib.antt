@@ -1,3 +1,4 @@
 pub mod Tables
 pub mod Counts
 pub mod View
+pub mod Alike

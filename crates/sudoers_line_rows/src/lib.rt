@@ -1,23 +1,30 @@
 //! The rows of tables in which the lines of a policy are kept, and views of them.
 #![tactic(auto)]
 
-mod counts;
+mod alias_members;
+mod alike;
 mod debug;
 pub mod laws;
-mod list;
+mod row_counts;
+mod row_lists;
 mod rows;
-mod tables;
+mod table_appending;
 mod view;
-mod walk;
 
-pub use counts::Counts;
-pub use list::{Rows, rows_in};
+pub use alias_members::{find_alias_members, find_aliases_in_list};
+pub use alike::{ComparableRow, are_row_lists_alike};
+pub use row_counts::TableRowCounts;
+pub use row_lists::{RowsOfTable, rows_in};
 pub use rows::{
-    ArgsRow, AtomRow, CommandRow, DefRow, DigestRow, GroupRow, MemberRow, NONE, NodeRow, OptionRow,
-    ParamRow, Range, RunasRow, ScopeRow, SettingRow, Tables, TagRow, Text,
+    AliasDefinitionRow, ArgsRow, AtomRow, ByteRange, CommandRow, DigestRow, HostGroupRow,
+    MemberRow, NONE, NodeRow, OptionRow, ParamRow, RowRange, RunasRow, ScopeRow, SettingRow,
+    Tables, TagRow,
 };
-pub use tables::{keep_args, keep_atom, keep_member, keep_rows, keep_text, place};
+pub use table_appending::{
+    append_table_rows, convert_offset_to_u32, store_atom, store_command_args, store_member_atom,
+    store_text,
+};
 pub use view::{
-    Args, Atom, CmdSpec, Def, Digest, HostGroup, Member, Node, Param, RunasSpec, Scope, Setting,
+    BorrowedArgs, BorrowedAtom, CmdSpec, Def, Digest, HostGroup, Member, Node, Param, RunasSpec,
+    Scope, Setting,
 };
-pub use walk::{alias_members, list_aliases};

@@ -1,48 +1,48 @@
 //! Rows of tables: what lines say, each list a range of one table.
 
-use sudoers_line::{Address, DigestKind, Kind, Mask, Operator, OptionName, Tag};
+use sudoers_grammar::{Address, DigestKind, Kind, Mask, Operator, OptionName, Tag};
 
 /// Bytes of the table of bytes.
 #[derive(Clone, Copy)]
-pub struct Text {
+pub struct ByteRange {
     pub from: u32,
     pub to: u32,
 }
 
 /// Rows of one table.
 #[derive(Clone, Copy)]
-pub struct Range {
+pub struct RowRange {
     pub from: u32,
     pub to: u32,
 }
 
 /// No rows.
-pub const NONE: Range = Range { from: 0, to: 0 };
+pub const NONE: RowRange = RowRange { from: 0, to: 0 };
 
 /// The arguments of a command.
 #[derive(Clone, Copy)]
 pub enum ArgsRow {
     Any,
     Nothing,
-    Pattern(Text),
+    Pattern(ByteRange),
 }
 
 /// What a member is.
 #[derive(Clone, Copy)]
 pub enum AtomRow {
     All,
-    Alias(Text),
-    Name(Text),
+    Alias(ByteRange),
+    Name(ByteRange),
     Id(u32),
-    Group(Text),
+    Group(ByteRange),
     GroupId(u32),
-    NonUnix(Text),
-    Netgroup(Text),
-    Host(Text),
+    NonUnix(ByteRange),
+    Netgroup(ByteRange),
+    Host(ByteRange),
     Address(Address),
     Network(Address, Mask),
     Listing,
-    Path { path: Text, args: ArgsRow },
+    Path { path: ByteRange, args: ArgsRow },
     Sudoedit { args: ArgsRow },
 }
 
@@ -50,7 +50,7 @@ pub enum AtomRow {
 #[derive(Clone, Copy)]
 pub struct DigestRow {
     pub kind: DigestKind,
-    pub text: Text,
+    pub text: ByteRange,
 }
 
 /// A member of a list.
@@ -59,22 +59,22 @@ pub struct MemberRow {
     pub start: u32,
     pub stop: u32,
     pub negated: bool,
-    pub digests: Range,
+    pub digests: RowRange,
     pub atom: AtomRow,
 }
 
 /// As whom a command may run.
 #[derive(Clone, Copy)]
 pub struct RunasRow {
-    pub users: Range,
-    pub groups: Range,
+    pub users: RowRange,
+    pub groups: RowRange,
 }
 
 /// An option of a command.
 #[derive(Clone, Copy)]
 pub struct OptionRow {
     pub name: OptionName,
-    pub value: Text,
+    pub value: ByteRange,
 }
 
 /// A tag of a command.
@@ -88,38 +88,38 @@ pub struct TagRow {
 #[derive(Clone, Copy)]
 pub struct CommandRow {
     pub runas: Option<RunasRow>,
-    pub options: Range,
-    pub tags: Range,
+    pub options: RowRange,
+    pub tags: RowRange,
     pub member: MemberRow,
 }
 
 /// Hosts and commands of a user specification.
 #[derive(Clone, Copy)]
-pub struct GroupRow {
-    pub hosts: Range,
-    pub commands: Range,
+pub struct HostGroupRow {
+    pub hosts: RowRange,
+    pub commands: RowRange,
 }
 
 /// A definition of an alias. It ends where its last member ends.
 #[derive(Clone, Copy)]
-pub struct DefRow {
-    pub name: Text,
+pub struct AliasDefinitionRow {
+    pub name: ByteRange,
     pub start: u32,
-    pub members: Range,
+    pub members: RowRange,
 }
 
 /// What a parameter is set to.
 #[derive(Clone, Copy)]
 pub struct SettingRow {
     pub operator: Operator,
-    pub value: Text,
+    pub value: ByteRange,
 }
 
 /// A parameter of a Defaults line.
 #[derive(Clone, Copy)]
 pub struct ParamRow {
     pub negated: bool,
-    pub name: Text,
+    pub name: ByteRange,
     pub setting: Option<SettingRow>,
 }
 
@@ -127,7 +127,7 @@ pub struct ParamRow {
 #[derive(Clone, Copy)]
 pub struct ScopeRow {
     pub kind: Kind,
-    pub members: Range,
+    pub members: RowRange,
 }
 
 /// What a line says.
@@ -137,19 +137,19 @@ pub enum NodeRow {
     Comment,
     Include {
         dir: bool,
-        path: Text,
+        path: ByteRange,
     },
     Defaults {
         scope: Option<ScopeRow>,
-        params: Range,
+        params: RowRange,
     },
     Alias {
         kind: Kind,
-        defs: Range,
+        defs: RowRange,
     },
     Spec {
-        users: Range,
-        groups: Range,
+        users: RowRange,
+        groups: RowRange,
     },
 }
 
@@ -162,7 +162,7 @@ pub struct Tables {
     pub options: Vec<OptionRow>,
     pub tags: Vec<TagRow>,
     pub commands: Vec<CommandRow>,
-    pub groups: Vec<GroupRow>,
-    pub defs: Vec<DefRow>,
+    pub groups: Vec<HostGroupRow>,
+    pub defs: Vec<AliasDefinitionRow>,
     pub params: Vec<ParamRow>,
 }

@@ -3,59 +3,59 @@ use Rattle.std.proofs.Common.{◌≡◌, true, ◌⊎◌, inl, inr, ⊎_elim, �
 use Rattle.std.proofs.lemmas.Option.{same_Some, slice_get-map}
 use Rattle.std.specs.List.{cons_option}
 use Rattle.std.specs.Option.{option_map}
-use Rattle.sudoers_line.specs.Node.{HostGroup, Member}
-use Rattle.sudoers_line_rows.specs.View.{member_shown}
+use Rattle.sudoers_grammar.specs.Node.{HostGroup, Member}
+use Rattle.sudoers_line_rows.specs.View.{member_of_view}
 use Rattle.sudoers_tree.specs.Line.{Line}
-use Rattle.sudoers_tree.specs.Load.{Loaded}
-use Rattle.sudoers_check.specs.Chain.{Has}
-use Rattle.sudoers_match_member.specs.declared.asked.Who.{Who}
-use Rattle.sudoers_match.specs.declared.groups.GroupPlace.{GroupPlace}
+use Rattle.sudoers_tree.specs.Load.{LoadedPolicy}
+use Rattle.sudoers_check.specs.Chain.{ListHasElement}
+use Rattle.sudoers_match_member.specs.declared.people_and_commands.Who.{Who}
+use Rattle.sudoers_match.specs.declared.matching_host_groups.HostGroupPlace.{HostGroupPlace}
 use Rattle.sudoers_match_member.specs.declared.request.Request.{Request}
-use Rattle.sudoers_line.specs.declared.node.Kind.TheVariants.{User, Host}
-use Rattle.sudoers_match_member.specs.Hits.{user_hits, host_hits, command_hits}
-use Rattle.sudoers_match.specs.Allows.{Allows}
-use Rattle.sudoers_match.specs.Answer.{Answer, Fits, IsAnswer, command_line, is_hit, told}
-use Rattle.sudoers_match.specs.declared.rules.Found.{Found}
-use Rattle.sudoers_match.specs.Found.{IsFound, found_answer, numbered_specs}
-use Rattle.sudoers_match.specs.Groups.{AreHostGroups, GroupPlaces, SpecPlaces, place_of}
-use Rattle.sudoers_match.specs.Heads.{Head, filled, no_head}
-use Rattle.sudoers_match.specs.Last.{IsLast}
-use Rattle.sudoers_match.specs.Rows.{CommandRows, GroupRows, Row, SpecRows, row_of}
-use Rattle.sudoers_match.specs.Specs.{AreJoined, Spec, spec_in, specs_of}
-use Rattle.sudoers_list.specs.Listing.{group_at, groups_in}
-use Rattle.sudoers_list.specs.Inner.{Inner, IsInner, Speaks}
-use Rattle.sudoers_list.specs.Reason.{IsInnerOf, NamesRule, inner_text, rule_text, rule_with}
-use Rattle.sudoers_list.proofs.Speaking.{says_by}
-use Rattle.sudoers_list.specs.Rule.{Rule, SpecOn, command_at, deciding_rule, numbered, rule_in, rule_of, spec_on, specs_on}
+use Rattle.sudoers_grammar.specs.declared.node.Kind.TheVariants.{User, Host}
+use Rattle.sudoers_match_member.specs.Hits.{is_user_atom_match, is_host_atom_match, is_command_atom_match}
+use Rattle.sudoers_match.specs.Allows.{ListAllows}
+use Rattle.sudoers_match.specs.Answer.{Answer, RowFitsRequest, IsAnswerToRequest, command_line_of_request, is_request_command_hit, answer_of_row}
+use Rattle.sudoers_match.specs.declared.answer_of_row.AnswerWithCommand.{AnswerWithCommand}
+use Rattle.sudoers_match.specs.Found.{IsFoundInLines, answer_of_found, specs_with_line_numbers}
+use Rattle.sudoers_match.specs.Groups.{AreMatchingHostGroups, ArePlacesOfHostGroup, ArePlacesOfSpec, host_group_place}
+use Rattle.sudoers_match.specs.Heads.{SettingsOfCommand, commands_with_settings, empty_command_settings}
+use Rattle.sudoers_match.specs.Last.{IsLastItemWith}
+use Rattle.sudoers_match.specs.Rows.{AreRowsOfCommand, AreRowsOfHostGroup, PrivilegeRow, AreRowsOfSpec, privilege_row_of}
+use Rattle.sudoers_match.specs.Specs.{IsConcatenationOfParts, UserSpec, user_spec_in_node, user_specs_of_lines}
+use Rattle.sudoers_list.specs.Listing.{host_group_at_place, host_groups_of_specs}
+use Rattle.sudoers_list.specs.Inner.{InnerAliasMember, IsDecidingAliasMember, MemberMatchesCommand}
+use Rattle.sudoers_list.specs.Reason.{IsAliasMemberOfRule, IsReasonByDecidingRule, alias_member_reason_text, deciding_rule_text, rule_text_with_alias_member}
+use Rattle.sudoers_list.proofs.Speaking.{list_with_matching_flat_atom_matches_command}
+use Rattle.sudoers_list.specs.Rule.{DecidingRuleOnLine, HostGroupsOnLine, command_with_settings_at, deciding_rule, lines_with_numbers, rule_of_answer_in_spec, rule_answering_request, host_groups_on_line, host_groups_of_spec_lines}
 
-has_either : {Y : Type 0} (xs ys : List Y) (y : Y) → Has (xs ++ ys) y → Has xs y ⊎ Has ys y
-has_either [] ys y h = inr h
-has_either (x ∷ xs) ys y (inl e) = inl (inl e)
-has_either (x ∷ xs) ys y (inr h) = ⊎_elim (λ a. inl (inr a)) (λ b. inr b) (has_either xs ys y h)
+element_of_appended_is_in_either : {Y : Type 0} (xs ys : List Y) (y : Y) → ListHasElement (xs ++ ys) y → ListHasElement xs y ⊎ ListHasElement ys y
+element_of_appended_is_in_either [] ys y h = inr h
+element_of_appended_is_in_either (x ∷ xs) ys y (inl e) = inl (inl e)
+element_of_appended_is_in_either (x ∷ xs) ys y (inr h) = ⊎_elim (λ a. inl (inr a)) (λ b. inr b) (element_of_appended_is_in_either xs ys y h)
 
-has_middle : {Y : Type 0} (before after : List Y) (y : Y) → Has (before ++ y ∷ after) y
-has_middle [] after y = inl refl
-has_middle (x ∷ before) after y = inr (has_middle before after y)
+element_amid_list_is_in_list : {Y : Type 0} (before after : List Y) (y : Y) → ListHasElement (before ++ y ∷ after) y
+element_amid_list_is_in_list [] after y = inl refl
+element_amid_list_is_in_list (x ∷ before) after y = inr (element_amid_list_is_in_list before after y)
 
-has_mapped : {X Y : Type 0} (f : X → Y) (xs : List X) (y : Y) → Has (map f xs) y → (x : X) × (f x ≡ y) × Has xs x
-has_mapped f [] y h = absurd h
-has_mapped f (x ∷ xs) y (inl e) = (x, e, inl refl)
-has_mapped f (x ∷ xs) y (inr h) = let r = has_mapped f xs y h in (r.0, r.1, inr r.2)
+mapped_list_element_is_of_an_element : {X Y : Type 0} (f : X → Y) (xs : List X) (y : Y) → ListHasElement (map f xs) y → (x : X) × (f x ≡ y) × ListHasElement xs x
+mapped_list_element_is_of_an_element f [] y h = absurd h
+mapped_list_element_is_of_an_element f (x ∷ xs) y (inl e) = (x, e, inl refl)
+mapped_list_element_is_of_an_element f (x ∷ xs) y (inr h) = let r = mapped_list_element_is_of_an_element f xs y h in (r.0, r.1, inr r.2)
 
 -- The thing with this number gives what is looked for.
-record IsIn {X Y : Type 0} (Part : ℕ → X → List Y → Type 0) (i : ℕ) (xs : List X) (y : Y) : Type 0 where
+record IsInPartOfNumberedItem {X Y : Type 0} (Part : ℕ → X → List Y → Type 0) (i : ℕ) (xs : List X) (y : Y) : Type 0 where
   pub number : ℕ
   pub thing : X
   pub there : slice_get xs number ≡ Some thing
   pub part : List Y
   pub is_part : Part (i + number) thing part
-  pub has : Has part y
+  pub has : ListHasElement part y
 
-joined_has : {X Y : Type 0} (Part : ℕ → X → List Y → Type 0) (i : ℕ) (xs : List X) (ys : List Y) (y : Y) → AreJoined Part i xs ys → Has ys y → IsIn Part i xs y
-joined_has Part i [] ys y joined h = absurd (subst (λ l. Has l y) joined h)
-joined_has {X} {Y} Part i (x ∷ xs) ys y joined h = by (has_either joined.0 joined.1 y (subst (λ l. Has l y) joined.2 h)) (λ b. joined_has Part (suc i) xs joined.1 y joined.4 b)
+element_of_concatenation_is_in_a_part : {X Y : Type 0} (Part : ℕ → X → List Y → Type 0) (i : ℕ) (xs : List X) (ys : List Y) (y : Y) → IsConcatenationOfParts Part i xs ys → ListHasElement ys y → IsInPartOfNumberedItem Part i xs y
+element_of_concatenation_is_in_a_part Part i [] ys y joined h = absurd (subst (λ l. ListHasElement l y) joined h)
+element_of_concatenation_is_in_a_part {X} {Y} Part i (x ∷ xs) ys y joined h = by (element_of_appended_is_in_either joined.0 joined.1 y (subst (λ l. ListHasElement l y) joined.2 h)) (λ b. element_of_concatenation_is_in_a_part Part (suc i) xs joined.1 y joined.4 b)
   where
-    by : Has joined.0 y ⊎ Has joined.1 y → (Has joined.1 y → IsIn Part (suc i) xs y) → IsIn Part i (x ∷ xs) y
+    by : ListHasElement joined.0 y ⊎ ListHasElement joined.1 y → (ListHasElement joined.1 y → IsInPartOfNumberedItem Part (suc i) xs y) → IsInPartOfNumberedItem Part i (x ∷ xs) y
     by (inl a) later =
         let e : i ≡ i + 0 = omega arith in
         record { number = 0; thing = x; there = refl; part = joined.0; is_part = subst (λ k. Part k x joined.0) e joined.3; has = a }
@@ -65,243 +65,243 @@ joined_has {X} {Y} Part i (x ∷ xs) ys y joined h = by (has_either joined.0 joi
         record { number = suc r.number; thing = r.thing; there = r.there; part = r.part; is_part = subst (λ k. Part k r.thing r.part) e r.is_part; has = r.has }
 
 -- With numbers from 0.
-record IsHere {X Y : Type 0} (Part : ℕ → X → List Y → Type 0) (xs : List X) (y : Y) : Type 0 where
+record IsInPartOfItemFromZero {X Y : Type 0} (Part : ℕ → X → List Y → Type 0) (xs : List X) (y : Y) : Type 0 where
   pub number : ℕ
   pub thing : X
   pub there : slice_get xs number ≡ Some thing
   pub part : List Y
   pub is_part : Part number thing part
-  pub has : Has part y
+  pub has : ListHasElement part y
 
-joined_here : {X Y : Type 0} (Part : ℕ → X → List Y → Type 0) (xs : List X) (ys : List Y) (y : Y) → AreJoined Part 0 xs ys → Has ys y → IsHere Part xs y
-joined_here Part xs ys y joined h =
-    let r = joined_has Part 0 xs ys y joined h in
+concatenated_element_is_in_part_from_zero : {X Y : Type 0} (Part : ℕ → X → List Y → Type 0) (xs : List X) (ys : List Y) (y : Y) → IsConcatenationOfParts Part 0 xs ys → ListHasElement ys y → IsInPartOfItemFromZero Part xs y
+concatenated_element_is_in_part_from_zero Part xs ys y joined h =
+    let r = element_of_concatenation_is_in_a_part Part 0 xs ys y joined h in
     let e : 0 + r.number ≡ r.number = omega arith in
     record { number = r.number; thing = r.thing; there = r.there; part = r.part; is_part = subst (λ k. Part k r.thing r.part) e r.is_part; has = r.has }
 
 -- ---- host groups
 
-group_there : (lines : List Line) (n m : ℕ) (s : Spec) (g : HostGroup) → slice_get (specs_of lines) n ≡ Some s → slice_get s.groups m ≡ Some g
-    → group_at (groups_in lines) (place_of n m) ≡ Some g
-group_there lines n m s g there here =
+host_group_is_at_its_place : (lines : List Line) (n m : ℕ) (s : UserSpec) (g : HostGroup) → slice_get (user_specs_of_lines lines) n ≡ Some s → slice_get s.groups m ≡ Some g
+    → host_group_at_place (host_groups_of_specs lines) (host_group_place n m) ≡ Some g
+host_group_is_at_its_place lines n m s g there here =
     ap (option_and_then (λ (groups : List HostGroup). slice_get groups m))
-    (slice_get-map (λ (t : Spec). t.groups) (specs_of lines) n ∙ ap (option_map (λ (t : Spec). t.groups)) there)
+    (slice_get-map (λ (t : UserSpec). t.groups) (user_specs_of_lines lines) n ∙ ap (option_map (λ (t : UserSpec). t.groups)) there)
     ∙ here
 
-group_in : (lines : List Line) (who : Who) (i : ℕ) (s : Spec) (part : List GroupPlace) (place : GroupPlace) → SpecPlaces lines who i s part
-    → Has part place → IsHere (GroupPlaces lines who i) s.groups place
-group_in lines who i s part place (inl a) h = joined_here (GroupPlaces lines who i) s.groups part place a.1 h
-group_in lines who i s part place (inr b) h = absurd (subst (λ l. Has l place) b.1 h)
+place_of_spec_is_of_its_group : (lines : List Line) (who : Who) (i : ℕ) (s : UserSpec) (part : List HostGroupPlace) (place : HostGroupPlace) → ArePlacesOfSpec lines who i s part
+    → ListHasElement part place → IsInPartOfItemFromZero (ArePlacesOfHostGroup lines who i) s.groups place
+place_of_spec_is_of_its_group lines who i s part place (inl a) h = concatenated_element_is_in_part_from_zero (ArePlacesOfHostGroup lines who i) s.groups part place a.1 h
+place_of_spec_is_of_its_group lines who i s part place (inr b) h = absurd (subst (λ l. ListHasElement l place) b.1 h)
 
-the_place : (lines : List Line) (who : Who) (i j : ℕ) (g : HostGroup) (part : List GroupPlace) (place : GroupPlace) → GroupPlaces lines who i j g part
-    → Has part place → place_of i j ≡ place
-the_place lines who i j g part place (inl a) h = ⊎_elim (λ e. e) (λ n. absurd n) (subst (λ l. Has l place) a.1 h)
-the_place lines who i j g part place (inr b) h = absurd (subst (λ l. Has l place) b.1 h)
+place_of_host_group_is_its_own : (lines : List Line) (who : Who) (i j : ℕ) (g : HostGroup) (part : List HostGroupPlace) (place : HostGroupPlace) → ArePlacesOfHostGroup lines who i j g part
+    → ListHasElement part place → host_group_place i j ≡ place
+place_of_host_group_is_its_own lines who i j g part place (inl a) h = ⊎_elim (λ e. e) (λ n. absurd n) (subst (λ l. ListHasElement l place) a.1 h)
+place_of_host_group_is_its_own lines who i j g part place (inr b) h = absurd (subst (λ l. ListHasElement l place) b.1 h)
 
-pub place_has_group : (lines : List Line) (who : Who) (places : List GroupPlace) (place : GroupPlace) → AreHostGroups lines who places
-    → Has places place → (g : HostGroup) × (group_at (groups_in lines) place ≡ Some g)
-place_has_group lines who places place are h =
-    let s = joined_here (SpecPlaces lines who) (specs_of lines) places place are h in
-    let g = group_in lines who s.number s.thing s.part place s.is_part s.has in
-    let e = the_place lines who s.number g.number g.thing g.part place g.is_part g.has in
-    (g.thing, subst (λ p. group_at (groups_in lines) p ≡ Some g.thing) e (group_there lines s.number g.number s.thing g.thing s.there g.there))
+pub matching_place_has_host_group : (lines : List Line) (who : Who) (places : List HostGroupPlace) (place : HostGroupPlace) → AreMatchingHostGroups lines who places
+    → ListHasElement places place → (g : HostGroup) × (host_group_at_place (host_groups_of_specs lines) place ≡ Some g)
+matching_place_has_host_group lines who places place are h =
+    let s = concatenated_element_is_in_part_from_zero (ArePlacesOfSpec lines who) (user_specs_of_lines lines) places place are h in
+    let g = place_of_spec_is_of_its_group lines who s.number s.thing s.part place s.is_part s.has in
+    let e = place_of_host_group_is_its_own lines who s.number g.number g.thing g.part place g.is_part g.has in
+    (g.thing, subst (λ p. host_group_at_place (host_groups_of_specs lines) p ≡ Some g.thing) e (host_group_is_at_its_place lines s.number g.number s.thing g.thing s.there g.there))
 
 -- ---- answers
 
 -- A user specification stands on a line.
-stands_on : (k n : ℕ) (lines : List Line) (s : Spec) → slice_get (specs_of lines) n ≡ Some s
-    → (on : ℕ × Line) × (slice_get (specs_on k lines) n ≡ Some (spec_on on s))
-stands_on k n [] s h = absurd cc
-stands_on k n (l ∷ ls) s h = by (spec_in l.node) n h (λ m. stands_on (k + 1) m ls s)
+user_spec_is_on_a_line : (k n : ℕ) (lines : List Line) (s : UserSpec) → slice_get (user_specs_of_lines lines) n ≡ Some s
+    → (on : ℕ × Line) × (slice_get (host_groups_of_spec_lines k lines) n ≡ Some (host_groups_on_line on s))
+user_spec_is_on_a_line k n [] s h = absurd cc
+user_spec_is_on_a_line k n (l ∷ ls) s h = by (user_spec_in_node l.node) n h (λ m. user_spec_is_on_a_line (k + 1) m ls s)
   where
-    by : (o : Option Spec) (i : ℕ) → slice_get (cons_option o (specs_of ls)) i ≡ Some s
-        → ((m : ℕ) → slice_get (specs_of ls) m ≡ Some s → (on : ℕ × Line) × (slice_get (specs_on (k + 1) ls) m ≡ Some (spec_on on s)))
-        → (on : ℕ × Line) × (slice_get (cons_option (option_map (spec_on (k, l)) o) (specs_on (k + 1) ls)) i ≡ Some (spec_on on s))
+    by : (o : Option UserSpec) (i : ℕ) → slice_get (cons_option o (user_specs_of_lines ls)) i ≡ Some s
+        → ((m : ℕ) → slice_get (user_specs_of_lines ls) m ≡ Some s → (on : ℕ × Line) × (slice_get (host_groups_of_spec_lines (k + 1) ls) m ≡ Some (host_groups_on_line on s)))
+        → (on : ℕ × Line) × (slice_get (cons_option (option_map (host_groups_on_line (k, l)) o) (host_groups_of_spec_lines (k + 1) ls)) i ≡ Some (host_groups_on_line on s))
     by None i e more = more i e
-    by (Some t) zero e more = let same : t ≡ s = cc in ((k, l), ap (λ (x : Spec). Some (spec_on (k, l) x)) same)
+    by (Some t) zero e more = let same : t ≡ s = cc in ((k, l), ap (λ (x : UserSpec). Some (host_groups_on_line (k, l) x)) same)
     by (Some t) (suc i) e more = more i e
 
-counted : (k line : ℕ) → k ≡ line → line ≡ k + 0
-counted k line same = omega (arith, same)
+equal_number_is_number_plus_zero : (k line : ℕ) → k ≡ line → line ≡ k + 0
+equal_number_is_number_plus_zero k line same = omega (arith, same)
 
 -- Of numbered lines this is the one with the user specification, whose number is `line`, counted from `first` on.
-abbrev IsLineOf : ℕ → ℕ → Spec → List (ℕ × Line) → List SpecOn → ℕ → Type 0
-IsLineOf first line s ons specs n = (m : ℕ) × (on : ℕ × Line) × (line ≡ first + m) × (slice_get ons m ≡ Some on) × (slice_get specs n ≡ Some (spec_on on s))
+abbrev IsNumberedLineOfUserSpec : ℕ → ℕ → UserSpec → List (ℕ × Line) → List HostGroupsOnLine → ℕ → Type 0
+IsNumberedLineOfUserSpec first line s ons specs n = (m : ℕ) × (on : ℕ × Line) × (line ≡ first + m) × (slice_get ons m ≡ Some on) × (slice_get specs n ≡ Some (host_groups_on_line on s))
 
 -- A user specification stands on the line with its number.
-stands_on_line : (k n line : ℕ) (lines : List Line) (s : Spec) → slice_get (numbered_specs k lines) n ≡ Some (line, s)
-    → IsLineOf k line s (numbered k lines) (specs_on k lines) n
-stands_on_line k n line [] s h = absurd cc
-stands_on_line k n line (l ∷ ls) s h = by (spec_in l.node) n h (λ j. stands_on_line (k + 1) j line ls s)
+numbered_user_spec_is_on_its_line : (k n line : ℕ) (lines : List Line) (s : UserSpec) → slice_get (specs_with_line_numbers k lines) n ≡ Some (line, s)
+    → IsNumberedLineOfUserSpec k line s (lines_with_numbers k lines) (host_groups_of_spec_lines k lines) n
+numbered_user_spec_is_on_its_line k n line [] s h = absurd cc
+numbered_user_spec_is_on_its_line k n line (l ∷ ls) s h = by (user_spec_in_node l.node) n h (λ j. numbered_user_spec_is_on_its_line (k + 1) j line ls s)
   where
-    later : (specs : List SpecOn) (i j : ℕ) → (slice_get specs j ≡ slice_get (specs_on (k + 1) ls) i)
-        → IsLineOf (k + 1) line s (numbered (k + 1) ls) (specs_on (k + 1) ls) i → IsLineOf k line s (numbered k (l ∷ ls)) specs j
+    later : (specs : List HostGroupsOnLine) (i j : ℕ) → (slice_get specs j ≡ slice_get (host_groups_of_spec_lines (k + 1) ls) i)
+        → IsNumberedLineOfUserSpec (k + 1) line s (lines_with_numbers (k + 1) ls) (host_groups_of_spec_lines (k + 1) ls) i → IsNumberedLineOfUserSpec k line s (lines_with_numbers k (l ∷ ls)) specs j
     later specs i j same r =
         let first = r.2 in
         let at : line ≡ k + suc r.0 = omega (arith, first) in
         (suc r.0, r.1, at, r.3, same ∙ r.4)
 
-    by : (o : Option Spec) (j : ℕ) → slice_get (cons_option (option_map (λ (t : Spec). (k, t)) o) (numbered_specs (k + 1) ls)) j ≡ Some (line, s)
-        → ((i : ℕ) → slice_get (numbered_specs (k + 1) ls) i ≡ Some (line, s) → IsLineOf (k + 1) line s (numbered (k + 1) ls) (specs_on (k + 1) ls) i)
-        → IsLineOf k line s (numbered k (l ∷ ls)) (cons_option (option_map (spec_on (k, l)) o) (specs_on (k + 1) ls)) j
-    by None j e more = later (specs_on (k + 1) ls) j j refl (more j e)
+    by : (o : Option UserSpec) (j : ℕ) → slice_get (cons_option (option_map (λ (t : UserSpec). (k, t)) o) (specs_with_line_numbers (k + 1) ls)) j ≡ Some (line, s)
+        → ((i : ℕ) → slice_get (specs_with_line_numbers (k + 1) ls) i ≡ Some (line, s) → IsNumberedLineOfUserSpec (k + 1) line s (lines_with_numbers (k + 1) ls) (host_groups_of_spec_lines (k + 1) ls) i)
+        → IsNumberedLineOfUserSpec k line s (lines_with_numbers k (l ∷ ls)) (cons_option (option_map (host_groups_on_line (k, l)) o) (host_groups_of_spec_lines (k + 1) ls)) j
+    by None j e more = later (host_groups_of_spec_lines (k + 1) ls) j j refl (more j e)
     by (Some t) zero e more =
         let both : (k, t) ≡ (line, s) = same_Some (k, t) (line, s) e in
-        (0, (k, l), counted k line (ap (λ (p : ℕ × Spec). p.0) both), refl, ap (λ (p : ℕ × Spec). Some (spec_on (k, l) p.1)) both)
-    by (Some t) (suc j) e more = later (spec_on (k, l) t ∷ specs_on (k + 1) ls) j (suc j) refl (more j e)
+        (0, (k, l), equal_number_is_number_plus_zero k line (ap (λ (p : ℕ × UserSpec). p.0) both), refl, ap (λ (p : ℕ × UserSpec). Some (host_groups_on_line (k, l) p.1)) both)
+    by (Some t) (suc j) e more = later (host_groups_on_line (k, l) t ∷ host_groups_of_spec_lines (k + 1) ls) j (suc j) refl (more j e)
 
-pub none_is_not_some : {X : Type 0} (x : X) → None ≡ Some x → ⊥
-none_is_not_some x e = cc
+pub none_is_unequal_to_some : {X : Type 0} (x : X) → None ≡ Some x → ⊥
+none_is_unequal_to_some x e = cc
 
 -- The rule of what was found: the line of its user specification, and its command.
-pub found_rule : (lines : List Line) (found : Found) → (is : IsFound lines found)
-    → (on : ℕ × Line) × (slice_get (numbered 0 lines) found.line ≡ Some on)
-    × (deciding_rule lines (found_answer found) ≡ Some (rule_of (found_answer found) (spec_on on is.spec) (is.in_groups.in_group.head, member_shown found.member)))
-found_rule lines found is =
-    let a : Answer = found_answer found in
-    let w = stands_on_line 0 found.answer.spec found.line lines is.spec is.stands in
-    let at : SpecOn = spec_on w.1 is.spec in
+pub found_answer_has_its_deciding_rule : (lines : List Line) (found : AnswerWithCommand) → (is : IsFoundInLines lines found)
+    → (on : ℕ × Line) × (slice_get (lines_with_numbers 0 lines) found.line ≡ Some on)
+    × (deciding_rule lines (answer_of_found found) ≡ Some (rule_answering_request (answer_of_found found) (host_groups_on_line on is.spec) (is.in_groups.in_group.head, member_of_view found.member)))
+found_answer_has_its_deciding_rule lines found is =
+    let a : Answer = answer_of_found found in
+    let w = numbered_user_spec_is_on_its_line 0 found.answer.spec found.line lines is.spec is.stands in
+    let at : HostGroupsOnLine = host_groups_on_line w.1 is.spec in
     let first = w.2 in
     let number : found.line ≡ w.0 = omega (arith, first) in (
       w.1,
-      ap (slice_get (numbered 0 lines)) number ∙ w.3,
-      ap (option_and_then (rule_in a)) w.4
-          ∙ ap (λ group. option_map (rule_of a at) (command_at a.command group)) is.in_groups.stands
-          ∙ ap (option_map (rule_of a at)) is.in_groups.in_group.stands,
+      ap (slice_get (lines_with_numbers 0 lines)) number ∙ w.3,
+      ap (option_and_then (rule_of_answer_in_spec a)) w.4
+          ∙ ap (λ group. option_map (rule_answering_request a at) (command_with_settings_at a.command group)) is.in_groups.stands
+          ∙ ap (option_map (rule_answering_request a at)) is.in_groups.in_group.stands,
     )
 
-rule_at : (lines : List Line) (a : Answer) (s : Spec) (g : HostGroup) (c : Head × Member) → slice_get (specs_of lines) a.spec ≡ Some s
-    → slice_get s.groups a.host_group ≡ Some g → slice_get (filled no_head g.commands) a.command ≡ Some c
-    → (rule : Rule) × (deciding_rule lines a ≡ Some rule) × (rule.command.member ≡ c.1)
-rule_at lines a s g c there here this =
-    let on = stands_on 0 a.spec lines s there in
-    let at : SpecOn = spec_on on.0 s in (
-      rule_of a at c,
-      ap (option_and_then (rule_in a)) on.1
-          ∙ ap (λ group. option_map (rule_of a at) (command_at a.command group)) here
-          ∙ ap (option_map (rule_of a at)) this,
+places_of_answer_have_deciding_rule : (lines : List Line) (a : Answer) (s : UserSpec) (g : HostGroup) (c : SettingsOfCommand × Member) → slice_get (user_specs_of_lines lines) a.spec ≡ Some s
+    → slice_get s.groups a.host_group ≡ Some g → slice_get (commands_with_settings empty_command_settings g.commands) a.command ≡ Some c
+    → (rule : DecidingRuleOnLine) × (deciding_rule lines a ≡ Some rule) × (rule.command.member ≡ c.1)
+places_of_answer_have_deciding_rule lines a s g c there here this =
+    let on = user_spec_is_on_a_line 0 a.spec lines s there in
+    let at : HostGroupsOnLine = host_groups_on_line on.0 s in (
+      rule_answering_request a at c,
+      ap (option_and_then (rule_of_answer_in_spec a)) on.1
+          ∙ ap (λ group. option_map (rule_answering_request a at) (command_with_settings_at a.command group)) here
+          ∙ ap (option_map (rule_answering_request a at)) this,
       refl,
     )
 
-last_row : (P : Row → Type 0) (rows : List Row) (last : Option Row) (a : Answer) → Some a ≡ option_map told last → IsLast P rows last
-    → (row : Row) × Has rows row × (a ≡ told row) × P row
-last_row P rows None a says is = absurd cc
-last_row P rows (Some row) a says is =
-    let same : a ≡ told row = cc in
-    (row, subst (λ l. Has l row) (sym is.2) (has_middle is.0 is.1 row), same, is.3)
+answer_of_last_row_is_fitting_row : (P : PrivilegeRow → Type 0) (rows : List PrivilegeRow) (last : Option PrivilegeRow) (a : Answer) → Some a ≡ option_map answer_of_row last → IsLastItemWith P rows last
+    → (row : PrivilegeRow) × ListHasElement rows row × (a ≡ answer_of_row row) × P row
+answer_of_last_row_is_fitting_row P rows None a says is = absurd cc
+answer_of_last_row_is_fitting_row P rows (Some row) a says is =
+    let same : a ≡ answer_of_row row = cc in
+    (row, subst (λ l. ListHasElement l row) (sym is.2) (element_amid_list_is_in_list is.0 is.1 row), same, is.3)
 
 -- What stands at the place of an answer: a user specification whose users match, a host group of it whose hosts match, and a command.
-record Stands (lines : List Line) (r : Request) (a : Answer) : Type 0 where
-  pub spec : Spec
+record HasMatchingPlaceOfAnswer (lines : List Line) (r : Request) (a : Answer) : Type 0 where
+  pub spec : UserSpec
   pub group : HostGroup
-  pub command : Head × Member
-  pub there : slice_get (specs_of lines) a.spec ≡ Some spec
+  pub command : SettingsOfCommand × Member
+  pub there : slice_get (user_specs_of_lines lines) a.spec ≡ Some spec
   pub here : slice_get spec.groups a.host_group ≡ Some group
-  pub this : slice_get (filled no_head group.commands) a.command ≡ Some command
-  pub user : Allows User lines (user_hits r.who.user) spec.users
-  pub host : Allows Host lines (host_hits r.who) group.hosts
-  pub speaks : Speaks lines (command_hits (command_line r)) command.1
+  pub this : slice_get (commands_with_settings empty_command_settings group.commands) a.command ≡ Some command
+  pub user : ListAllows User lines (is_user_atom_match r.who.user) spec.users
+  pub host : ListAllows Host lines (is_host_atom_match r.who) group.hosts
+  pub speaks : MemberMatchesCommand lines (is_command_atom_match (command_line_of_request r)) command.1
 
-stands : (lines : List Line) (r : Request) (a : Answer) → IsAnswer lines r (Some a) → Stands lines r a
-stands lines r a is =
-    let last = last_row (Fits lines r) is.rows is.answers.last a is.answers.says is.answers.is_last in
+answer_has_matching_place : (lines : List Line) (r : Request) (a : Answer) → IsAnswerToRequest lines r (Some a) → HasMatchingPlaceOfAnswer lines r a
+answer_has_matching_place lines r a is =
+    let last = answer_of_last_row_is_fitting_row (RowFitsRequest lines r) is.rows is.answers.last a is.answers.says is.answers.is_last in
     let row = last.0 in
-    let s = joined_here (SpecRows lines) (specs_of lines) is.rows row is.are_rows last.1 in
-    let g = joined_here (GroupRows lines s.number s.thing.users) s.thing.groups s.part row s.is_part s.has in
-    let c = joined_here (CommandRows lines s.number g.number s.thing.users g.thing.hosts) (filled no_head g.thing.commands) g.part row g.is_part g.has in
+    let s = concatenated_element_is_in_part_from_zero (AreRowsOfSpec lines) (user_specs_of_lines lines) is.rows row is.are_rows last.1 in
+    let g = concatenated_element_is_in_part_from_zero (AreRowsOfHostGroup lines s.number s.thing.users) s.thing.groups s.part row s.is_part s.has in
+    let c = concatenated_element_is_in_part_from_zero (AreRowsOfCommand lines s.number g.number s.thing.users g.thing.hosts) (commands_with_settings empty_command_settings g.thing.commands) g.part row g.is_part g.has in
     let flat = c.is_part in
-    let atom = has_mapped (row_of s.number g.number s.thing.users g.thing.hosts c.number c.thing.0) flat.0 row (subst (λ l. Has l row) flat.2 c.has) in
-    let spec : a.spec ≡ s.number = ap (λ (x : Answer). x.spec) last.2 ∙ ap (λ (x : Row). x.spec) (sym atom.1) in
-    let group : a.host_group ≡ g.number = ap (λ (x : Answer). x.host_group) last.2 ∙ ap (λ (x : Row). x.host_group) (sym atom.1) in
-    let command : a.command ≡ c.number = ap (λ (x : Answer). x.command) last.2 ∙ ap (λ (x : Row). x.command) (sym atom.1) in
+    let atom = mapped_list_element_is_of_an_element (privilege_row_of s.number g.number s.thing.users g.thing.hosts c.number c.thing.0) flat.0 row (subst (λ l. ListHasElement l row) flat.2 c.has) in
+    let spec : a.spec ≡ s.number = ap (λ (x : Answer). x.spec) last.2 ∙ ap (λ (x : PrivilegeRow). x.spec) (sym atom.1) in
+    let group : a.host_group ≡ g.number = ap (λ (x : Answer). x.host_group) last.2 ∙ ap (λ (x : PrivilegeRow). x.host_group) (sym atom.1) in
+    let command : a.command ≡ c.number = ap (λ (x : Answer). x.command) last.2 ∙ ap (λ (x : PrivilegeRow). x.command) (sym atom.1) in
     record {
       spec = s.thing;
       group = g.thing;
       command = c.thing;
-      there = ap (slice_get (specs_of lines)) spec ∙ s.there;
+      there = ap (slice_get (user_specs_of_lines lines)) spec ∙ s.there;
       here = ap (slice_get s.thing.groups) group ∙ g.there;
-      this = ap (slice_get (filled no_head g.thing.commands)) command ∙ c.there;
-      user = subst (λ (x : Row). Allows User lines (user_hits r.who.user) x.users) (sym atom.1) last.3.user;
-      host = subst (λ (x : Row). Allows Host lines (host_hits r.who) x.hosts) (sym atom.1) last.3.host;
+      this = ap (slice_get (commands_with_settings empty_command_settings g.thing.commands)) command ∙ c.there;
+      user = subst (λ (x : PrivilegeRow). ListAllows User lines (is_user_atom_match r.who.user) x.users) (sym atom.1) last.3.user;
+      host = subst (λ (x : PrivilegeRow). ListAllows Host lines (is_host_atom_match r.who) x.hosts) (sym atom.1) last.3.host;
       speaks =
-          says_by lines (command_hits (command_line r)) (c.thing.1 ∷ []) flat.0 atom.0 flat.1 atom.2
-          (subst (λ (x : Row). is_hit r x.atom ≡ true) (sym atom.1) last.3.command);
+          list_with_matching_flat_atom_matches_command lines (is_command_atom_match (command_line_of_request r)) (c.thing.1 ∷ []) flat.0 atom.0 flat.1 atom.2
+          (subst (λ (x : PrivilegeRow). is_request_command_hit r x.atom ≡ true) (sym atom.1) last.3.command);
     }
 
-pub rule_of_answer : (lines : List Line) (request : Request) (a : Answer) → IsAnswer lines request (Some a) → (rule : Rule) × (deciding_rule lines a ≡ Some rule)
-rule_of_answer lines request a is =
-    let w = stands lines request a is in
-    let r = rule_at lines a w.spec w.group w.command w.there w.here w.this in
+pub answer_has_deciding_rule : (lines : List Line) (request : Request) (a : Answer) → IsAnswerToRequest lines request (Some a) → (rule : DecidingRuleOnLine) × (deciding_rule lines a ≡ Some rule)
+answer_has_deciding_rule lines request a is =
+    let w = answer_has_matching_place lines request a is in
+    let r = places_of_answer_have_deciding_rule lines a w.spec w.group w.command w.there w.here w.this in
     (r.0, r.1)
 
 -- The command of the rule that decides says something of the command that is asked for.
-pub rule_speaks : (lines : List Line) (request : Request) (a : Answer) (rule : Rule) → IsAnswer lines request (Some a) → deciding_rule lines a ≡ Some rule
-    → Speaks lines (command_hits (command_line request)) rule.command.member
-rule_speaks lines request a rule is e =
-    let w = stands lines request a is in
-    let r = rule_at lines a w.spec w.group w.command w.there w.here w.this in
+pub deciding_rule_member_matches_command : (lines : List Line) (request : Request) (a : Answer) (rule : DecidingRuleOnLine) → IsAnswerToRequest lines request (Some a) → deciding_rule lines a ≡ Some rule
+    → MemberMatchesCommand lines (is_command_atom_match (command_line_of_request request)) rule.command.member
+deciding_rule_member_matches_command lines request a rule is e =
+    let w = answer_has_matching_place lines request a is in
+    let r = places_of_answer_have_deciding_rule lines a w.spec w.group w.command w.there w.here w.this in
     let same : r.0 ≡ rule = same_Some r.0 rule (sym r.1 ∙ e) in
-    subst (Speaks lines (command_hits (command_line request))) (sym r.2 ∙ ap (λ (x : Rule). x.command.member) same) w.speaks
+    subst (MemberMatchesCommand lines (is_command_atom_match (command_line_of_request request))) (sym r.2 ∙ ap (λ (x : DecidingRuleOnLine). x.command.member) same) w.speaks
 
 -- A text names the rule, whose member decides or hides one that does.
-pub rule_named : (policy : Loaded) (r : Request) (user d text : List ℕ) (a : Answer) (rule : Rule) (inner : Option Inner) → user ≡ r.who.user.name
-    → deciding_rule policy.walk.lines a ≡ Some rule → IsInner policy.walk.lines (command_hits (command_line r)) rule.command.member inner
-    → text ≡ rule_text policy user d a.allow rule ++ inner_text policy inner → NamesRule policy r d a text
-rule_named policy r user d text a rule inner same e is t = record {
+pub deciding_rule_text_is_reason : (policy : LoadedPolicy) (r : Request) (user d text : List ℕ) (a : Answer) (rule : DecidingRuleOnLine) (inner : Option InnerAliasMember) → user ≡ r.who.user.name
+    → deciding_rule policy.walk.lines a ≡ Some rule → IsDecidingAliasMember policy.walk.lines (is_command_atom_match (command_line_of_request r)) rule.command.member inner
+    → text ≡ deciding_rule_text policy user d a.allow rule ++ alias_member_reason_text policy inner → IsReasonByDecidingRule policy r d a text
+deciding_rule_text_is_reason policy r user d text a rule inner same e is t = record {
   inner = inner;
-  is_inner = subst (λ o. IsInnerOf policy.walk.lines r o inner) (sym e) is;
+  is_inner = subst (λ o. IsAliasMemberOfRule policy.walk.lines r o inner) (sym e) is;
   says =
       t
-      ∙ ap (λ u. rule_text policy u d a.allow rule ++ inner_text policy inner) same
-      ∙ ap (rule_with policy r.who.user.name d a.allow inner) (sym e);
+      ∙ ap (λ u. deciding_rule_text policy u d a.allow rule ++ alias_member_reason_text policy inner) same
+      ∙ ap (rule_text_with_alias_member policy r.who.user.name d a.allow inner) (sym e);
 }
 
 -- ---- the place of an answer among those that are listed
 
-has_front : {Y : Type 0} (xs ys : List Y) (y : Y) → Has xs y → Has (xs ++ ys) y
-has_front [] ys y h = absurd h
-has_front (x ∷ xs) ys y (inl e) = inl e
-has_front (x ∷ xs) ys y (inr h) = inr (has_front xs ys y h)
+element_of_front_is_in_appended_parts : {Y : Type 0} (xs ys : List Y) (y : Y) → ListHasElement xs y → ListHasElement (xs ++ ys) y
+element_of_front_is_in_appended_parts [] ys y h = absurd h
+element_of_front_is_in_appended_parts (x ∷ xs) ys y (inl e) = inl e
+element_of_front_is_in_appended_parts (x ∷ xs) ys y (inr h) = inr (element_of_front_is_in_appended_parts xs ys y h)
 
-has_rest : {Y : Type 0} (xs ys : List Y) (y : Y) → Has ys y → Has (xs ++ ys) y
-has_rest [] ys y h = h
-has_rest (x ∷ xs) ys y h = inr (has_rest xs ys y h)
+element_of_rest_is_in_appended_parts : {Y : Type 0} (xs ys : List Y) (y : Y) → ListHasElement ys y → ListHasElement (xs ++ ys) y
+element_of_rest_is_in_appended_parts [] ys y h = h
+element_of_rest_is_in_appended_parts (x ∷ xs) ys y h = inr (element_of_rest_is_in_appended_parts xs ys y h)
 
 -- What the part of a thing has, all have.
-has_joined : {X Y : Type 0} (Part : ℕ → X → List Y → Type 0) (i n : ℕ) (xs : List X) (ys : List Y) (x : X) (y : Y) → AreJoined Part i xs ys
-    → slice_get xs n ≡ Some x → ((part : List Y) → Part (i + n) x part → Has part y) → Has ys y
-has_joined Part i n [] ys x y joined there has = absurd cc
-has_joined Part i zero (z ∷ xs) ys x y joined there has =
+element_of_a_part_is_in_concatenation : {X Y : Type 0} (Part : ℕ → X → List Y → Type 0) (i n : ℕ) (xs : List X) (ys : List Y) (x : X) (y : Y) → IsConcatenationOfParts Part i xs ys
+    → slice_get xs n ≡ Some x → ((part : List Y) → Part (i + n) x part → ListHasElement part y) → ListHasElement ys y
+element_of_a_part_is_in_concatenation Part i n [] ys x y joined there has = absurd cc
+element_of_a_part_is_in_concatenation Part i zero (z ∷ xs) ys x y joined there has =
     let same : z ≡ x = cc in
     let at : i ≡ i + 0 = omega arith in
-    subst (λ l. Has l y) (sym joined.2)
-    (has_front joined.0 joined.1 y (has joined.0 (subst (λ k. Part k x joined.0) at (subst (λ t. Part i t joined.0) same joined.3))))
-has_joined Part i (suc n) (z ∷ xs) ys x y joined there has =
+    subst (λ l. ListHasElement l y) (sym joined.2)
+    (element_of_front_is_in_appended_parts joined.0 joined.1 y (has joined.0 (subst (λ k. Part k x joined.0) at (subst (λ t. Part i t joined.0) same joined.3))))
+element_of_a_part_is_in_concatenation Part i (suc n) (z ∷ xs) ys x y joined there has =
     let at : suc i + n ≡ i + suc n = omega arith in
-    subst (λ l. Has l y) (sym joined.2)
-    (has_rest joined.0 joined.1 y (has_joined Part (suc i) n xs joined.1 x y joined.4 there (λ part p. has part (subst (λ k. Part k x part) at p))))
+    subst (λ l. ListHasElement l y) (sym joined.2)
+    (element_of_rest_is_in_appended_parts joined.0 joined.1 y (element_of_a_part_is_in_concatenation Part (suc i) n xs joined.1 x y joined.4 there (λ part p. has part (subst (λ k. Part k x part) at p))))
 
 -- with numbers from 0
-has_in : {X Y : Type 0} (Part : ℕ → X → List Y → Type 0) (n : ℕ) (xs : List X) (ys : List Y) (x : X) (y : Y) → AreJoined Part 0 xs ys
-    → slice_get xs n ≡ Some x → ((part : List Y) → Part n x part → Has part y) → Has ys y
-has_in Part n xs ys x y joined there has =
+part_from_zero_is_in_concatenation : {X Y : Type 0} (Part : ℕ → X → List Y → Type 0) (n : ℕ) (xs : List X) (ys : List Y) (x : X) (y : Y) → IsConcatenationOfParts Part 0 xs ys
+    → slice_get xs n ≡ Some x → ((part : List Y) → Part n x part → ListHasElement part y) → ListHasElement ys y
+part_from_zero_is_in_concatenation Part n xs ys x y joined there has =
     let at : 0 + n ≡ n = omega arith in
-    has_joined Part 0 n xs ys x y joined there (λ part p. has part (subst (λ k. Part k x part) at p))
+    element_of_a_part_is_in_concatenation Part 0 n xs ys x y joined there (λ part p. has part (subst (λ k. Part k x part) at p))
 
-of_group : (lines : List Line) (who : Who) (i j : ℕ) (g : HostGroup) (part : List GroupPlace) → Allows Host lines (host_hits who) g.hosts
-    → GroupPlaces lines who i j g part → Has part (place_of i j)
-of_group lines who i j g part allows (inl a) = subst (λ l. Has l (place_of i j)) (sym a.1) (inl refl)
-of_group lines who i j g part allows (inr b) = absurd (b.0 allows)
+matching_host_group_is_in_places : (lines : List Line) (who : Who) (i j : ℕ) (g : HostGroup) (part : List HostGroupPlace) → ListAllows Host lines (is_host_atom_match who) g.hosts
+    → ArePlacesOfHostGroup lines who i j g part → ListHasElement part (host_group_place i j)
+matching_host_group_is_in_places lines who i j g part allows (inl a) = subst (λ l. ListHasElement l (host_group_place i j)) (sym a.1) (inl refl)
+matching_host_group_is_in_places lines who i j g part allows (inr b) = absurd (b.0 allows)
 
-of_spec : (lines : List Line) (who : Who) (i n : ℕ) (s : Spec) (g : HostGroup) (part : List GroupPlace) → Allows User lines (user_hits who.user) s.users
-    → slice_get s.groups n ≡ Some g → Allows Host lines (host_hits who) g.hosts → SpecPlaces lines who i s part → Has part (place_of i n)
-of_spec lines who i n s g part user here host (inl a) =
-    has_in (GroupPlaces lines who i) n s.groups part g (place_of i n) a.1 here (λ inner p. of_group lines who i n g inner host p)
-of_spec lines who i n s g part user here host (inr b) = absurd (b.0 user)
+group_of_matching_spec_is_in_places : (lines : List Line) (who : Who) (i n : ℕ) (s : UserSpec) (g : HostGroup) (part : List HostGroupPlace) → ListAllows User lines (is_user_atom_match who.user) s.users
+    → slice_get s.groups n ≡ Some g → ListAllows Host lines (is_host_atom_match who) g.hosts → ArePlacesOfSpec lines who i s part → ListHasElement part (host_group_place i n)
+group_of_matching_spec_is_in_places lines who i n s g part user here host (inl a) =
+    part_from_zero_is_in_concatenation (ArePlacesOfHostGroup lines who i) n s.groups part g (host_group_place i n) a.1 here (λ inner p. matching_host_group_is_in_places lines who i n g inner host p)
+group_of_matching_spec_is_in_places lines who i n s g part user here host (inr b) = absurd (b.0 user)
 
-pub deciding_is_listed : (lines : List Line) (r : Request) (a : Answer) (places : List GroupPlace) → IsAnswer lines r (Some a)
-    → AreHostGroups lines r.who places → Has places (place_of a.spec a.host_group)
-deciding_is_listed lines r a places is are =
-    let w = stands lines r a is in
-    has_in (SpecPlaces lines r.who) a.spec (specs_of lines) places w.spec (place_of a.spec a.host_group) are w.there
-    (λ part p. of_spec lines r.who a.spec a.host_group w.spec w.group part w.user w.here w.host p)
+pub group_of_answer_is_among_matching : (lines : List Line) (r : Request) (a : Answer) (places : List HostGroupPlace) → IsAnswerToRequest lines r (Some a)
+    → AreMatchingHostGroups lines r.who places → ListHasElement places (host_group_place a.spec a.host_group)
+group_of_answer_is_among_matching lines r a places is are =
+    let w = answer_has_matching_place lines r a is in
+    part_from_zero_is_in_concatenation (ArePlacesOfSpec lines r.who) a.spec (user_specs_of_lines lines) places w.spec (host_group_place a.spec a.host_group) are w.there
+    (λ part p. group_of_matching_spec_is_in_places lines r.who a.spec a.host_group w.spec w.group part w.user w.here w.host p)

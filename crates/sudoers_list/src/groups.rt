@@ -2,22 +2,25 @@
 
 ghost use Rattle.std.specs.Prelude.{◌≡◌, map, IfOk};
 ghost use Rattle.std.specs.Option.{option_map};
-ghost use Rattle.sudoers_line_rows.specs.View.{group_shown, groups_shown};
-ghost use Rattle.sudoers_list.specs.Listing.{group_at, groups_at, groups_in};
+ghost use Rattle.sudoers_line_rows.specs.View.{host_group_of_view, host_groups_of_view};
+ghost use Rattle.sudoers_list.specs.Listing.{host_group_at_place, host_groups_at_places, host_groups_of_specs};
 
 use std::alloc::{AllocError, Global};
-use sudoers_line_rows::{GroupRow, HostGroup, Node, Rows};
-use sudoers_match::GroupPlace;
-use sudoers_match_list::Acyclic;
+use sudoers_line_rows::{HostGroup, HostGroupRow, Node, RowsOfTable};
+use sudoers_match::HostGroupPlace;
+use sudoers_match_list::AcyclicWalk;
 
 /// Returns the host groups of each user specification.
-fn groups_in<'a>(alloc: Global, policy: &Acyclic<'a>) -> Result<Vec<Rows<'a, GroupRow>>, AllocError>
-    ensures { IfOk result (λ specs. map groups_shown specs.items ≡ groups_in policy.now) }
+fn collect_host_groups_of_specs<'a>(
+    alloc: Global,
+    policy: &AcyclicWalk<'a>,
+) -> Result<Vec<RowsOfTable<'a, HostGroupRow>>, AllocError>
+    ensures { IfOk result (λ specs. map host_groups_of_view specs.items ≡ host_groups_of_specs policy.now) }
 {
     let mut specs = Vec::new(alloc);
     let lines = policy.lines();
     for row in lines.rows {
-        if let Node::Spec { groups, .. } = lines.tables.node(&row.node) {
+        if let Node::Spec { groups, .. } = lines.tables.node_of_row(&row.node) {
             specs.push(groups)?;
         }
     }
@@ -25,12 +28,15 @@ fn groups_in<'a>(alloc: Global, policy: &Acyclic<'a>) -> Result<Vec<Rows<'a, Gro
 }
 
 /// Returns the host group at `place`.
-fn group_at<'a>(specs: &[Rows<'a, GroupRow>], place: GroupPlace) -> Option<HostGroup<'a>>
-    ensures { option_map group_shown result ≡ group_at (map groups_shown specs.now) place }
+fn find_host_group_at<'a>(
+    specs: &[RowsOfTable<'a, HostGroupRow>],
+    place: HostGroupPlace,
+) -> Option<HostGroup<'a>>
+    ensures { option_map host_group_of_view result ≡ host_group_at_place (map host_groups_of_view specs.now) place }
 {
     let groups = specs.get(place.spec)?;
     let row = groups.rows.get(place.host_group)?;
-    Some(groups.tables.group(row))
+    Some(groups.tables.host_group_of_row(row))
 }
 
 /// Returns the host groups at `places`.
@@ -38,17 +44,17 @@ fn group_at<'a>(specs: &[Rows<'a, GroupRow>], place: GroupPlace) -> Option<HostG
 /// # Errors
 ///
 /// Memory ran out.
-pub fn groups_at<'a>(
+pub fn collect_host_groups_at<'a>(
     alloc: Global,
-    policy: &Acyclic<'a>,
-    places: &[GroupPlace],
+    policy: &AcyclicWalk<'a>,
+    places: &[HostGroupPlace],
 ) -> Result<Vec<HostGroup<'a>>, AllocError>
-    ensures { IfOk result (λ groups. map group_shown groups.items ≡ groups_at policy.now places.now) }
+    ensures { IfOk result (λ groups. map host_group_of_view groups.items ≡ host_groups_at_places policy.now places.now) }
 {
-    let specs = groups_in(alloc, policy)?;
+    let specs = collect_host_groups_of_specs(alloc, policy)?;
     let mut groups = Vec::new(alloc);
     for place in places {
-        if let Some(group) = group_at(specs.as_slice(), *place) {
+        if let Some(group) = find_host_group_at(specs.as_slice(), *place) {
             groups.push(group)?;
         }
     }

@@ -1,15 +1,15 @@
 //! What a user may run on a host, and why, as texts.
 #![tactic(auto)]
 
+mod answer_reason;
+mod byte_place;
+mod deciding_member;
+mod deciding_rule;
 mod groups;
-mod inner;
 pub mod laws;
-mod lines;
+mod listed_commands;
 mod listing;
-mod reason;
-mod rule;
-mod spot;
 
+pub use answer_reason::{explain, explain_answer};
 pub use listing::{list, list_rules};
-pub use reason::{explain, explain_answer};
 pub use sudoers_list_people::{People, PeopleFault, WhoFault, request_for, who_for};

@@ -1,24 +1,24 @@
 //! The listing of a user.
 
 ghost use Rattle.std.specs.Prelude.{◌≡◌, ◌⊎◌, ◌++◌, map, OnOk, IfOk, IfErr};
-ghost use Rattle.sudoers_line_rows.specs.View.{group_shown};
+ghost use Rattle.sudoers_line_rows.specs.View.{host_group_of_view};
 ghost use Rattle.sudoers_check.specs.Chains.{HasReachableCycle};
 ghost use Rattle.sudoers_match_list.specs.declared.verdict.AskFault.TheVariants.{Cycle, NoMemory};
 ghost use Rattle.sudoers_match.specs.Default.{IsRunasDefault};
-ghost use Rattle.sudoers_list.specs.Listing.{IsListing, heading, stop, verb};
+ghost use Rattle.sudoers_list.specs.Listing.{IsListingOfUser, listing_heading, text_after_host_name, text_before_host_name};
 
-use crate::groups::groups_at;
-use crate::lines::{Names, append_groups, append_plain};
+use crate::groups::collect_host_groups_at;
+use crate::listed_commands::{ListingNames, append_host_groups_commands, append_runas_name};
 use std::alloc::{AllocError, Global};
 use sudoers_line_rows::{HostGroup, Tables};
-use sudoers_match::{find_default, find_host_groups};
-use sudoers_match_list::{Acyclic, AskFault};
+use sudoers_match::{find_matching_host_groups, find_runas_default_for};
+use sudoers_match_list::{AcyclicWalk, AskFault};
 use sudoers_match_member::Who;
 use sudoers_tree::Policy;
 
 /// Returns what stands before the name of the host.
-fn verb(groups: &[HostGroup<'_>]) -> &'static [u8]
-    ensures { result.now ≡ verb (map group_shown groups.now) }
+fn choose_text_before_host(groups: &[HostGroup<'_>]) -> &'static [u8]
+    ensures { result.now ≡ text_before_host_name (map host_group_of_view groups.now) }
 {
     if groups.is_empty() {
         return b" may run nothing on ";
@@ -27,8 +27,8 @@ fn verb(groups: &[HostGroup<'_>]) -> &'static [u8]
 }
 
 /// Returns what stands after the name of the host.
-fn stop(groups: &[HostGroup<'_>]) -> &'static [u8]
-    ensures { result.now ≡ stop (map group_shown groups.now) }
+fn choose_text_after_host(groups: &[HostGroup<'_>]) -> &'static [u8]
+    ensures { result.now ≡ text_after_host_name (map host_group_of_view groups.now) }
 {
     if groups.is_empty() {
         return b".\n";
@@ -37,19 +37,19 @@ fn stop(groups: &[HostGroup<'_>]) -> &'static [u8]
 }
 
 /// Appends the first line.
-fn append_heading(
+fn append_listing_heading(
     alloc: Global,
     out: &mut Vec<u8>,
     tables: &Tables,
     who: &Who,
     groups: &[HostGroup<'_>],
 ) -> Result<(), AllocError>
-    ensures { OnOk result (out.new.items ≡ out.old.items ++ heading who.now.user.name who.now.long_host (map group_shown groups.now)) }
+    ensures { OnOk result (out.new.items ≡ out.old.items ++ listing_heading who.now.user.name who.now.long_host (map host_group_of_view groups.now)) }
 {
-    append_plain(alloc, out, tables, who.user.name.as_slice())?;
-    out.extend_from_slice(verb(groups))?;
+    append_runas_name(alloc, out, tables, who.user.name.as_slice())?;
+    out.extend_from_slice(choose_text_before_host(groups))?;
     out.extend_from_slice(who.long_host.as_slice())?;
-    out.extend_from_slice(stop(groups))
+    out.extend_from_slice(choose_text_after_host(groups))
 }
 
 /// Returns what `who` may run, as a text: a heading, and a line for each command of the host groups whose users and hosts match.
@@ -59,12 +59,12 @@ fn append_heading(
 ///
 /// `Cycle`: a reachable alias is cyclic. `NoMemory`: memory ran out.
 pub fn list(alloc: Global, policy: &Policy, who: &Who) -> Result<Vec<u8>, AskFault>
-    ensures text { IfOk result (λ text. IsListing policy.now.walk.lines who.now text.items) }
+    ensures text { IfOk result (λ text. IsListingOfUser policy.now.walk.lines who.now text.items) }
     ensures straight { IfOk result (λ _. HasReachableCycle policy.now.walk.lines → ⊥) }
     ensures fault { IfErr result (λ fault. (fault ≡ NoMemory) ⊎ ((fault ≡ Cycle) × HasReachableCycle policy.now.walk.lines)) }
 {
-    let policy = Acyclic::new(alloc, policy.walk())?;
-    let default = find_default(alloc, &policy, who)?;
+    let policy = AcyclicWalk::new(alloc, policy.walk())?;
+    let default = find_runas_default_for(alloc, &policy, who)?;
     Ok(list_rules(alloc, &policy, who, default)?)
 }
 
@@ -75,27 +75,27 @@ pub fn list(alloc: Global, policy: &Policy, who: &Who) -> Result<Vec<u8>, AskFau
 /// Memory ran out.
 pub fn list_rules(
     alloc: Global,
-    policy: &Acyclic<'_>,
+    policy: &AcyclicWalk<'_>,
     who: &Who,
     default: &[u8],
 ) -> Result<Vec<u8>, AllocError>
     requires { IsRunasDefault policy.now who.now default.now }
-    ensures { IfOk result (λ text. IsListing policy.now who.now text.items) }
+    ensures { IfOk result (λ text. IsListingOfUser policy.now who.now text.items) }
 {
-    let places = find_host_groups(alloc, policy, who)?;
-    let groups = groups_at(alloc, policy, places.as_slice())?;
-    let names = Names {
+    let places = find_matching_host_groups(alloc, policy, who)?;
+    let groups = collect_host_groups_at(alloc, policy, places.as_slice())?;
+    let names = ListingNames {
         user: who.user.name.as_slice(),
         default,
     };
     let mut out = Vec::new(alloc);
-    append_heading(
+    append_listing_heading(
         alloc,
         &mut out,
         policy.lines().tables,
         who,
         groups.as_slice(),
     )?;
-    append_groups(alloc, &mut out, &names, groups.as_slice())?;
+    append_host_groups_commands(alloc, &mut out, &names, groups.as_slice())?;
     Ok(out)
 }

@@ -2,54 +2,54 @@
 use Rattle.std.specs.Prelude.{ℕ, List, [], ◌∷◌, Option, Some, None, option_map, Result, Ok, Err, if◌then◌else◌}
 use Rattle.std.specs.List.{find}
 use Rattle.std.specs.Str.{bytes_eq}
-use Rattle.sudoers_line.specs.Number.{is_stamp}
-use Rattle.sudoers_match_member.specs.declared.asked.Group.{Group}
-use Rattle.sudoers_match_member.specs.declared.asked.Who.{Who}
+use Rattle.sudoers_grammar.specs.Number.{is_time_stamp_text}
+use Rattle.sudoers_match_member.specs.declared.people_and_commands.Group.{Group}
+use Rattle.sudoers_match_member.specs.declared.people_and_commands.Who.{Who}
 use Rattle.sudoers_match_member.specs.declared.request.Request.{Request}
-use Rattle.sudoers_match_member.specs.Moment.{stamp_number}
-use Rattle.sudoers_list_people.specs.declared.account.Account.{Account}
-use Rattle.sudoers_list_people.specs.declared.account.GroupRow.{GroupRow}
+use Rattle.sudoers_match_member.specs.Moment.{number_of_stamp}
+use Rattle.sudoers_list_people.specs.declared.account_rows.PasswdAccount.{PasswdAccount}
+use Rattle.sudoers_list_people.specs.declared.account_rows.GroupFileRow.{GroupFileRow}
 use Rattle.sudoers_list_people.specs.declared.fault.WhoFault.{WhoFault}
 use Rattle.sudoers_list_people.specs.declared.fault.WhoFault.TheVariants.{NoUser, NoGroup, BadMoment}
 use Rattle.sudoers_list_people.specs.People.{People}
-use Rattle.sudoers_list_people.specs.Person.{account_named, as_group, person_of}
+use Rattle.sudoers_list_people.specs.Person.{account_named, group_of_row, person_with_groups}
 
 -- the group with this name
 abbrev pub group_named : People → List ℕ → Option Group
-group_named people name = option_map as_group (find (λ (row : GroupRow). bytes_eq row.name name) people.groups)
+group_named people name = option_map group_of_row (find (λ (row : GroupFileRow). bytes_eq row.name name) people.groups)
 
 -- the group that is asked for, if one is; outer None: no group has the name
-abbrev pub group_asked : People → Option (List ℕ) → Option (Option Group)
-group_asked people None = Some None
-group_asked people (Some name) = option_map Some (group_named people name)
+abbrev pub requested_group : People → Option (List ℕ) → Option (Option Group)
+requested_group people None = Some None
+requested_group people (Some name) = option_map Some (group_named people name)
 
 -- the moment of a time stamp
-abbrev pub moment_in : List ℕ → Option ℕ
-moment_in stamp = if is_stamp stamp then Some (stamp_number stamp) else None
+abbrev pub moment_of_stamp : List ℕ → Option ℕ
+moment_of_stamp stamp = if is_time_stamp_text stamp then Some (number_of_stamp stamp) else None
 
 -- The first word is the command, and the others are its arguments. Without words the command is empty.
-abbrev pub command_in : List (List ℕ) → List ℕ
-command_in [] = []
-command_in (word ∷ words) = word
+abbrev pub command_of_words : List (List ℕ) → List ℕ
+command_of_words [] = []
+command_of_words (word ∷ words) = word
 
-abbrev pub args_in : List (List ℕ) → List (List ℕ)
-args_in [] = []
-args_in (word ∷ words) = words
+abbrev pub arguments_of_words : List (List ℕ) → List (List ℕ)
+arguments_of_words [] = []
+arguments_of_words (word ∷ words) = words
 
-abbrev pub request_from : People → Who → List (List ℕ) → Option Account → Option (Option Group) → Option ℕ → Result Request WhoFault
-request_from people who words None group moment = Err NoUser
-request_from people who words (Some a) None moment = Err NoGroup
-request_from people who words (Some a) (Some group) None = Err BadMoment
-request_from people who words (Some a) (Some group) (Some moment) = Ok (record {
+abbrev pub request_from_lookup_results : People → Who → List (List ℕ) → Option PasswdAccount → Option (Option Group) → Option ℕ → Result Request WhoFault
+request_from_lookup_results people who words None group moment = Err NoUser
+request_from_lookup_results people who words (Some a) None moment = Err NoGroup
+request_from_lookup_results people who words (Some a) (Some group) None = Err BadMoment
+request_from_lookup_results people who words (Some a) (Some group) (Some moment) = Ok (record {
   who = who;
-  target = person_of people a;
+  target = person_with_groups people a;
   target_group = group;
-  command = command_in words;
-  args = args_in words;
+  command = command_of_words words;
+  args = arguments_of_words words;
   moment = moment;
 })
 
 -- what is asked: to run the words as this user, and as this group, at this moment
-abbrev pub request_told : People → Who → List ℕ → Option (List ℕ) → List (List ℕ) → List ℕ → Result Request WhoFault
-request_told people who target group words stamp =
-    request_from people who words (account_named people target) (group_asked people group) (moment_in stamp)
+abbrev pub request_or_who_fault : People → Who → List ℕ → Option (List ℕ) → List (List ℕ) → List ℕ → Result Request WhoFault
+request_or_who_fault people who target group words stamp =
+    request_from_lookup_results people who words (account_named people target) (requested_group people group) (moment_of_stamp stamp)

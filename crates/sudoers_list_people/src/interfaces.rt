@@ -1,16 +1,16 @@
 //! Interfaces of a host as they are written.
 
 ghost use Rattle.std.specs.Prelude.{◌≡◌, IfOk};
-ghost use Rattle.sudoers_list_people.specs.Person.{interface_in, interfaces_in};
+ghost use Rattle.sudoers_list_people.specs.Person.{interface_of_text, interfaces_of_text};
 
-use crate::pieces::pieces;
+use crate::text_pieces::split_text_at_byte;
 use std::alloc::{AllocError, Global};
-use sudoers_line::{Atom, Items, Mask, network_of};
+use sudoers_grammar::{Atom, Items, Mask, network_of};
 use sudoers_match_member::Interface;
 
 /// Returns the interface that `text` says, if it is an address, `/` and a number of bits.
-fn interface_in(text: &[u8]) -> Option<Interface>
-    ensures { result ≡ interface_in text.now }
+fn read_interface(text: &[u8]) -> Option<Interface>
+    ensures { result ≡ interface_of_text text.now }
 {
     match network_of(text) {
         Some(Atom::Network(address, Mask::Bits(bits))) => Some(Interface {
@@ -26,16 +26,19 @@ fn interface_in(text: &[u8]) -> Option<Interface>
 /// # Errors
 ///
 /// Memory ran out.
-pub fn interfaces_in(alloc: Global, text: &[u8]) -> Result<Option<Items<Interface>>, AllocError>
-    ensures { IfOk result (λ interfaces. interfaces ≡ interfaces_in text.now) }
+pub fn read_interface_list(
+    alloc: Global,
+    text: &[u8],
+) -> Result<Option<Items<Interface>>, AllocError>
+    ensures { IfOk result (λ interfaces. interfaces ≡ interfaces_of_text text.now) }
 {
     let mut interfaces = Vec::new(alloc);
     if text.is_empty() {
         return Ok(Some(Items::from_vec(interfaces)));
     }
-    let parts = pieces(alloc, b',', text)?;
+    let parts = split_text_at_byte(alloc, b',', text)?;
     for part in &parts {
-        let Some(interface) = interface_in(part) else {
+        let Some(interface) = read_interface(part) else {
             return Ok(None);
         };
         interfaces.push(interface)?;

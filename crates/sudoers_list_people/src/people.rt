@@ -2,19 +2,19 @@
 
 ghost use Rattle.std.specs.Prelude.{◌≡◌, ◌⊎◌, Ok, Err, IfOk, IfErr};
 ghost use Rattle.sudoers_list_people.specs.declared.fault.PeopleFault.TheVariants.{NoMemory};
-ghost use Rattle.sudoers_list_people.specs.People.{people_told};
+ghost use Rattle.sudoers_list_people.specs.People.{people_read_result};
 
-use crate::account::{Account, GroupRow};
+use crate::account_rows::{GroupFileRow, PasswdAccount};
 use crate::fault::PeopleFault;
-use crate::reading::{read_accounts, read_groups};
+use crate::reading::{read_group_text, read_passwd_text};
 use std::alloc::Global;
 use std::marker::Model;
 
 /// The people of a machine. Contracts see the users of passwd and the groups of group, in file order, each name once.
 #[derive(Drop)]
 pub struct People {
-    accounts: Vec<Account>,
-    groups: Vec<GroupRow>,
+    accounts: Vec<PasswdAccount>,
+    groups: Vec<GroupFileRow>,
 }
 
 impl Model for People {
@@ -36,23 +36,23 @@ impl People {
     /// `TooLarge`: a text is longer than 1,048,576 bytes. `BadRow`: a row is in no form of its file; the first such row counts.
     /// `NoMemory`: memory ran out. The errors of passwd come before those of group.
     pub fn read(alloc: Global, passwd: &[u8], group: &[u8]) -> Result<People, PeopleFault>
-        ensures people { IfOk result (λ people. people_told passwd.now group.now ≡ Ok people) }
-        ensures fault { IfErr result (λ fault. (fault ≡ NoMemory) ⊎ (people_told passwd.now group.now ≡ Err fault)) }
+        ensures people { IfOk result (λ people. people_read_result passwd.now group.now ≡ Ok people) }
+        ensures fault { IfErr result (λ fault. (fault ≡ NoMemory) ⊎ (people_read_result passwd.now group.now ≡ Err fault)) }
     {
-        let accounts = read_accounts(alloc, passwd)?;
-        let groups = read_groups(alloc, group)?;
+        let accounts = read_passwd_text(alloc, passwd)?;
+        let groups = read_group_text(alloc, group)?;
         Ok(People { accounts, groups })
     }
 
     /// Returns the users.
-    pub fn accounts(&self) -> &[Account]
+    pub fn accounts(&self) -> &[PasswdAccount]
         ensures { result.now ≡ self.now.accounts }
     {
         self.accounts.as_slice()
     }
 
     /// Returns the groups.
-    pub fn groups(&self) -> &[GroupRow]
+    pub fn groups(&self) -> &[GroupFileRow]
         ensures { result.now ≡ self.now.groups }
     {
         self.groups.as_slice()

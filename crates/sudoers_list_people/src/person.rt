@@ -3,22 +3,22 @@
 ghost use Rattle.std.specs.Prelude.{◌≡◌, ℕ, map, Some, IfOk, OnOk};
 ghost use Rattle.std.specs.Option.{option_map};
 ghost use Rattle.std.specs.Borrow.{Bor};
-ghost use Rattle.sudoers_match_member.specs.declared.asked.Group.{Group as GroupOf};
-ghost use Rattle.sudoers_list_people.specs.declared.account.Account.{Account as AccountOf};
-ghost use Rattle.sudoers_list_people.specs.declared.account.GroupRow.{GroupRow as RowOf};
-ghost use Rattle.sudoers_list_people.specs.Rows.{with_said};
-ghost use Rattle.sudoers_list_people.specs.Person.{account_named, has_member, groups_of_user, name_of_number, person_of, same_number};
+ghost use Rattle.sudoers_match_member.specs.declared.people_and_commands.Group.{Group as GroupOf};
+ghost use Rattle.sudoers_list_people.specs.declared.account_rows.PasswdAccount.{PasswdAccount as AccountOf};
+ghost use Rattle.sudoers_list_people.specs.declared.account_rows.GroupFileRow.{GroupFileRow as RowOf};
+ghost use Rattle.sudoers_list_people.specs.Rows.{with_item_if_new};
+ghost use Rattle.sudoers_list_people.specs.Person.{account_named, is_user_in_group_row, groups_of_user, name_of_group_number, person_with_groups, has_same_group_number};
 
-use crate::account::{Account, GroupRow};
-use crate::numbers::Numbers;
+use crate::account_rows::{GroupFileRow, PasswdAccount};
+use crate::group_numbers::GroupNumberSet;
 use crate::people::People;
-use crate::pieces::pieces;
+use crate::text_pieces::split_text_at_byte;
 use std::alloc::{AllocError, Global};
-use sudoers_line::Items;
+use sudoers_grammar::Items;
 use sudoers_match_member::{Group, Person};
 
 /// Returns the user with the name `name`.
-pub fn find_account<'a>(people: &'a People, name: &[u8]) -> Option<&'a Account>
+pub fn find_user_account<'a>(people: &'a People, name: &[u8]) -> Option<&'a PasswdAccount>
     ensures { option_map (λ (a : Bor AccountOf). a.now) result ≡ account_named people.now name.now }
 {
     for account in people.accounts() {
@@ -30,8 +30,8 @@ pub fn find_account<'a>(people: &'a People, name: &[u8]) -> Option<&'a Account>
 }
 
 /// Returns the name of the first group with the number `gid`; the empty name if there is none.
-fn name_of_number(people: &People, gid: u32) -> &[u8]
-    ensures { result.now ≡ name_of_number people.now gid }
+fn group_name_of_number(people: &People, gid: u32) -> &[u8]
+    ensures { result.now ≡ name_of_group_number people.now gid }
 {
     for row in people.groups() {
         if row.gid == gid {
@@ -42,10 +42,10 @@ fn name_of_number(people: &People, gid: u32) -> &[u8]
 }
 
 /// Returns whether `user` is among the members of the group `row`.
-fn has_member(alloc: Global, user: &[u8], row: &GroupRow) -> Result<bool, AllocError>
-    ensures { IfOk result (λ has. has ≡ has_member user.now row.now) }
+fn has_group_member(alloc: Global, user: &[u8], row: &GroupFileRow) -> Result<bool, AllocError>
+    ensures { IfOk result (λ has. has ≡ is_user_in_group_row user.now row.now) }
 {
-    let members = pieces(alloc, b',', row.members.as_slice())?;
+    let members = split_text_at_byte(alloc, b',', row.members.as_slice())?;
     for member in &members {
         if user == *member {
             return Ok(true);
@@ -55,16 +55,16 @@ fn has_member(alloc: Global, user: &[u8], row: &GroupRow) -> Result<bool, AllocE
 }
 
 /// Adds a group, if its number is new.
-fn add_group(
+fn add_group_if_number_new(
     alloc: Global,
     groups: &mut Vec<Group>,
-    seen: &mut Numbers,
+    seen: &mut GroupNumberSet,
     gid: u32,
     name: &[u8],
 ) -> Result<(), AllocError>
     requires { seen.old ≡ map (λ (g : GroupOf). g.gid) groups.old.items }
     ensures seen { OnOk result (seen.new ≡ map (λ (g : GroupOf). g.gid) groups.new.items) }
-    ensures added { OnOk result (groups.new.items ≡ with_said same_number (Some (record { gid = gid; name = name.now })) groups.old.items) }
+    ensures added { OnOk result (groups.new.items ≡ with_item_if_new has_same_group_number (Some (record { gid = gid; name = name.now })) groups.old.items) }
 {
     if seen.add(gid)? {
         let name = Items::from_slice(alloc, name)?;
@@ -74,16 +74,20 @@ fn add_group(
 }
 
 /// Returns the groups of a user: his primary group, then those that list him, in file order, each number once.
-fn groups_of_user(alloc: Global, people: &People, user: &Account) -> Result<Vec<Group>, AllocError>
+fn collect_groups_of_user(
+    alloc: Global,
+    people: &People,
+    user: &PasswdAccount,
+) -> Result<Vec<Group>, AllocError>
     ensures { IfOk result (λ groups. groups.items ≡ groups_of_user people.now user.now) }
 {
     let mut groups = Vec::new(alloc);
-    let mut seen = Numbers::new(alloc);
-    let primary = name_of_number(people, user.gid);
-    add_group(alloc, &mut groups, &mut seen, user.gid, primary)?;
+    let mut seen = GroupNumberSet::new(alloc);
+    let primary = group_name_of_number(people, user.gid);
+    add_group_if_number_new(alloc, &mut groups, &mut seen, user.gid, primary)?;
     for row in people.groups() {
-        if has_member(alloc, user.name.as_slice(), row)? {
-            add_group(alloc, &mut groups, &mut seen, row.gid, row.name.as_slice())?;
+        if has_group_member(alloc, user.name.as_slice(), row)? {
+            add_group_if_number_new(alloc, &mut groups, &mut seen, row.gid, row.name.as_slice())?;
         }
     }
     Ok(groups)
@@ -94,11 +98,15 @@ fn groups_of_user(alloc: Global, people: &People, user: &Account) -> Result<Vec<
 /// # Errors
 ///
 /// Memory ran out.
-pub fn person_of(alloc: Global, people: &People, user: &Account) -> Result<Person, AllocError>
-    ensures { IfOk result (λ person. person ≡ person_of people.now user.now) }
+pub fn make_person_with_groups(
+    alloc: Global,
+    people: &People,
+    user: &PasswdAccount,
+) -> Result<Person, AllocError>
+    ensures { IfOk result (λ person. person ≡ person_with_groups people.now user.now) }
 {
     let name = Items::from_slice(alloc, user.name.as_slice())?;
-    let groups = Items::from_vec(groups_of_user(alloc, people, user)?);
+    let groups = Items::from_vec(collect_groups_of_user(alloc, people, user)?);
     Ok(Person {
         name,
         uid: user.uid,

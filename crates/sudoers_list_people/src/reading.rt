@@ -1,18 +1,18 @@
 //! The rows of passwd and of group.
 
 ghost use Rattle.std.specs.Prelude.{◌≡◌, ◌⊎◌, [], not, map, List, Some, None, IfOk, OnOk, IfErr};
-ghost use Rattle.sudoers_list_people.specs.declared.account.Account.{Account as AccountOf};
-ghost use Rattle.sudoers_list_people.specs.declared.account.GroupRow.{GroupRow as GroupOf};
+ghost use Rattle.sudoers_list_people.specs.declared.account_rows.PasswdAccount.{PasswdAccount as AccountOf};
+ghost use Rattle.sudoers_list_people.specs.declared.account_rows.GroupFileRow.{GroupFileRow as GroupOf};
 ghost use Rattle.sudoers_list_people.specs.declared.fault.PeopleFile.TheVariants.{Passwd, Group};
 ghost use Rattle.sudoers_list_people.specs.declared.fault.PeopleFault.TheVariants.{NoMemory};
-ghost use Rattle.sudoers_list_people.specs.Rows.{account_in, group_in, is_bad, said_of, with_said};
-ghost use Rattle.sudoers_list_people.specs.People.{accounts_of, groups_of, file_fault, same_user, same_group};
+ghost use Rattle.sudoers_list_people.specs.Rows.{account_of_passwd_row, group_of_group_row, is_malformed_row, parsed_unless_skipped_row, with_item_if_new};
+ghost use Rattle.sudoers_list_people.specs.People.{accounts_of_passwd, groups_of_group_file, first_fault_in_people_file, has_same_user_name, has_same_group_name};
 
-use crate::account::{Account, GroupRow};
+use crate::account_rows::{GroupFileRow, PasswdAccount};
 use crate::fault::{PeopleFault, PeopleFile};
-use crate::pieces::pieces;
-use crate::rows::{account_in, group_in, is_passed_over};
-use crate::seen::Seen;
+use crate::seen_names::SeenNames;
+use crate::single_rows::{is_skipped_account_row, read_group_row, read_passwd_row};
+use crate::text_pieces::split_text_at_byte;
 use std::alloc::{AllocError, Global};
 use sudoers_text::TEXT_LIMIT;
 
@@ -21,19 +21,19 @@ use sudoers_text::TEXT_LIMIT;
 /// # Errors
 ///
 /// `TooLarge`, `BadRow` or `NoMemory`.
-pub fn read_accounts(alloc: Global, text: &[u8]) -> Result<Vec<Account>, PeopleFault>
-    ensures accounts { IfOk result (λ accounts. accounts.items ≡ accounts_of text.now) }
-    ensures good { OnOk result (file_fault Passwd account_in text.now ≡ None) }
-    ensures fault { IfErr result (λ fault. (fault ≡ NoMemory) ⊎ (file_fault Passwd account_in text.now ≡ Some fault)) }
+pub fn read_passwd_text(alloc: Global, text: &[u8]) -> Result<Vec<PasswdAccount>, PeopleFault>
+    ensures accounts { IfOk result (λ accounts. accounts.items ≡ accounts_of_passwd text.now) }
+    ensures good { OnOk result (first_fault_in_people_file Passwd account_of_passwd_row text.now ≡ None) }
+    ensures fault { IfErr result (λ fault. (fault ≡ NoMemory) ⊎ (first_fault_in_people_file Passwd account_of_passwd_row text.now ≡ Some fault)) }
 {
     if text.len() > TEXT_LIMIT {
         return Err(PeopleFault::TooLarge);
     }
     let mut accounts = Vec::new(alloc);
-    let mut seen = Seen::new(alloc);
-    let rows = pieces(alloc, b'\n', text)?;
+    let mut seen = SeenNames::new(alloc);
+    let rows = split_text_at_byte(alloc, b'\n', text)?;
     for (at, row) in rows.iter().enumerate() {
-        if !add_account(alloc, &mut accounts, &mut seen, row)? {
+        if !add_passwd_row(alloc, &mut accounts, &mut seen, row)? {
             let line = at + 1;
             let file = PeopleFile::Passwd;
             return Err(PeopleFault::BadRow { file, line });
@@ -43,21 +43,21 @@ pub fn read_accounts(alloc: Global, text: &[u8]) -> Result<Vec<Account>, PeopleF
 }
 
 /// Adds the user of whom a row says, if it is the first with his name. Returns whether the row is good.
-fn add_account(
+fn add_passwd_row(
     alloc: Global,
-    accounts: &mut Vec<Account>,
-    seen: &mut Seen,
+    accounts: &mut Vec<PasswdAccount>,
+    seen: &mut SeenNames,
     row: &[u8],
 ) -> Result<bool, AllocError>
     requires { seen.old ≡ map (λ (a : AccountOf). a.name) accounts.old.items }
     ensures seen { OnOk result (seen.new ≡ map (λ (a : AccountOf). a.name) accounts.new.items) }
-    ensures good { IfOk result (λ good. good ≡ not (is_bad account_in row.now)) }
-    ensures added { OnOk result (accounts.new.items ≡ with_said same_user (said_of account_in row.now) accounts.old.items) }
+    ensures good { IfOk result (λ good. good ≡ not (is_malformed_row account_of_passwd_row row.now)) }
+    ensures added { OnOk result (accounts.new.items ≡ with_item_if_new has_same_user_name (parsed_unless_skipped_row account_of_passwd_row row.now) accounts.old.items) }
 {
-    if is_passed_over(row) {
+    if is_skipped_account_row(row) {
         return Ok(true);
     }
-    let Some(account) = account_in(alloc, row)? else {
+    let Some(account) = read_passwd_row(alloc, row)? else {
         return Ok(false);
     };
     if seen.add(alloc, account.name.as_slice())? {
@@ -71,19 +71,19 @@ fn add_account(
 /// # Errors
 ///
 /// `TooLarge`, `BadRow` or `NoMemory`.
-pub fn read_groups(alloc: Global, text: &[u8]) -> Result<Vec<GroupRow>, PeopleFault>
-    ensures groups { IfOk result (λ groups. groups.items ≡ groups_of text.now) }
-    ensures good { OnOk result (file_fault Group group_in text.now ≡ None) }
-    ensures fault { IfErr result (λ fault. (fault ≡ NoMemory) ⊎ (file_fault Group group_in text.now ≡ Some fault)) }
+pub fn read_group_text(alloc: Global, text: &[u8]) -> Result<Vec<GroupFileRow>, PeopleFault>
+    ensures groups { IfOk result (λ groups. groups.items ≡ groups_of_group_file text.now) }
+    ensures good { OnOk result (first_fault_in_people_file Group group_of_group_row text.now ≡ None) }
+    ensures fault { IfErr result (λ fault. (fault ≡ NoMemory) ⊎ (first_fault_in_people_file Group group_of_group_row text.now ≡ Some fault)) }
 {
     if text.len() > TEXT_LIMIT {
         return Err(PeopleFault::TooLarge);
     }
     let mut groups = Vec::new(alloc);
-    let mut seen = Seen::new(alloc);
-    let rows = pieces(alloc, b'\n', text)?;
+    let mut seen = SeenNames::new(alloc);
+    let rows = split_text_at_byte(alloc, b'\n', text)?;
     for (at, row) in rows.iter().enumerate() {
-        if !add_group(alloc, &mut groups, &mut seen, row)? {
+        if !add_group_row(alloc, &mut groups, &mut seen, row)? {
             let line = at + 1;
             let file = PeopleFile::Group;
             return Err(PeopleFault::BadRow { file, line });
@@ -93,21 +93,21 @@ pub fn read_groups(alloc: Global, text: &[u8]) -> Result<Vec<GroupRow>, PeopleFa
 }
 
 /// Adds the group of which a row says, if it is the first with its name. Returns whether the row is good.
-fn add_group(
+fn add_group_row(
     alloc: Global,
-    groups: &mut Vec<GroupRow>,
-    seen: &mut Seen,
+    groups: &mut Vec<GroupFileRow>,
+    seen: &mut SeenNames,
     row: &[u8],
 ) -> Result<bool, AllocError>
     requires { seen.old ≡ map (λ (g : GroupOf). g.name) groups.old.items }
     ensures seen { OnOk result (seen.new ≡ map (λ (g : GroupOf). g.name) groups.new.items) }
-    ensures good { IfOk result (λ good. good ≡ not (is_bad group_in row.now)) }
-    ensures added { OnOk result (groups.new.items ≡ with_said same_group (said_of group_in row.now) groups.old.items) }
+    ensures good { IfOk result (λ good. good ≡ not (is_malformed_row group_of_group_row row.now)) }
+    ensures added { OnOk result (groups.new.items ≡ with_item_if_new has_same_group_name (parsed_unless_skipped_row group_of_group_row row.now) groups.old.items) }
 {
-    if is_passed_over(row) {
+    if is_skipped_account_row(row) {
         return Ok(true);
     }
-    let Some(group) = group_in(alloc, row)? else {
+    let Some(group) = read_group_row(alloc, row)? else {
         return Ok(false);
     };
     if seen.add(alloc, group.name.as_slice())? {

@@ -3,22 +3,22 @@
 ghost use Rattle.std.specs.Prelude.{◌≡◌, ◌⊎◌, ℕ, List, Ok, Err, IfOk, IfErr};
 ghost use Rattle.std.specs.Option.{option_map};
 ghost use Rattle.std.specs.Borrow.{Bor};
-ghost use Rattle.sudoers_list_people.specs.declared.account.GroupRow.{GroupRow as RowOf};
+ghost use Rattle.sudoers_list_people.specs.declared.account_rows.GroupFileRow.{GroupFileRow as RowOf};
 ghost use Rattle.sudoers_list_people.specs.declared.fault.WhoFault.TheVariants.{NoMemory};
-ghost use Rattle.sudoers_list_people.specs.Person.{as_group};
-ghost use Rattle.sudoers_list_people.specs.Asked.{args_in, command_in, group_asked, group_named, moment_in, request_told};
+ghost use Rattle.sudoers_list_people.specs.Person.{group_of_row};
+ghost use Rattle.sudoers_list_people.specs.Asked.{arguments_of_words, command_of_words, requested_group, group_named, moment_of_stamp, request_or_who_fault};
 
-use crate::account::GroupRow;
+use crate::account_rows::GroupFileRow;
 use crate::fault::WhoFault;
 use crate::people::People;
-use crate::person::{find_account, person_of};
+use crate::person::{find_user_account, make_person_with_groups};
 use std::alloc::{AllocError, Global};
-use sudoers_line::{Items, is_stamp};
-use sudoers_match_member::{Group, Person, Request, Who, stamp_number};
+use sudoers_grammar::{Items, is_time_stamp};
+use sudoers_match_member::{Group, Person, Request, Who, read_stamp_number};
 
 /// Returns the group with the name `name`.
-fn find_group<'a>(people: &'a People, name: &[u8]) -> Option<&'a GroupRow>
-    ensures { option_map (λ (row : Bor RowOf). as_group row.now) result ≡ group_named people.now name.now }
+fn find_group_named<'a>(people: &'a People, name: &[u8]) -> Option<&'a GroupFileRow>
+    ensures { option_map (λ (row : Bor RowOf). group_of_row row.now) result ≡ group_named people.now name.now }
 {
     for row in people.groups() {
         if row.name.as_slice() == name {
@@ -29,17 +29,17 @@ fn find_group<'a>(people: &'a People, name: &[u8]) -> Option<&'a GroupRow>
 }
 
 /// Returns the group that is asked for, if one is; `None` if no group has the name.
-fn group_asked(
+fn find_requested_group(
     alloc: Global,
     people: &People,
     name: Option<&[u8]>,
 ) -> Result<Option<Option<Group>>, AllocError>
-    ensures { IfOk result (λ group. group ≡ group_asked people.now (option_map (λ (n : Bor (List ℕ)). n.now) name.entry)) }
+    ensures { IfOk result (λ group. group ≡ requested_group people.now (option_map (λ (n : Bor (List ℕ)). n.now) name.entry)) }
 {
     let Some(name) = name else {
         return Ok(Some(None));
     };
-    let Some(row) = find_group(people, name) else {
+    let Some(row) = find_group_named(people, name) else {
         return Ok(None);
     };
     let name = Items::from_slice(alloc, row.name.as_slice())?;
@@ -47,19 +47,19 @@ fn group_asked(
 }
 
 /// Returns the moment of a time stamp, as a number of 14 digits.
-fn moment_in(stamp: &[u8]) -> Option<u64>
-    ensures { result ≡ moment_in stamp.now }
+fn read_stamp_moment(stamp: &[u8]) -> Option<u64>
+    ensures { result ≡ moment_of_stamp stamp.now }
 {
-    if is_stamp(stamp) {
-        Some(stamp_number(stamp))
+    if is_time_stamp(stamp) {
+        Some(read_stamp_number(stamp))
     } else {
         None
     }
 }
 
 /// Returns the first word; without words nothing.
-fn command_in(alloc: Global, words: &[Items<u8>]) -> Result<Items<u8>, AllocError>
-    ensures { IfOk result (λ command. command ≡ command_in words.now) }
+fn copy_command_word(alloc: Global, words: &[Items<u8>]) -> Result<Items<u8>, AllocError>
+    ensures { IfOk result (λ command. command ≡ command_of_words words.now) }
 {
     match words.first() {
         Some(word) => Items::from_slice(alloc, word.as_slice()),
@@ -68,8 +68,8 @@ fn command_in(alloc: Global, words: &[Items<u8>]) -> Result<Items<u8>, AllocErro
 }
 
 /// Returns the words after the first.
-fn args_in(alloc: Global, words: &[Items<u8>]) -> Result<Items<Items<u8>>, AllocError>
-    ensures { IfOk result (λ args. args ≡ args_in words.now) }
+fn copy_argument_words(alloc: Global, words: &[Items<u8>]) -> Result<Items<Items<u8>>, AllocError>
+    ensures { IfOk result (λ args. args ≡ arguments_of_words words.now) }
 {
     let mut args = Vec::new(alloc);
     if let Some((_, rest)) = words.split_first() {
@@ -81,7 +81,7 @@ fn args_in(alloc: Global, words: &[Items<u8>]) -> Result<Items<Items<u8>>, Alloc
 }
 
 /// Returns the request of `who` to run `words` as `target` and as `target_group`, at the moment `moment`.
-fn ask(
+fn make_command_request(
     alloc: Global,
     who: Who,
     target: Person,
@@ -93,13 +93,13 @@ fn ask(
       who = who;
       target = target;
       target_group = target_group;
-      command = command_in words.now;
-      args = args_in words.now;
+      command = command_of_words words.now;
+      args = arguments_of_words words.now;
       moment = moment;
     }) }
 {
-    let command = command_in(alloc, words)?;
-    let args = args_in(alloc, words)?;
+    let command = copy_command_word(alloc, words)?;
+    let args = copy_argument_words(alloc, words)?;
     Ok(Request {
         who,
         target,
@@ -126,18 +126,18 @@ pub fn request_for(
     words: &[Items<u8>],
     stamp: &[u8],
 ) -> Result<Request, WhoFault>
-    ensures request { IfOk result (λ request. request_told people.now who target.now (option_map (λ (n : Bor (List ℕ)). n.now) group.entry) words.now stamp.now ≡ Ok request) }
-    ensures fault { IfErr result (λ fault. (fault ≡ NoMemory) ⊎ (request_told people.now who target.now (option_map (λ (n : Bor (List ℕ)). n.now) group.entry) words.now stamp.now ≡ Err fault)) }
+    ensures request { IfOk result (λ request. request_or_who_fault people.now who target.now (option_map (λ (n : Bor (List ℕ)). n.now) group.entry) words.now stamp.now ≡ Ok request) }
+    ensures fault { IfErr result (λ fault. (fault ≡ NoMemory) ⊎ (request_or_who_fault people.now who target.now (option_map (λ (n : Bor (List ℕ)). n.now) group.entry) words.now stamp.now ≡ Err fault)) }
 {
-    let Some(target) = find_account(people, target) else {
+    let Some(target) = find_user_account(people, target) else {
         return Err(WhoFault::NoUser);
     };
-    let Some(target_group) = group_asked(alloc, people, group)? else {
+    let Some(target_group) = find_requested_group(alloc, people, group)? else {
         return Err(WhoFault::NoGroup);
     };
-    let Some(moment) = moment_in(stamp) else {
+    let Some(moment) = read_stamp_moment(stamp) else {
         return Err(WhoFault::BadMoment);
     };
-    let target = person_of(alloc, people, target)?;
-    Ok(ask(alloc, who, target, target_group, words, moment)?)
+    let target = make_person_with_groups(alloc, people, target)?;
+    Ok(make_command_request(alloc, who, target, target_group, words, moment)?)
 }

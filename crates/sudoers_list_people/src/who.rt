@@ -2,19 +2,19 @@
 
 ghost use Rattle.std.specs.Prelude.{◌≡◌, ◌⊎◌, Ok, Err, IfOk, IfErr};
 ghost use Rattle.sudoers_list_people.specs.declared.fault.WhoFault.TheVariants.{NoMemory};
-ghost use Rattle.sudoers_list_people.specs.Person.{short_name, who_told};
+ghost use Rattle.sudoers_list_people.specs.Person.{short_name_of_host, who_or_who_fault};
 
 use crate::fault::WhoFault;
-use crate::interfaces::interfaces_in;
+use crate::interfaces::read_interface_list;
 use crate::people::People;
-use crate::person::{find_account, person_of};
+use crate::person::{find_user_account, make_person_with_groups};
 use std::alloc::Global;
-use sudoers_line::Items;
+use sudoers_grammar::Items;
 use sudoers_match_member::Who;
 
 /// Returns the short name of a host: what stands before the first `.`.
-fn short_name(host: &[u8]) -> &[u8]
-    ensures { result.now ≡ short_name host.now }
+fn short_host_name_of(host: &[u8]) -> &[u8]
+    ensures { result.now ≡ short_name_of_host host.now }
 {
     for (at, byte) in host.iter().enumerate() {
         if *byte == b'.' {
@@ -36,19 +36,19 @@ pub fn who_for(
     host: &[u8],
     interfaces: &[u8],
 ) -> Result<Who, WhoFault>
-    ensures who { IfOk result (λ who. who_told people.now user.now host.now interfaces.now ≡ Ok who) }
-    ensures fault { IfErr result (λ fault. (fault ≡ NoMemory) ⊎ (who_told people.now user.now host.now interfaces.now ≡ Err fault)) }
+    ensures who { IfOk result (λ who. who_or_who_fault people.now user.now host.now interfaces.now ≡ Ok who) }
+    ensures fault { IfErr result (λ fault. (fault ≡ NoMemory) ⊎ (who_or_who_fault people.now user.now host.now interfaces.now ≡ Err fault)) }
 {
-    let Some(account) = find_account(people, user) else {
+    let Some(account) = find_user_account(people, user) else {
         return Err(WhoFault::NoUser);
     };
-    let Some(interfaces) = interfaces_in(alloc, interfaces)? else {
+    let Some(interfaces) = read_interface_list(alloc, interfaces)? else {
         return Err(WhoFault::BadAddress);
     };
     Ok(Who {
-        user: person_of(alloc, people, account)?,
+        user: make_person_with_groups(alloc, people, account)?,
         long_host: Items::from_slice(alloc, host)?,
-        short_host: Items::from_slice(alloc, short_name(host))?,
+        short_host: Items::from_slice(alloc, short_host_name_of(host))?,
         interfaces,
     })
 }

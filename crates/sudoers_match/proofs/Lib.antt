@@ -1,3 +1,4 @@
+mod Common
 pub mod Gathered
 pub mod Said
 pub mod Reached

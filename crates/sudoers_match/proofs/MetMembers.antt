@@ -1,14 +1,7 @@
 -- Members to whose aliases chains of mentions lead from user specifications and Defaults lines.
-use Rattle.std.proofs.Common.{◌≡◌, inl, inr, refl, List, [], ◌∷◌, ◌++◌, Some, subst}
-use Rattle.std.specs.List.{AllByRecursion}
-use Rattle.sudoers_line.specs.declared.node.Kind.{Kind}
-use Rattle.sudoers_line.specs.declared.node.Atom.{Atom}
-use Rattle.sudoers_line.specs.Node.{Member}
-use Rattle.sudoers_tree.specs.Line.{Line}
-use Rattle.sudoers_check.specs.Chain.{Has, onward}
-use Rattle.sudoers_check.specs.Chains.{name_in, names_in, IsReachable}
-use Rattle.sudoers_match_list.specs.Flat.{alias_of}
-use Rattle.sudoers_match_list.proofs.Defined.{alias_named}
+use Rattle.sudoers_match.proofs.Common.{AllByRecursion, Atom, IsReachable, Kind, Line, List, ListHasElement, Member, Some, [], alias_members_of_atom, alias_names_among_members, alias_names_of_atom, inl, inr, onward}
+use Rattle.sudoers_match.proofs.Common.{refl, subst, ◌++◌, ◌∷◌, ◌≡◌}
+use Rattle.sudoers_match_list.proofs.Defined.{atom_with_alias_members_is_of_definition}
 use Rattle.sudoers_match.proofs.Lasts.{all_append}
 
 -- ---- all of a list
@@ -22,32 +15,32 @@ module _ {X : Type 0} (P : X → Type 0) where
   right_of [] ys all = all
   right_of (x ∷ xs) ys all = right_of xs ys all.1
 
-  pub of_has : (xs : List X) → ((x : X) → Has xs x → P x) → AllByRecursion P xs
+  pub of_has : (xs : List X) → ((x : X) → ListHasElement xs x → P x) → AllByRecursion P xs
   of_has [] each = tt
   of_has (x ∷ xs) each = (each x (inl refl), of_has xs (λ y h. each y (inr h)))
 
 module _ (lines : List Line) where
   -- Chains of mentions lead to the names of the member.
   abbrev pub IsMet : Kind → Member → Type 0
-  IsMet k m = AllByRecursion (IsReachable k lines) (name_in m.atom)
+  IsMet k m = AllByRecursion (IsReachable k lines) (alias_names_of_atom m.atom)
 
   abbrev pub AreMet : Kind → List Member → Type 0
   AreMet k ms = AllByRecursion (IsMet k) ms
 
-  pub names_met : (k : Kind) (ms : List Member) → AreMet k ms → AllByRecursion (IsReachable k lines) (names_in ms)
+  pub names_met : (k : Kind) (ms : List Member) → AreMet k ms → AllByRecursion (IsReachable k lines) (alias_names_among_members ms)
   names_met k [] all = tt
-  names_met k (m ∷ ms) all = all_append (IsReachable k lines) (name_in m.atom) (names_in ms) all.0 (names_met k ms all.1)
+  names_met k (m ∷ ms) all = all_append (IsReachable k lines) (alias_names_of_atom m.atom) (alias_names_among_members ms) all.0 (names_met k ms all.1)
 
-  pub met_names : (k : Kind) (ms : List Member) → AllByRecursion (IsReachable k lines) (names_in ms) → AreMet k ms
+  pub met_names : (k : Kind) (ms : List Member) → AllByRecursion (IsReachable k lines) (alias_names_among_members ms) → AreMet k ms
   met_names k [] all = tt
   met_names k (m ∷ ms) all =
-      (left_of (IsReachable k lines) (name_in m.atom) (names_in ms) all, met_names k ms (right_of (IsReachable k lines) (name_in m.atom) (names_in ms) all))
+      (left_of (IsReachable k lines) (alias_names_of_atom m.atom) (alias_names_among_members ms) all, met_names k ms (right_of (IsReachable k lines) (alias_names_of_atom m.atom) (alias_names_among_members ms) all))
 
   -- ---- members of aliases
 
-  pub of_alias : (k : Kind) (a : Atom) → AllByRecursion (IsReachable k lines) (name_in a) → (ms : List Member) → alias_of k lines a ≡ Some ms → AreMet k ms
+  pub of_alias : (k : Kind) (a : Atom) → AllByRecursion (IsReachable k lines) (alias_names_of_atom a) → (ms : List Member) → alias_members_of_atom k lines a ≡ Some ms → AreMet k ms
   of_alias k a met ms e =
-      let d = alias_named k lines a ms e in
-      let reached = subst (λ b. AllByRecursion (IsReachable k lines) (name_in b)) d.is met in
-      subst (AreMet k) d.members (met_names k d.by.def.members (of_has (IsReachable k lines) (names_in d.by.def.members) (λ x h.
+      let d = atom_with_alias_members_is_of_definition k lines a ms e in
+      let reached = subst (λ b. AllByRecursion (IsReachable k lines) (alias_names_of_atom b)) d.is met in
+      subst (AreMet k) d.members (met_names k d.by.def.members (of_has (IsReachable k lines) (alias_names_among_members d.by.def.members) (λ x h.
       onward d.name x reached.0 (record { by = d.by; stands = d.stands; of_kind = d.of_kind; of_name = d.of_name; mentions = h }))))

@@ -1,49 +1,49 @@
 -- The answer to a request: that of the last matching row (sudoers(5): the last match is used).
 use Rattle.std.specs.Prelude.{◌≡◌, ◌&&◌, ℕ, Bool, true, List, [], ◌∷◌, ◌++◌, Option, Some, None, if◌then◌else◌}
 use Rattle.std.specs.Option.{option_map, option_or}
-use Rattle.sudoers_line.specs.declared.node.Kind.TheVariants.{User, Host}
+use Rattle.sudoers_grammar.specs.declared.node.Kind.TheVariants.{User, Host}
 use Rattle.sudoers_tree.specs.Line.{Line}
-use Rattle.sudoers_match_member.specs.declared.asked.CommandLine.{CommandLine}
-use Rattle.sudoers_match_member.specs.Hits.{user_hits, host_hits, command_hits}
-use Rattle.sudoers_match_list.specs.Flat.{Signed, is_all, has_none}
-use Rattle.sudoers_match.specs.declared.tags.Tags.{Tags}
+use Rattle.sudoers_match_member.specs.declared.people_and_commands.CommandLine.{CommandLine}
+use Rattle.sudoers_match_member.specs.Hits.{is_user_atom_match, is_host_atom_match, is_command_atom_match}
+use Rattle.sudoers_match_list.specs.Flat.{SignedAtom, is_all_atom, has_no_digests}
+use Rattle.sudoers_match.specs.declared.tags.CommandTags.{CommandTags}
 use Rattle.sudoers_match_member.specs.declared.request.Request.{Request}
-use Rattle.sudoers_match.specs.declared.rules.Answer.{Answer as AnswerHeld}
-use Rattle.sudoers_match.specs.Allows.{Allows}
-use Rattle.sudoers_match.specs.Heads.{tags_of}
-use Rattle.sudoers_match.specs.Last.{IsLast}
-use Rattle.sudoers_match.specs.Moment.{is_in_time}
-use Rattle.sudoers_match.specs.Rows.{Row, AreRows}
-use Rattle.sudoers_match.specs.Runas.{RunasAllows}
-use Rattle.sudoers_match.specs.Values.{Values, values_of, values_shown}
+use Rattle.sudoers_match.specs.declared.answer_of_row.Answer.{Answer as AnswerHeld}
+use Rattle.sudoers_match.specs.Allows.{ListAllows}
+use Rattle.sudoers_match.specs.Heads.{final_tags_of}
+use Rattle.sudoers_match.specs.Last.{IsLastItemWith}
+use Rattle.sudoers_match.specs.Moment.{is_in_option_time_bounds}
+use Rattle.sudoers_match.specs.Rows.{PrivilegeRow, AreRowsOfPolicy}
+use Rattle.sudoers_match.specs.Runas.{RunasSpecAllows}
+use Rattle.sudoers_match.specs.Values.{OptionValues, final_values_of_options, option_values_of_view}
 
-abbrev pub joined_behind : List (List ℕ) → List ℕ
-joined_behind [] = []
-joined_behind (word ∷ words) = 32 ∷ word ++ joined_behind words
+abbrev pub words_each_after_space : List (List ℕ) → List ℕ
+words_each_after_space [] = []
+words_each_after_space (word ∷ words) = 32 ∷ word ++ words_each_after_space words
 
 -- the words, joined by single spaces
-abbrev pub joined : List (List ℕ) → List ℕ
-joined [] = []
-joined (word ∷ words) = word ++ joined_behind words
+abbrev pub words_joined_with_spaces : List (List ℕ) → List ℕ
+words_joined_with_spaces [] = []
+words_joined_with_spaces (word ∷ words) = word ++ words_each_after_space words
 
 -- the greatest length of joined arguments
-abbrev pub argument_limit : ℕ
-argument_limit = 65536
+abbrev pub joined_arguments_limit : ℕ
+joined_arguments_limit = 65536
 
-abbrev pub command_line : Request → CommandLine
-command_line r = record { path = r.command; args = joined r.args }
+abbrev pub command_line_of_request : Request → CommandLine
+command_line_of_request r = record { path = r.command; args = words_joined_with_spaces r.args }
 
 -- The atom matches the command that is asked for. With a digest it matches nothing, since no file is read.
-abbrev pub is_hit : Request → Signed → Bool
-is_hit r s = command_hits (command_line r) s.atom && has_none s.digests
+abbrev pub is_request_command_hit : Request → SignedAtom → Bool
+is_request_command_hit r s = is_command_atom_match (command_line_of_request r) s.atom && has_no_digests s.digests
 
 -- The row's users, hosts, Runas_Spec, moment and command match the request.
-pub record Fits (lines : List Line) (r : Request) (row : Row) : Type 0 where
-  pub user : Allows User lines (user_hits r.who.user) row.users
-  pub host : Allows Host lines (host_hits r.who) row.hosts
-  pub runas : RunasAllows lines r.who r.target r.target_group row.head.runas
-  pub moment : is_in_time r.moment (values_of row.head.options) ≡ true
-  pub command : is_hit r row.atom ≡ true
+pub record RowFitsRequest (lines : List Line) (r : Request) (row : PrivilegeRow) : Type 0 where
+  pub user : ListAllows User lines (is_user_atom_match r.who.user) row.users
+  pub host : ListAllows Host lines (is_host_atom_match r.who) row.hosts
+  pub runas : RunasSpecAllows lines r.who r.target r.target_group row.head.runas
+  pub moment : is_in_option_time_bounds r.moment (final_values_of_options row.head.options) ≡ true
+  pub command : is_request_command_hit r row.atom ≡ true
 
 -- what an answer says
 pub record Answer : Type 0 where
@@ -51,12 +51,12 @@ pub record Answer : Type 0 where
   pub spec : ℕ
   pub host_group : ℕ
   pub command : ℕ
-  pub tags : Tags
-  pub options : Values
+  pub tags : CommandTags
+  pub options : OptionValues
 
 -- `ALL` turns SETENV on where neither SETENV nor NOSETENV stands.
-abbrev pub freed : Bool → Tags → Tags
-freed by_all tags = record {
+abbrev pub tags_with_setenv_by_all : Bool → CommandTags → CommandTags
+tags_with_setenv_by_all by_all tags = record {
   exec = tags.exec;
   follow = tags.follow;
   intercept = tags.intercept;
@@ -68,35 +68,35 @@ freed by_all tags = record {
 }
 
 -- the answer that a row gives
-abbrev pub told : Row → Answer
-told row = record {
+abbrev pub answer_of_row : PrivilegeRow → Answer
+answer_of_row row = record {
   allow = row.atom.allow;
   spec = row.spec;
   host_group = row.host_group;
   command = row.command;
-  tags = freed (is_all row.atom.atom) (tags_of row.head.tags);
-  options = values_of row.head.options;
+  tags = tags_with_setenv_by_all (is_all_atom row.atom.atom) (final_tags_of row.head.tags);
+  options = final_values_of_options row.head.options;
 }
 
 -- Of these rows the last that fits gives the answer.
-pub record Answers (lines : List Line) (r : Request) (rows : List Row) (answer : Option Answer) : Type 0 where
-  pub last : Option Row
-  pub is_last : IsLast (Fits lines r) rows last
-  pub says : answer ≡ option_map told last
+pub record IsAnswerOfRows (lines : List Line) (r : Request) (rows : List PrivilegeRow) (answer : Option Answer) : Type 0 where
+  pub last : Option PrivilegeRow
+  pub is_last : IsLastItemWith (RowFitsRequest lines r) rows last
+  pub says : answer ≡ option_map answer_of_row last
 
 -- Of all rows the last that fits gives the answer; there is none where no row fits.
-pub record IsAnswer (lines : List Line) (r : Request) (answer : Option Answer) : Type 0 where
-  pub rows : List Row
-  pub are_rows : AreRows lines rows
-  pub answers : Answers lines r rows answer
+pub record IsAnswerToRequest (lines : List Line) (r : Request) (answer : Option Answer) : Type 0 where
+  pub rows : List PrivilegeRow
+  pub are_rows : AreRowsOfPolicy lines rows
+  pub answers : IsAnswerOfRows lines r rows answer
 
 -- the value of an answer
-abbrev pub answer_shown : AnswerHeld → Answer
-answer_shown a = record {
+abbrev pub answer_of_view : AnswerHeld → Answer
+answer_of_view a = record {
   allow = a.allow;
   spec = a.spec;
   host_group = a.host_group;
   command = a.command;
   tags = a.tags;
-  options = values_shown a.options;
+  options = option_values_of_view a.options;
 }

@@ -1,29 +1,29 @@
 -- Where a user has rules: the host groups whose users and whose hosts match (sudoers(5), User specification).
 use Rattle.std.specs.Prelude.{◌≡◌, ◌⊎◌, ℕ, List, [], ◌∷◌}
-use Rattle.sudoers_line.specs.declared.node.Kind.TheVariants.{User, Host}
-use Rattle.sudoers_line.specs.Node.{HostGroup}
+use Rattle.sudoers_grammar.specs.declared.node.Kind.TheVariants.{User, Host}
+use Rattle.sudoers_grammar.specs.Node.{HostGroup}
 use Rattle.sudoers_tree.specs.Line.{Line}
-use Rattle.sudoers_match_member.specs.Hits.{user_hits, host_hits}
-use Rattle.sudoers_match_member.specs.declared.asked.Who.{Who}
-use Rattle.sudoers_match.specs.declared.groups.GroupPlace.{GroupPlace}
-use Rattle.sudoers_match.specs.Specs.{Spec, specs_of, AreJoined}
-use Rattle.sudoers_match.specs.Allows.{Allows}
+use Rattle.sudoers_match_member.specs.Hits.{is_user_atom_match, is_host_atom_match}
+use Rattle.sudoers_match_member.specs.declared.people_and_commands.Who.{Who}
+use Rattle.sudoers_match.specs.declared.matching_host_groups.HostGroupPlace.{HostGroupPlace}
+use Rattle.sudoers_match.specs.Specs.{UserSpec, user_specs_of_lines, IsConcatenationOfParts}
+use Rattle.sudoers_match.specs.Allows.{ListAllows}
 
-abbrev pub place_of : ℕ → ℕ → GroupPlace
-place_of spec group = record { spec = spec; host_group = group }
+abbrev pub host_group_place : ℕ → ℕ → HostGroupPlace
+host_group_place spec group = record { spec = spec; host_group = group }
 
 -- The place of a host group, if its hosts match.
-abbrev pub GroupPlaces : List Line → Who → ℕ → ℕ → HostGroup → List GroupPlace → Type 0
-GroupPlaces lines who i j g places =
-    (Allows Host lines (host_hits who) g.hosts × (places ≡ place_of i j ∷ []))
-    ⊎ ((Allows Host lines (host_hits who) g.hosts → ⊥) × (places ≡ []))
+abbrev pub ArePlacesOfHostGroup : List Line → Who → ℕ → ℕ → HostGroup → List HostGroupPlace → Type 0
+ArePlacesOfHostGroup lines who i j g places =
+    (ListAllows Host lines (is_host_atom_match who) g.hosts × (places ≡ host_group_place i j ∷ []))
+    ⊎ ((ListAllows Host lines (is_host_atom_match who) g.hosts → ⊥) × (places ≡ []))
 
 -- The places of the host groups of a user specification whose hosts match, if its users match.
-abbrev pub SpecPlaces : List Line → Who → ℕ → Spec → List GroupPlace → Type 0
-SpecPlaces lines who i s places =
-    (Allows User lines (user_hits who.user) s.users × AreJoined (GroupPlaces lines who i) 0 s.groups places)
-    ⊎ ((Allows User lines (user_hits who.user) s.users → ⊥) × (places ≡ []))
+abbrev pub ArePlacesOfSpec : List Line → Who → ℕ → UserSpec → List HostGroupPlace → Type 0
+ArePlacesOfSpec lines who i s places =
+    (ListAllows User lines (is_user_atom_match who.user) s.users × IsConcatenationOfParts (ArePlacesOfHostGroup lines who i) 0 s.groups places)
+    ⊎ ((ListAllows User lines (is_user_atom_match who.user) s.users → ⊥) × (places ≡ []))
 
 -- All of them, in file order.
-abbrev pub AreHostGroups : List Line → Who → List GroupPlace → Type 0
-AreHostGroups lines who places = AreJoined (SpecPlaces lines who) 0 (specs_of lines) places
+abbrev pub AreMatchingHostGroups : List Line → Who → List HostGroupPlace → Type 0
+AreMatchingHostGroups lines who places = IsConcatenationOfParts (ArePlacesOfSpec lines who) 0 (user_specs_of_lines lines) places

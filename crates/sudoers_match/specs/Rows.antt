@@ -1,38 +1,38 @@
 -- Rows: each way in which the user specifications may let a command run (sudoers(5), User specification).
 use Rattle.std.specs.Prelude.{◌≡◌, ℕ, List, [], ◌∷◌, map}
-use Rattle.sudoers_line.specs.declared.node.Kind.TheVariants.{Cmnd}
-use Rattle.sudoers_line.specs.Node.{Member, HostGroup}
+use Rattle.sudoers_grammar.specs.declared.node.Kind.TheVariants.{Cmnd}
+use Rattle.sudoers_grammar.specs.Node.{Member, HostGroup}
 use Rattle.sudoers_tree.specs.Line.{Line}
-use Rattle.sudoers_match_list.specs.Flat.{Signed, IsFlat}
-use Rattle.sudoers_match.specs.Heads.{Head, no_head, filled}
-use Rattle.sudoers_match.specs.Specs.{Spec, specs_of, AreJoined}
+use Rattle.sudoers_match_list.specs.Flat.{SignedAtom, IsFlatListOf}
+use Rattle.sudoers_match.specs.Heads.{SettingsOfCommand, empty_command_settings, commands_with_settings}
+use Rattle.sudoers_match.specs.Specs.{UserSpec, user_specs_of_lines, IsConcatenationOfParts}
 
 -- A command that is no defined alias, with its sign, and all that holds of it. The numbers are those of the user specification, of
 -- its host group and of the command that was written there, from 0.
-pub record Row : Type 0 where
+pub record PrivilegeRow : Type 0 where
   pub spec : ℕ
   pub host_group : ℕ
   pub command : ℕ
   pub users : List Member
   pub hosts : List Member
-  pub head : Head
-  pub atom : Signed
+  pub head : SettingsOfCommand
+  pub atom : SignedAtom
 
-abbrev pub row_of : ℕ → ℕ → List Member → List Member → ℕ → Head → Signed → Row
-row_of i j users hosts k head s = record { spec = i; host_group = j; command = k; users = users; hosts = hosts; head = head; atom = s }
+abbrev pub privilege_row_of : ℕ → ℕ → List Member → List Member → ℕ → SettingsOfCommand → SignedAtom → PrivilegeRow
+privilege_row_of i j users hosts k head s = record { spec = i; host_group = j; command = k; users = users; hosts = hosts; head = head; atom = s }
 
 -- The rows of a command: one for each atom of its flat list.
-abbrev pub CommandRows : List Line → ℕ → ℕ → List Member → List Member → ℕ → Head × Member → List Row → Type 0
-CommandRows lines i j users hosts k c rows =
-    (flat : List Signed) × IsFlat Cmnd lines (c.1 ∷ []) flat × (rows ≡ map (row_of i j users hosts k c.0) flat)
+abbrev pub AreRowsOfCommand : List Line → ℕ → ℕ → List Member → List Member → ℕ → SettingsOfCommand × Member → List PrivilegeRow → Type 0
+AreRowsOfCommand lines i j users hosts k c rows =
+    (flat : List SignedAtom) × IsFlatListOf Cmnd lines (c.1 ∷ []) flat × (rows ≡ map (privilege_row_of i j users hosts k c.0) flat)
 
 -- The rows of a host group: its commands inherit from those before them in their list, and from no other.
-abbrev pub GroupRows : List Line → ℕ → List Member → ℕ → HostGroup → List Row → Type 0
-GroupRows lines i users j g rows = AreJoined (CommandRows lines i j users g.hosts) 0 (filled no_head g.commands) rows
+abbrev pub AreRowsOfHostGroup : List Line → ℕ → List Member → ℕ → HostGroup → List PrivilegeRow → Type 0
+AreRowsOfHostGroup lines i users j g rows = IsConcatenationOfParts (AreRowsOfCommand lines i j users g.hosts) 0 (commands_with_settings empty_command_settings g.commands) rows
 
-abbrev pub SpecRows : List Line → ℕ → Spec → List Row → Type 0
-SpecRows lines i s rows = AreJoined (GroupRows lines i s.users) 0 s.groups rows
+abbrev pub AreRowsOfSpec : List Line → ℕ → UserSpec → List PrivilegeRow → Type 0
+AreRowsOfSpec lines i s rows = IsConcatenationOfParts (AreRowsOfHostGroup lines i s.users) 0 s.groups rows
 
 -- The rows of all user specifications, in file order.
-abbrev pub AreRows : List Line → List Row → Type 0
-AreRows lines rows = AreJoined (SpecRows lines) 0 (specs_of lines) rows
+abbrev pub AreRowsOfPolicy : List Line → List PrivilegeRow → Type 0
+AreRowsOfPolicy lines rows = IsConcatenationOfParts (AreRowsOfSpec lines) 0 (user_specs_of_lines lines) rows

@@ -2,13 +2,13 @@
 use Rattle.std.specs.Prelude.{ℕ, ◌==◌, List, Option, Some, None, if◌then◌else◌}
 use Rattle.std.specs.Option.{option_map, option_or}
 use Rattle.std.specs.Borrow.{Bor}
-use Rattle.sudoers_line.specs.declared.node.OptionName.{OptionName}
-use Rattle.sudoers_line.specs.declared.node.OptionName.TheVariants as option
-use Rattle.sudoers_match.specs.declared.options.Options.{Options}
-use Rattle.sudoers_match.specs.Heads.{option_of, option_place}
+use Rattle.sudoers_grammar.specs.declared.node.OptionName.{OptionName}
+use Rattle.sudoers_grammar.specs.declared.node.OptionName.TheVariants as option
+use Rattle.sudoers_match.specs.declared.options.CommandOptions.{CommandOptions}
+use Rattle.sudoers_match.specs.Heads.{final_value_of_option, ordinal_of_option}
 
 -- the value of each option, if it is set
-pub record Values : Type 0 where
+pub record OptionValues : Type 0 where
   pub role : Option (List ℕ)
   pub kind : Option (List ℕ)
   pub apparmor_profile : Option (List ℕ)
@@ -20,48 +20,48 @@ pub record Values : Type 0 where
   pub cwd : Option (List ℕ)
   pub chroot : Option (List ℕ)
 
-abbrev pub values_of : List (OptionName × List ℕ) → Values
-values_of options = record {
-  role = option_of options option.Role;
-  kind = option_of options option.Type;
-  apparmor_profile = option_of options option.ApparmorProfile;
-  privs = option_of options option.Privs;
-  limitprivs = option_of options option.Limitprivs;
-  notbefore = option_of options option.Notbefore;
-  notafter = option_of options option.Notafter;
-  timeout = option_of options option.Timeout;
-  cwd = option_of options option.Cwd;
-  chroot = option_of options option.Chroot;
+abbrev pub final_values_of_options : List (OptionName × List ℕ) → OptionValues
+final_values_of_options options = record {
+  role = final_value_of_option options option.Role;
+  kind = final_value_of_option options option.Type;
+  apparmor_profile = final_value_of_option options option.ApparmorProfile;
+  privs = final_value_of_option options option.Privs;
+  limitprivs = final_value_of_option options option.Limitprivs;
+  notbefore = final_value_of_option options option.Notbefore;
+  notafter = final_value_of_option options option.Notafter;
+  timeout = final_value_of_option options option.Timeout;
+  cwd = final_value_of_option options option.Cwd;
+  chroot = final_value_of_option options option.Chroot;
 }
 
-abbrev pub value_shown : Option (Bor (List ℕ)) → Option (List ℕ)
-value_shown o = option_map (λ (text : Bor (List ℕ)). text.now) o
+abbrev pub option_value_of_view : Option (Bor (List ℕ)) → Option (List ℕ)
+option_value_of_view o = option_map (λ (text : Bor (List ℕ)). text.now) o
 
-abbrev pub values_shown : Options → Values
-values_shown o = record {
-  role = value_shown o.role;
-  kind = value_shown o.kind;
-  apparmor_profile = value_shown o.apparmor_profile;
-  privs = value_shown o.privs;
-  limitprivs = value_shown o.limitprivs;
-  notbefore = value_shown o.notbefore;
-  notafter = value_shown o.notafter;
-  timeout = value_shown o.timeout;
-  cwd = value_shown o.cwd;
-  chroot = value_shown o.chroot;
+abbrev pub option_values_of_view : CommandOptions → OptionValues
+option_values_of_view o = record {
+  role = option_value_of_view o.role;
+  kind = option_value_of_view o.kind;
+  apparmor_profile = option_value_of_view o.apparmor_profile;
+  privs = option_value_of_view o.privs;
+  limitprivs = option_value_of_view o.limitprivs;
+  notbefore = option_value_of_view o.notbefore;
+  notafter = option_value_of_view o.notafter;
+  timeout = option_value_of_view o.timeout;
+  cwd = option_value_of_view o.cwd;
+  chroot = option_value_of_view o.chroot;
 }
 
 -- A device of the proof, which no public contract cites: the values with one more.
-abbrev pub set_value : OptionName → List ℕ → Values → Values
-set_value name text values = record {
-  role = option_or (if option_place option.Role == option_place name then Some text else None) values.role;
-  kind = option_or (if option_place option.Type == option_place name then Some text else None) values.kind;
-  apparmor_profile = option_or (if option_place option.ApparmorProfile == option_place name then Some text else None) values.apparmor_profile;
-  privs = option_or (if option_place option.Privs == option_place name then Some text else None) values.privs;
-  limitprivs = option_or (if option_place option.Limitprivs == option_place name then Some text else None) values.limitprivs;
-  notbefore = option_or (if option_place option.Notbefore == option_place name then Some text else None) values.notbefore;
-  notafter = option_or (if option_place option.Notafter == option_place name then Some text else None) values.notafter;
-  timeout = option_or (if option_place option.Timeout == option_place name then Some text else None) values.timeout;
-  cwd = option_or (if option_place option.Cwd == option_place name then Some text else None) values.cwd;
-  chroot = option_or (if option_place option.Chroot == option_place name then Some text else None) values.chroot;
+abbrev pub values_with_option_set : OptionName → List ℕ → OptionValues → OptionValues
+values_with_option_set name text values = record {
+  role = option_or (if ordinal_of_option option.Role == ordinal_of_option name then Some text else None) values.role;
+  kind = option_or (if ordinal_of_option option.Type == ordinal_of_option name then Some text else None) values.kind;
+  apparmor_profile = option_or (if ordinal_of_option option.ApparmorProfile == ordinal_of_option name then Some text else None) values.apparmor_profile;
+  privs = option_or (if ordinal_of_option option.Privs == ordinal_of_option name then Some text else None) values.privs;
+  limitprivs = option_or (if ordinal_of_option option.Limitprivs == ordinal_of_option name then Some text else None) values.limitprivs;
+  notbefore = option_or (if ordinal_of_option option.Notbefore == ordinal_of_option name then Some text else None) values.notbefore;
+  notafter = option_or (if ordinal_of_option option.Notafter == ordinal_of_option name then Some text else None) values.notafter;
+  timeout = option_or (if ordinal_of_option option.Timeout == ordinal_of_option name then Some text else None) values.timeout;
+  cwd = option_or (if ordinal_of_option option.Cwd == ordinal_of_option name then Some text else None) values.cwd;
+  chroot = option_or (if ordinal_of_option option.Chroot == ordinal_of_option name then Some text else None) values.chroot;
 }

@@ -2,36 +2,39 @@
 
 ghost use Rattle.std.specs.Prelude.{◌≡◌, ◌⊎◌, ◌<◌, ◌≤◌, ◌∷◌, [], List, length, Some, IfOk, IfErr, IfSome};
 ghost use Rattle.std.specs.Option.{option_map};
-ghost use Rattle.sudoers_line.specs.declared.node.Kind.TheVariants.{User as OfUsers, Host as OfHosts, Cmnd as OfCommands};
-ghost use Rattle.sudoers_line.specs.Node.{Member as MemberOf};
-ghost use Rattle.sudoers_line_rows.specs.View.{group_shown, groups_shown, members_shown, runas_shown};
-ghost use Rattle.sudoers_match_member.specs.Hits.{user_hits, host_hits};
+ghost use Rattle.sudoers_grammar.specs.declared.node.Kind.TheVariants.{User as OfUsers, Host as OfHosts, Cmnd as OfCommands};
+ghost use Rattle.sudoers_grammar.specs.Node.{Member as MemberOf};
+ghost use Rattle.sudoers_line_rows.specs.View.{host_group_of_view, host_groups_of_view, members_of_view, runas_of_view};
+ghost use Rattle.sudoers_match_member.specs.Hits.{is_user_atom_match, is_host_atom_match};
 ghost use Rattle.sudoers_check.specs.Chains.{HasReachableCycle};
 ghost use Rattle.sudoers_match_list.specs.declared.verdict.AskFault.TheVariants.{Cycle, TooLong, NoMemory};
-ghost use Rattle.sudoers_match.specs.Allows.{Allows};
+ghost use Rattle.sudoers_match.specs.Allows.{ListAllows};
 ghost use Rattle.sudoers_match.specs.Default.{IsRunasDefault};
-ghost use Rattle.sudoers_match.specs.Answer.{Answers, IsAnswer, answer_shown, argument_limit, joined};
-ghost use Rattle.sudoers_match.specs.Found.{IsFound, found_answer};
-ghost use Rattle.sudoers_match.specs.Heads.{Head as HeadOf, no_head};
-ghost use Rattle.sudoers_match.specs.IsHead.{IsHead};
-ghost use Rattle.sudoers_match.specs.internal.Question.{IsOfGroup, IsOfSpec, IsQuestion, PermittedIs, RunasPermits, place_told};
-ghost use Rattle.sudoers_match.specs.Rows.{Row, CommandRows, GroupRows, SpecRows};
-ghost use Rattle.sudoers_match.specs.Specs.{spec_of};
-ghost use Rattle.sudoers_match.specs.internal.Straight.{IsStraight, RunasIsStraight, GroupIsStraight, GroupsAreStraight};
+ghost use Rattle.sudoers_match.specs.Answer.{IsAnswerOfRows, IsAnswerToRequest, answer_of_view, joined_arguments_limit, words_joined_with_spaces};
+ghost use Rattle.sudoers_match.specs.Found.{IsFoundInLines, answer_of_found};
+ghost use Rattle.sudoers_match.specs.Heads.{SettingsOfCommand as HeadOf, empty_command_settings};
+ghost use Rattle.sudoers_match.specs.IsHead.{HoldsCommandSettings};
+ghost use Rattle.sudoers_match.specs.internal.Question.{IsFoundInGroupAtPlace, IsFoundInSpecAtNumber, IsValidRequestCache, IsKnownRunasDecision, DecidesWhetherRunasSpecAllows, place_of_answer};
+ghost use Rattle.sudoers_match.specs.Rows.{PrivilegeRow, AreRowsOfCommand, AreRowsOfHostGroup, AreRowsOfSpec};
+ghost use Rattle.sudoers_match.specs.Specs.{user_spec_of};
+ghost use Rattle.sudoers_match.specs.internal.Straight.{LeadsToNoCyclicAlias, RunasSpecLeadsToNoCycle, HostGroupLeadsToNoCycle, HostGroupsLeadToNoCycle};
 
-use crate::allowing::{allows, find_hit};
-use crate::defaults::find_default;
-use crate::groups::GroupPlace;
-use crate::head::Head;
-use crate::moment::is_in_time;
-use crate::question::{Asked, Question};
-use crate::request::{join_command, join_words};
-use crate::rules::{Answer, Found, Place, find_at, take_answer, tell};
+use crate::allowing::{find_last_hit_in_list, is_allowed_by_list};
+use crate::answer_of_row::{
+    Answer, AnswerWithCommand, CommandPlace, add_command_to_answer, make_row_answer,
+    take_found_answer,
+};
+use crate::command_settings::CommandSettings;
+use crate::matching_host_groups::HostGroupPlace;
+use crate::request_verdicts::{RequestContext, RequestVerdictCache};
+use crate::request_words::{join_words, make_joined_command_line};
+use crate::runas_default_user::find_runas_default_for;
+use crate::time_bounds::is_within_time_bounds;
 use std::alloc::{AllocError, Global};
 use sudoers_line_rows::HostGroup;
-use sudoers_match_list::{Acyclic, AskFault, Commands, Hosts, Users};
+use sudoers_match_list::{AcyclicWalk, AskFault, CommandListKind, HostListKind, UserListKind};
 use sudoers_match_member::Request;
-use sudoers_tree::{GroupRow, Kind, MemberRow, Node, Policy, Rows};
+use sudoers_tree::{HostGroupRow, Kind, MemberRow, Node, Policy, RowsOfTable};
 
 /// The greatest length of the arguments of a request, joined by single spaces.
 const ARGUMENT_LIMIT: usize = 65_536;
@@ -48,16 +51,16 @@ pub fn answer<'a>(
     policy: &'a Policy,
     request: &Request,
 ) -> Result<Option<Answer<'a>>, AskFault>
-    ensures answer { IfOk result (λ answer. IsAnswer policy.now.walk.lines request.now (option_map answer_shown answer)) }
+    ensures answer { IfOk result (λ answer. IsAnswerToRequest policy.now.walk.lines request.now (option_map answer_of_view answer)) }
     ensures straight { IfOk result (λ _. HasReachableCycle policy.now.walk.lines → ⊥) }
-    ensures short { IfOk result (λ _. length (joined request.now.args) ≤ argument_limit) }
+    ensures short { IfOk result (λ _. length (words_joined_with_spaces request.now.args) ≤ joined_arguments_limit) }
     ensures fault { IfErr result (λ fault. (fault ≡ NoMemory) ⊎ (((fault ≡ Cycle) × HasReachableCycle policy.now.walk.lines)
-        ⊎ ((fault ≡ TooLong) × (HasReachableCycle policy.now.walk.lines → ⊥) × (argument_limit < length (joined request.now.args))))) }
+        ⊎ ((fault ≡ TooLong) × (HasReachableCycle policy.now.walk.lines → ⊥) × (joined_arguments_limit < length (words_joined_with_spaces request.now.args))))) }
 {
-    let policy = Acyclic::new(alloc, policy.walk())?;
-    let default = find_default(alloc, &policy, &request.who)?;
+    let policy = AcyclicWalk::new(alloc, policy.walk())?;
+    let default = find_runas_default_for(alloc, &policy, &request.who)?;
     let found = find_answer(alloc, &policy, request, default)?;
-    Ok(take_answer(found))
+    Ok(take_found_answer(found))
 }
 
 /// Returns the last row of `policy` that fits `request`, with its answer and its command, if a row fits. `default` is the user as whom a
@@ -68,21 +71,21 @@ pub fn answer<'a>(
 /// `TooLong`: the arguments, joined by single spaces, are longer than 65,536 bytes. `NoMemory`: memory ran out.
 pub fn find_answer<'a>(
     alloc: Global,
-    policy: &Acyclic<'a>,
+    policy: &AcyclicWalk<'a>,
     request: &Request,
     default: &'a [u8],
-) -> Result<Option<Found<'a>>, AskFault>
+) -> Result<Option<AnswerWithCommand<'a>>, AskFault>
     requires { IsRunasDefault policy.now request.now.who default.now }
-    ensures answer { IfOk result (λ found. IsAnswer policy.now request.now (option_map found_answer found)) }
-    ensures found { IfOk result (λ found. IfSome found (IsFound policy.now)) }
-    ensures short { IfOk result (λ _. length (joined request.now.args) ≤ argument_limit) }
-    ensures fault { IfErr result (λ fault. (fault ≡ NoMemory) ⊎ ((fault ≡ TooLong) × (argument_limit < length (joined request.now.args)))) }
+    ensures answer { IfOk result (λ found. IsAnswerToRequest policy.now request.now (option_map answer_of_found found)) }
+    ensures found { IfOk result (λ found. IfSome found (IsFoundInLines policy.now)) }
+    ensures short { IfOk result (λ _. length (words_joined_with_spaces request.now.args) ≤ joined_arguments_limit) }
+    ensures fault { IfErr result (λ fault. (fault ≡ NoMemory) ⊎ ((fault ≡ TooLong) × (joined_arguments_limit < length (words_joined_with_spaces request.now.args)))) }
 {
     let args = join_words(alloc, request.args.as_slice())?;
     if args.len() > ARGUMENT_LIMIT {
         return Err(AskFault::TooLong);
     }
-    Ok(find_row(alloc, policy, request, default)?)
+    Ok(find_answer_without_args_limit(alloc, policy, request, default)?)
 }
 
 /// Returns the row that [`find_answer`] returns for `request`, however long its arguments are.
@@ -90,34 +93,34 @@ pub fn find_answer<'a>(
 /// # Errors
 ///
 /// Memory ran out.
-pub fn find_row<'a>(
+pub fn find_answer_without_args_limit<'a>(
     alloc: Global,
-    policy: &Acyclic<'a>,
+    policy: &AcyclicWalk<'a>,
     request: &Request,
     default: &'a [u8],
-) -> Result<Option<Found<'a>>, AllocError>
+) -> Result<Option<AnswerWithCommand<'a>>, AllocError>
     requires { IsRunasDefault policy.now request.now.who default.now }
-    ensures answer { IfOk result (λ found. IsAnswer policy.now request.now (option_map found_answer found)) }
-    ensures found { IfOk result (λ found. IfSome found (IsFound policy.now)) }
+    ensures answer { IfOk result (λ found. IsAnswerToRequest policy.now request.now (option_map answer_of_found found)) }
+    ensures found { IfOk result (λ found. IfSome found (IsFoundInLines policy.now)) }
 {
-    let command = join_command(alloc, request)?;
-    let mut question = Question::new(alloc, policy, request, default)?;
-    let asked = Asked {
+    let command = make_joined_command_line(alloc, request)?;
+    let mut question = RequestVerdictCache::new(alloc, policy, request, default)?;
+    let asked = RequestContext {
         policy,
         request,
         command: &command,
     };
-    find_in_policy(&mut question, &asked)
+    find_last_fitting_row(&mut question, &asked)
 }
 
 /// Returns the last row that fits.
-fn find_in_policy<'a>(
-    question: &mut Question<'a>,
-    asked: &Asked<'a, '_>,
-) -> Result<Option<Found<'a>>, AllocError>
-    requires { IsQuestion asked.now.policy.now asked.now.request.now question.old }
-    ensures answer { IfOk result (λ found. IsAnswer asked.now.policy.now asked.now.request.now (option_map found_answer found)) }
-    ensures found { IfOk result (λ found. IfSome found (IsFound asked.now.policy.now)) }
+fn find_last_fitting_row<'a>(
+    question: &mut RequestVerdictCache<'a>,
+    asked: &RequestContext<'a, '_>,
+) -> Result<Option<AnswerWithCommand<'a>>, AllocError>
+    requires { IsValidRequestCache asked.now.policy.now asked.now.request.now question.old }
+    ensures answer { IfOk result (λ found. IsAnswerToRequest asked.now.policy.now asked.now.request.now (option_map answer_of_found found)) }
+    ensures found { IfOk result (λ found. IfSome found (IsFoundInLines asked.now.policy.now)) }
 {
     // laws
     asked.policy.is_acyclic();
@@ -125,8 +128,8 @@ fn find_in_policy<'a>(
     let mut spec = 0;
     let lines = asked.policy.lines();
     for (line, row) in lines.rows.iter().enumerate() {
-        if let Node::Spec { users, groups } = lines.tables.node(&row.node) {
-            let found = find_in_spec(question, asked, line, spec, &users, &groups)?;
+        if let Node::Spec { users, groups } = lines.tables.node_of_row(&row.node) {
+            let found = find_last_fit_in_spec(question, asked, line, spec, &users, &groups)?;
             latest = found.or(latest);
             spec += 1;
         }
@@ -135,34 +138,40 @@ fn find_in_policy<'a>(
 }
 
 /// Returns the last row of the user specification with the number `spec` that fits. It stands on the line with the number `line`.
-fn find_in_spec<'a>(
-    question: &mut Question<'a>,
-    asked: &Asked<'a, '_>,
+fn find_last_fit_in_spec<'a>(
+    question: &mut RequestVerdictCache<'a>,
+    asked: &RequestContext<'a, '_>,
     line: usize,
     spec: usize,
-    users: &Rows<'_, MemberRow>,
-    groups: &Rows<'a, GroupRow>,
-) -> Result<Option<Found<'a>>, AllocError>
-    requires question { IsQuestion asked.now.policy.now asked.now.request.now question.old }
-    requires users { IsStraight OfUsers asked.now.policy.now (members_shown users.now) }
-    requires groups { GroupsAreStraight asked.now.policy.now (groups_shown groups.now) }
-    ensures kept { IfOk result (λ _. IsQuestion asked.now.policy.now asked.now.request.now question.new) }
-    ensures answer { IfOk result (λ found. (rows : List Row)
-        → SpecRows asked.now.policy.now spec (spec_of (members_shown users.now) (groups_shown groups.now)) rows
-        → Answers asked.now.policy.now asked.now.request.now rows (option_map found_answer found)) }
-    ensures found { IfOk result (λ found. IfSome found (IsOfSpec line spec (groups_shown groups.now))) }
+    users: &RowsOfTable<'_, MemberRow>,
+    groups: &RowsOfTable<'a, HostGroupRow>,
+) -> Result<Option<AnswerWithCommand<'a>>, AllocError>
+    requires question { IsValidRequestCache asked.now.policy.now asked.now.request.now question.old }
+    requires users { LeadsToNoCyclicAlias OfUsers asked.now.policy.now (members_of_view users.now) }
+    requires groups { HostGroupsLeadToNoCycle asked.now.policy.now (host_groups_of_view groups.now) }
+    ensures kept { IfOk result (λ _. IsValidRequestCache asked.now.policy.now asked.now.request.now question.new) }
+    ensures answer { IfOk result (λ found. (rows : List PrivilegeRow)
+        → AreRowsOfSpec asked.now.policy.now spec (user_spec_of (members_of_view users.now) (host_groups_of_view groups.now)) rows
+        → IsAnswerOfRows asked.now.policy.now asked.now.request.now rows (option_map answer_of_found found)) }
+    ensures found { IfOk result (λ found. IfSome found (IsFoundInSpecAtNumber line spec (host_groups_of_view groups.now))) }
 {
     let user = &asked.request.who.user;
-    if !allows::<Users>(&mut question.users, asked.policy, Kind::User, users, user)? {
+    if !is_allowed_by_list::<UserListKind>(
+        &mut question.users,
+        asked.policy,
+        Kind::User,
+        users,
+        user,
+    )? {
         return Ok(None);
     }
     let mut latest = None;
     let tables = groups.tables;
     for (host_group, row) in groups.rows.iter().enumerate() {
-        let mut head = Head::none();
-        let group = tables.group(row);
-        let at = GroupPlace { spec, host_group };
-        let in_group = find_in_group(question, asked, line, at, &group, &mut head)?;
+        let mut head = CommandSettings::make_empty_settings();
+        let group = tables.host_group_of_row(row);
+        let at = HostGroupPlace { spec, host_group };
+        let in_group = find_last_fit_in_host_group(question, asked, line, at, &group, &mut head)?;
         latest = in_group.or(latest);
     }
     Ok(latest)
@@ -170,26 +179,26 @@ fn find_in_spec<'a>(
 
 /// Returns the last row of the host group at `at` that fits, where the users allow. It stands on the line with the number `line`. `head`
 /// is that of a command before which nothing stands, and becomes that of the last command.
-fn find_in_group<'a>(
-    question: &mut Question<'a>,
-    asked: &Asked<'a, '_>,
+fn find_last_fit_in_host_group<'a>(
+    question: &mut RequestVerdictCache<'a>,
+    asked: &RequestContext<'a, '_>,
     line: usize,
-    at: GroupPlace,
+    at: HostGroupPlace,
     group: &HostGroup<'a>,
-    head: &mut Head<'a>,
-) -> Result<Option<Found<'a>>, AllocError>
-    requires question { IsQuestion asked.now.policy.now asked.now.request.now question.old }
-    requires straight { GroupIsStraight asked.now.policy.now (group_shown group.now) }
-    requires head { IsHead head.old no_head }
-    ensures kept { IfOk result (λ _. IsQuestion asked.now.policy.now asked.now.request.now question.new) }
+    head: &mut CommandSettings<'a>,
+) -> Result<Option<AnswerWithCommand<'a>>, AllocError>
+    requires question { IsValidRequestCache asked.now.policy.now asked.now.request.now question.old }
+    requires straight { HostGroupLeadsToNoCycle asked.now.policy.now (host_group_of_view group.now) }
+    requires head { HoldsCommandSettings head.old empty_command_settings }
+    ensures kept { IfOk result (λ _. IsValidRequestCache asked.now.policy.now asked.now.request.now question.new) }
     ensures answer { IfOk result (λ found. (users : List MemberOf)
-        → Allows OfUsers asked.now.policy.now (user_hits asked.now.request.now.who.user) users
-        → (rows : List Row) → GroupRows asked.now.policy.now at.spec users at.host_group (group_shown group.now) rows
-        → Answers asked.now.policy.now asked.now.request.now rows (option_map found_answer found)) }
-    ensures found { IfOk result (λ found. IfSome found (IsOfGroup line at (group_shown group.now))) }
+        → ListAllows OfUsers asked.now.policy.now (is_user_atom_match asked.now.request.now.who.user) users
+        → (rows : List PrivilegeRow) → AreRowsOfHostGroup asked.now.policy.now at.spec users at.host_group (host_group_of_view group.now) rows
+        → IsAnswerOfRows asked.now.policy.now asked.now.request.now rows (option_map answer_of_found found)) }
+    ensures found { IfOk result (λ found. IfSome found (IsFoundInGroupAtPlace line at (host_group_of_view group.now))) }
 {
     let who = &asked.request.who;
-    if !allows::<Hosts>(
+    if !is_allowed_by_list::<HostListKind>(
         &mut question.hosts,
         asked.policy,
         Kind::Host,
@@ -202,80 +211,87 @@ fn find_in_group<'a>(
     let mut permitted = None;
     let tables = group.commands.tables;
     for (command, row) in group.commands.rows.iter().enumerate() {
-        let written = tables.command(row);
+        let written = tables.command_of_row(row);
         if written.runas.is_some() {
             permitted = None;
         }
-        head.inherit(&written);
-        let member = Rows {
+        head.inherit_settings(&written);
+        let member = RowsOfTable {
             tables,
             rows: std::slice::from_ref(&row.member),
         };
-        let place = Place {
+        let place = CommandPlace {
             spec: at.spec,
             host_group: at.host_group,
             command,
         };
-        let answer = answer_of_command(question, asked, place, head, &mut permitted, &member)?;
-        latest = find_at(answer, line, head, written.member).or(latest);
+        let answer = answer_of_last_fitting_row(
+            question,
+            asked,
+            place,
+            head,
+            &mut permitted,
+            &member,
+        )?;
+        latest = add_command_to_answer(answer, line, head, written.member).or(latest);
     }
     Ok(latest)
 }
 
 /// Returns whether a command may run as the user and the group that are asked for, by the Runas_Spec of `head`. `permitted` is what is
 /// known of that, and is known then.
-fn permits_runas<'a>(
-    question: &mut Question<'a>,
-    asked: &Asked<'a, '_>,
-    head: &Head<'a>,
+fn permits_runas_cached<'a>(
+    question: &mut RequestVerdictCache<'a>,
+    asked: &RequestContext<'a, '_>,
+    head: &CommandSettings<'a>,
     permitted: &mut Option<bool>,
 ) -> Result<bool, AllocError>
-    requires question { IsQuestion asked.now.policy.now asked.now.request.now question.old }
-    requires straight { RunasIsStraight asked.now.policy.now (option_map runas_shown head.now.runas) }
-    requires permitted { PermittedIs asked.now.policy.now asked.now.request.now (option_map runas_shown head.now.runas) permitted.old }
-    ensures kept { IfOk result (λ _. IsQuestion asked.now.policy.now asked.now.request.now question.new) }
-    ensures permits { IfOk result (λ allowed. RunasPermits asked.now.policy.now asked.now.request.now.who asked.now.request.now.target asked.now.request.now.target_group (option_map runas_shown head.now.runas) allowed) }
+    requires question { IsValidRequestCache asked.now.policy.now asked.now.request.now question.old }
+    requires straight { RunasSpecLeadsToNoCycle asked.now.policy.now (option_map runas_of_view head.now.runas) }
+    requires permitted { IsKnownRunasDecision asked.now.policy.now asked.now.request.now (option_map runas_of_view head.now.runas) permitted.old }
+    ensures kept { IfOk result (λ _. IsValidRequestCache asked.now.policy.now asked.now.request.now question.new) }
+    ensures permits { IfOk result (λ allowed. DecidesWhetherRunasSpecAllows asked.now.policy.now asked.now.request.now.who asked.now.request.now.target asked.now.request.now.target_group (option_map runas_of_view head.now.runas) allowed) }
     ensures permitted { IfOk result (λ allowed. permitted.new ≡ Some allowed) }
 {
     if let Some(allowed) = *permitted {
         return Ok(allowed);
     }
-    let allowed = question.allows_runas(asked, &head.runas)?;
+    let allowed = question.allows_requested_runas(asked, &head.runas)?;
     *permitted = Some(allowed);
     Ok(allowed)
 }
 
 /// Returns the answer of the last row of a command that fits, where the users and the hosts allow. `member` is the command alone.
 /// `permitted` is what is known of the Runas_Spec of `head`.
-fn answer_of_command<'a>(
-    question: &mut Question<'a>,
-    asked: &Asked<'a, '_>,
-    place: Place,
-    head: &Head<'a>,
+fn answer_of_last_fitting_row<'a>(
+    question: &mut RequestVerdictCache<'a>,
+    asked: &RequestContext<'a, '_>,
+    place: CommandPlace,
+    head: &CommandSettings<'a>,
     permitted: &mut Option<bool>,
-    member: &Rows<'_, MemberRow>,
+    member: &RowsOfTable<'_, MemberRow>,
 ) -> Result<Option<Answer<'a>>, AllocError>
-    requires question { IsQuestion asked.now.policy.now asked.now.request.now question.old }
-    requires runas { RunasIsStraight asked.now.policy.now (option_map runas_shown head.now.runas) }
-    requires permitted { PermittedIs asked.now.policy.now asked.now.request.now (option_map runas_shown head.now.runas) permitted.old }
-    requires member { IsStraight OfCommands asked.now.policy.now (members_shown member.now) }
-    ensures kept { IfOk result (λ _. IsQuestion asked.now.policy.now asked.now.request.now question.new) }
-    ensures permitted { IfOk result (λ _. PermittedIs asked.now.policy.now asked.now.request.now (option_map runas_shown head.now.runas) permitted.new) }
+    requires question { IsValidRequestCache asked.now.policy.now asked.now.request.now question.old }
+    requires runas { RunasSpecLeadsToNoCycle asked.now.policy.now (option_map runas_of_view head.now.runas) }
+    requires permitted { IsKnownRunasDecision asked.now.policy.now asked.now.request.now (option_map runas_of_view head.now.runas) permitted.old }
+    requires member { LeadsToNoCyclicAlias OfCommands asked.now.policy.now (members_of_view member.now) }
+    ensures kept { IfOk result (λ _. IsValidRequestCache asked.now.policy.now asked.now.request.now question.new) }
+    ensures permitted { IfOk result (λ _. IsKnownRunasDecision asked.now.policy.now asked.now.request.now (option_map runas_of_view head.now.runas) permitted.new) }
     ensures answer { IfOk result (λ answer. (users hosts : List MemberOf)
-        → Allows OfUsers asked.now.policy.now (user_hits asked.now.request.now.who.user) users
-        → Allows OfHosts asked.now.policy.now (host_hits asked.now.request.now.who) hosts
-        → (h : HeadOf) → IsHead head.now h → (m : MemberOf) → members_shown member.now ≡ m ∷ []
-        → (rows : List Row) → CommandRows asked.now.policy.now place.spec place.host_group users hosts place.command (h, m) rows
-        → Answers asked.now.policy.now asked.now.request.now rows (option_map answer_shown answer)) }
-    ensures place { IfOk result (λ answer. IfSome answer (λ a. place_told a ≡ place)) }
+        → ListAllows OfUsers asked.now.policy.now (is_user_atom_match asked.now.request.now.who.user) users
+        → ListAllows OfHosts asked.now.policy.now (is_host_atom_match asked.now.request.now.who) hosts
+        → (h : HeadOf) → HoldsCommandSettings head.now h → (m : MemberOf) → members_of_view member.now ≡ m ∷ []
+        → (rows : List PrivilegeRow) → AreRowsOfCommand asked.now.policy.now place.spec place.host_group users hosts place.command (h, m) rows
+        → IsAnswerOfRows asked.now.policy.now asked.now.request.now rows (option_map answer_of_view answer)) }
+    ensures place { IfOk result (λ answer. IfSome answer (λ a. place_of_answer a ≡ place)) }
 {
-    if !is_in_time(asked.request.moment, &head.options) {
+    if !is_within_time_bounds(asked.request.moment, &head.options) {
         return Ok(None);
     }
-    if !permits_runas(question, asked, head, permitted)? {
+    if !permits_runas_cached(question, asked, head, permitted)? {
         return Ok(None);
     }
-    let hit = find_hit::<Commands>(
+    let hit = find_last_hit_in_list::<CommandListKind>(
         &mut question.commands,
         asked.policy,
         Kind::Cmnd,
@@ -283,7 +299,7 @@ fn answer_of_command<'a>(
         asked.command,
     )?;
     match hit {
-        Some(hit) => Ok(Some(tell(place, head, hit))),
+        Some(hit) => Ok(Some(make_row_answer(place, head, hit))),
         None => Ok(None),
     }
 }

@@ -2,36 +2,36 @@
 
 ghost use Rattle.std.specs.Prelude.{◌≡◌, ◌↔◌, ℕ, List, Option};
 ghost use Rattle.sudoers_check.specs.Chains.{HasReachableCycle};
-ghost use Rattle.sudoers_line.specs.declared.node.Atom.{Atom as AtomOf};
+ghost use Rattle.sudoers_grammar.specs.declared.node.Atom.{Atom as AtomOf};
 ghost use Rattle.sudoers_tree.specs.Line.{Line as LineOf};
-ghost use Rattle.sudoers_tree.specs.Policy.{IsWalk};
-ghost use Rattle.sudoers_match_member.specs.declared.asked.Who.{Who as WhoOf};
-ghost use Rattle.sudoers_match_list.specs.Alike.{AllAlike};
+ghost use Rattle.sudoers_tree.specs.Policy.{AreValidWalkLines};
+ghost use Rattle.sudoers_match_member.specs.declared.people_and_commands.Who.{Who as WhoOf};
+ghost use Rattle.sudoers_match_list.specs.Alike.{IsPointwiseRelated};
 ghost use Rattle.sudoers_match_member.specs.declared.request.Request.{Request as RequestOf};
-ghost use Rattle.sudoers_match.specs.Alike.{AreDefaultsAlike, AreRowsAlike, AreRowsEqual, AreSpecsAlike, AreSpecsEqual, MatchesSame, SaysSame};
-ghost use Rattle.sudoers_match.specs.Answer.{Answer as AnswerOf, Answers, Fits, IsAnswer};
-ghost use Rattle.sudoers_match.specs.Beside.{KeepsReachable};
+ghost use Rattle.sudoers_match.specs.Alike.{AreAllRunasDefaultsAlike, AreRowsAlikeButNumbers, AreRowsAlikeWithNumbers, AreSpecUsersAndHostsAlike, AreUserSpecsAlike, KeepsAtomMatches, AreAnswersSameButNumbers};
+ghost use Rattle.sudoers_match.specs.Answer.{Answer as AnswerOf, IsAnswerOfRows, RowFitsRequest, IsAnswerToRequest};
+ghost use Rattle.sudoers_match.specs.Beside.{KeepsReachableAliases};
 ghost use Rattle.sudoers_match.specs.Default.{IsRunasDefault};
-ghost use Rattle.sudoers_match.specs.Groups.{AreHostGroups};
-ghost use Rattle.sudoers_match.specs.Heads.{Head as HeadOf};
-ghost use Rattle.sudoers_match.specs.IsHead.{AreHeadsSame, IsHead};
-ghost use Rattle.sudoers_match.specs.Rows.{Row};
-ghost use Rattle.sudoers_match.specs.Specs.{specs_of};
-ghost use Rattle.sudoers_match.specs.declared.head.Head.{Head as HeadHeld};
-ghost use Rattle.sudoers_match.specs.declared.groups.GroupPlace.{GroupPlace as GroupPlaceOf};
+ghost use Rattle.sudoers_match.specs.Groups.{AreMatchingHostGroups};
+ghost use Rattle.sudoers_match.specs.Heads.{SettingsOfCommand as HeadOf};
+ghost use Rattle.sudoers_match.specs.IsHead.{AreCommandSettingsSame, HoldsCommandSettings};
+ghost use Rattle.sudoers_match.specs.Rows.{PrivilegeRow};
+ghost use Rattle.sudoers_match.specs.Specs.{user_specs_of_lines};
+ghost use Rattle.sudoers_match.specs.declared.command_settings.CommandSettings.{CommandSettings as HeadHeld};
+ghost use Rattle.sudoers_match.specs.declared.matching_host_groups.HostGroupPlace.{HostGroupPlace as GroupPlaceOf};
 
 use sudoers_match_list::laws::{alike_lists_lead_to_cycle, alike_lists_say_same};
 
 /// A request has one answer.
 pub fn one_answer()
-    ensures { (lines : List LineOf) (request : RequestOf) (answer other : Option AnswerOf) → IsAnswer lines request answer
-        → IsAnswer lines request other → answer ≡ other }
+    ensures { (lines : List LineOf) (request : RequestOf) (answer other : Option AnswerOf) → IsAnswerToRequest lines request answer
+        → IsAnswerToRequest lines request other → answer ≡ other }
 {}
 
 /// The places of the host groups for a user on a host are one list.
 pub fn one_list_of_host_groups()
-    ensures { (lines : List LineOf) (who : WhoOf) (places others : List GroupPlaceOf) → AreHostGroups lines who places
-        → AreHostGroups lines who others → places ≡ others }
+    ensures { (lines : List LineOf) (who : WhoOf) (places others : List GroupPlaceOf) → AreMatchingHostGroups lines who places
+        → AreMatchingHostGroups lines who others → places ≡ others }
 {}
 
 /// A user on a host has one runas_default.
@@ -42,14 +42,14 @@ pub fn one_runas_default()
 
 /// What is held of a command is a head. Heads of which the same is held say the same.
 pub fn one_head()
-    ensures some { (held : HeadHeld) → (head : HeadOf) × IsHead held head }
-    ensures same { (held : HeadHeld) (head other : HeadOf) → IsHead held head → IsHead held other → AreHeadsSame head other }
+    ensures some { (held : HeadHeld) → (head : HeadOf) × HoldsCommandSettings held head }
+    ensures same { (held : HeadHeld) (head other : HeadOf) → HoldsCommandSettings held head → HoldsCommandSettings held other → AreCommandSettingsSame head other }
 {}
 
 /// Two policies with the same settings have the same runas_default, whoever asks. The second policy may write an atom otherwise, if that
 /// matches the same.
 pub fn alike_defaults_are_same()
-    ensures { (write : AtomOf → AtomOf) (lines others : List LineOf) → MatchesSame write → AreDefaultsAlike write lines others
+    ensures { (write : AtomOf → AtomOf) (lines others : List LineOf) → KeepsAtomMatches write → AreAllRunasDefaultsAlike write lines others
         → (who : WhoOf) (name : List ℕ) → IsRunasDefault lines who name ↔ IsRunasDefault others who name }
 {
     alike_lists_say_same();
@@ -57,38 +57,38 @@ pub fn alike_defaults_are_same()
 
 /// Policies whose user specifications are for the same users and hosts give each user rules at the same places.
 pub fn alike_specs_have_same_groups()
-    ensures { (write : AtomOf → AtomOf) (lines others : List LineOf) → MatchesSame write
-        → AllAlike (AreSpecsAlike write lines others) (specs_of lines) (specs_of others) → (who : WhoOf) (places : List GroupPlaceOf)
-        → AreHostGroups lines who places ↔ AreHostGroups others who places }
+    ensures { (write : AtomOf → AtomOf) (lines others : List LineOf) → KeepsAtomMatches write
+        → IsPointwiseRelated (AreSpecUsersAndHostsAlike write lines others) (user_specs_of_lines lines) (user_specs_of_lines others) → (who : WhoOf) (places : List GroupPlaceOf)
+        → AreMatchingHostGroups lines who places ↔ AreMatchingHostGroups others who places }
 {
     alike_lists_say_same();
 }
 
 /// Of two rows that say the same both match a request, or neither does.
 pub fn alike_rows_fit()
-    ensures { (write : AtomOf → AtomOf) (lines others : List LineOf) → MatchesSame write → AreDefaultsAlike write lines others
-        → (request : RequestOf) (row other : Row) → AreRowsAlike write lines others row other → Fits lines request row ↔ Fits others request other }
+    ensures { (write : AtomOf → AtomOf) (lines others : List LineOf) → KeepsAtomMatches write → AreAllRunasDefaultsAlike write lines others
+        → (request : RequestOf) (row other : PrivilegeRow) → AreRowsAlikeButNumbers write lines others row other → RowFitsRequest lines request row ↔ RowFitsRequest others request other }
 {
     alike_lists_say_same();
 }
 
 /// Policies whose rows say the same answer the same, numbers aside. Where the rows have the same numbers, so have the answers.
 pub fn alike_rows_answer()
-    ensures alike { (write : AtomOf → AtomOf) (lines others : List LineOf) → MatchesSame write → AreDefaultsAlike write lines others
-        → (request : RequestOf) (rows others_rows : List Row) (answer : Option AnswerOf) → AllAlike (AreRowsAlike write lines others) rows others_rows
-        → Answers lines request rows answer → (other : Option AnswerOf) × Answers others request others_rows other × SaysSame answer other }
-    ensures equal { (write : AtomOf → AtomOf) (lines others : List LineOf) → MatchesSame write → AreDefaultsAlike write lines others
-        → (request : RequestOf) (rows others_rows : List Row) (answer : Option AnswerOf) → AllAlike (AreRowsEqual write lines others) rows others_rows
-        → Answers lines request rows answer → Answers others request others_rows answer }
+    ensures alike { (write : AtomOf → AtomOf) (lines others : List LineOf) → KeepsAtomMatches write → AreAllRunasDefaultsAlike write lines others
+        → (request : RequestOf) (rows others_rows : List PrivilegeRow) (answer : Option AnswerOf) → IsPointwiseRelated (AreRowsAlikeButNumbers write lines others) rows others_rows
+        → IsAnswerOfRows lines request rows answer → (other : Option AnswerOf) × IsAnswerOfRows others request others_rows other × AreAnswersSameButNumbers answer other }
+    ensures equal { (write : AtomOf → AtomOf) (lines others : List LineOf) → KeepsAtomMatches write → AreAllRunasDefaultsAlike write lines others
+        → (request : RequestOf) (rows others_rows : List PrivilegeRow) (answer : Option AnswerOf) → IsPointwiseRelated (AreRowsAlikeWithNumbers write lines others) rows others_rows
+        → IsAnswerOfRows lines request rows answer → IsAnswerOfRows others request others_rows answer }
 {
     alike_lists_say_same();
 }
 
 /// Policies whose user specifications say the same, command by command, answer the same, numbers included.
 pub fn equal_specs_answer_same()
-    ensures { (write : AtomOf → AtomOf) (lines others : List LineOf) → MatchesSame write → AreDefaultsAlike write lines others
-        → AllAlike (AreSpecsEqual write lines others) (specs_of lines) (specs_of others) → (request : RequestOf) (answer : Option AnswerOf)
-        → IsAnswer lines request answer ↔ IsAnswer others request answer }
+    ensures { (write : AtomOf → AtomOf) (lines others : List LineOf) → KeepsAtomMatches write → AreAllRunasDefaultsAlike write lines others
+        → IsPointwiseRelated (AreUserSpecsAlike write lines others) (user_specs_of_lines lines) (user_specs_of_lines others) → (request : RequestOf) (answer : Option AnswerOf)
+        → IsAnswerToRequest lines request answer ↔ IsAnswerToRequest others request answer }
 {
     alike_lists_say_same();
 }
@@ -96,13 +96,13 @@ pub fn equal_specs_answer_same()
 /// Definitions to which no chain of mentions leads change no answer, so a policy answers the same without them. A user has the same
 /// runas_default, and rules at the same places. A reachable alias is cyclic in both policies, or in neither.
 pub fn unreachable_definitions_change_no_answer()
-    ensures answer { (lines others : List LineOf) → KeepsReachable lines others → (request : RequestOf) (answer : Option AnswerOf)
-        → IsAnswer lines request answer ↔ IsAnswer others request answer }
-    ensures default { (lines others : List LineOf) → KeepsReachable lines others → (who : WhoOf) (name : List ℕ)
+    ensures answer { (lines others : List LineOf) → KeepsReachableAliases lines others → (request : RequestOf) (answer : Option AnswerOf)
+        → IsAnswerToRequest lines request answer ↔ IsAnswerToRequest others request answer }
+    ensures default { (lines others : List LineOf) → KeepsReachableAliases lines others → (who : WhoOf) (name : List ℕ)
         → IsRunasDefault lines who name ↔ IsRunasDefault others who name }
-    ensures groups { (lines others : List LineOf) → KeepsReachable lines others → (who : WhoOf) (places : List GroupPlaceOf)
-        → AreHostGroups lines who places ↔ AreHostGroups others who places }
-    ensures cycle { (lines others : List LineOf) → KeepsReachable lines others → IsWalk lines → IsWalk others
+    ensures groups { (lines others : List LineOf) → KeepsReachableAliases lines others → (who : WhoOf) (places : List GroupPlaceOf)
+        → AreMatchingHostGroups lines who places ↔ AreMatchingHostGroups others who places }
+    ensures cycle { (lines others : List LineOf) → KeepsReachableAliases lines others → AreValidWalkLines lines → AreValidWalkLines others
         → HasReachableCycle lines ↔ HasReachableCycle others }
 {
     alike_lists_say_same();

@@ -2,29 +2,30 @@
 #![tactic(auto)]
 
 mod allowing;
+mod answer_of_row;
 mod answering;
-mod defaults;
-mod groups;
-mod head;
+mod command_settings;
 pub mod laws;
-mod moment;
+mod matching_host_groups;
 mod options;
-mod question;
-mod request;
-mod rules;
+mod request_verdicts;
+mod request_words;
+mod runas_default_user;
 mod tags;
+mod time_bounds;
 
-pub use answering::{answer, find_answer, find_row};
-pub use defaults::{find_default, runas_default};
-pub use groups::{GroupPlace, find_host_groups, host_groups};
-pub use head::Head;
-pub use options::Options;
-pub use request::{join_command, join_words};
-pub use rules::{Answer, Found};
+pub use answer_of_row::{Answer, AnswerWithCommand};
+pub use answering::{answer, find_answer, find_answer_without_args_limit};
+pub use command_settings::CommandSettings;
+pub use matching_host_groups::{HostGroupPlace, find_matching_host_groups, host_groups};
+pub use options::CommandOptions;
+pub use request_words::{join_words, make_joined_command_line};
+pub use runas_default_user::{find_runas_default_for, runas_default};
 pub use sudoers_match_list::{
-    AskFault, Commands, Decision, Groups, Hit, Hosts, MemberKind, Users, Verdict, decide,
+    AskFault, CommandListKind, HostListKind, ListDecision, MemberHit, MemberKind,
+    RunasGroupListKind, UserListKind, Verdict, decide,
 };
 pub use sudoers_match_member::{
     CommandLine, GlobMode, Group, Interface, Person, Request, Who, glob, network_hits,
 };
-pub use tags::Tags;
+pub use tags::CommandTags;

@@ -1,16 +1,16 @@
 //! The options of a command.
 
 ghost use Rattle.std.specs.Prelude.{◌≡◌, ◌++◌, ℕ, List, []};
-ghost use Rattle.sudoers_line.specs.declared.node.OptionName.{OptionName as NameOf};
-ghost use Rattle.sudoers_line_rows.specs.View.{options_shown};
-ghost use Rattle.sudoers_match.specs.Values.{values_of, values_shown, set_value};
+ghost use Rattle.sudoers_grammar.specs.declared.node.OptionName.{OptionName as NameOf};
+ghost use Rattle.sudoers_line_rows.specs.View.{options_of_view};
+ghost use Rattle.sudoers_match.specs.Values.{final_values_of_options, option_values_of_view, values_with_option_set};
 
-use sudoers_line::OptionName;
-use sudoers_line_rows::{OptionRow, Rows};
+use sudoers_grammar::OptionName;
+use sudoers_line_rows::{OptionRow, RowsOfTable};
 
 /// The options of a command: the value of each, if it is set (sudoers(5), Option_Spec).
 #[derive(Clone, Copy, Debug)]
-pub struct Options<'a> {
+pub struct CommandOptions<'a> {
     pub role: Option<&'a [u8]>,
     pub kind: Option<&'a [u8]>,
     pub apparmor_profile: Option<&'a [u8]>,
@@ -23,12 +23,12 @@ pub struct Options<'a> {
     pub chroot: Option<&'a [u8]>,
 }
 
-impl<'a> Options<'a> {
+impl<'a> CommandOptions<'a> {
     /// Returns the options of which none is set.
-    pub fn none() -> Options<'a>
-        ensures { values_shown result ≡ values_of [] }
+    pub fn make_unset_options() -> CommandOptions<'a>
+        ensures { option_values_of_view result ≡ final_values_of_options [] }
     {
-        Options {
+        CommandOptions {
             role: None,
             kind: None,
             apparmor_profile: None,
@@ -44,7 +44,7 @@ impl<'a> Options<'a> {
 
     /// Sets an option.
     fn set(&mut self, name: OptionName, value: &'a [u8])
-        ensures { values_shown self.new ≡ set_value name value.now (values_shown self.old) }
+        ensures { option_values_of_view self.new ≡ values_with_option_set name value.now (option_values_of_view self.old) }
     {
         match name {
             OptionName::Role => self.role = Some(value),
@@ -61,12 +61,12 @@ impl<'a> Options<'a> {
     }
 
     /// Sets the options of a command.
-    pub fn set_all(&mut self, options: &Rows<'a, OptionRow>)
-        ensures { (before : List (NameOf × List ℕ)) → values_shown self.old ≡ values_of before → values_shown self.new ≡ values_of (before ++ options_shown options.now) }
+    pub fn set_all(&mut self, options: &RowsOfTable<'a, OptionRow>)
+        ensures { (before : List (NameOf × List ℕ)) → option_values_of_view self.old ≡ final_values_of_options before → option_values_of_view self.new ≡ final_values_of_options (before ++ options_of_view options.now) }
     {
         let tables = options.tables;
         for row in options.rows {
-            self.set(row.name, tables.text(row.value));
+            self.set(row.name, tables.bytes_of_text_row(row.value));
         }
     }
 }

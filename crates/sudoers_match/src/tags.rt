@@ -1,16 +1,16 @@
 //! The tags of a command.
 
 ghost use Rattle.std.specs.Prelude.{◌≡◌, ◌++◌, ◌∷◌, [], Bool, List};
-ghost use Rattle.sudoers_line.specs.declared.node.Tag.{Tag as TagOf};
-ghost use Rattle.sudoers_line_rows.specs.View.{tags_shown};
-ghost use Rattle.sudoers_match.specs.Heads.{tags_of, set_tag};
+ghost use Rattle.sudoers_grammar.specs.declared.node.Tag.{Tag as TagOf};
+ghost use Rattle.sudoers_line_rows.specs.View.{tags_of_view};
+ghost use Rattle.sudoers_match.specs.Heads.{final_tags_of, tags_with_tag_set};
 
-use sudoers_line::Tag;
-use sudoers_line_rows::{Rows, TagRow};
+use sudoers_grammar::Tag;
+use sudoers_line_rows::{RowsOfTable, TagRow};
 
 /// The tags of a command: each with whether it stands without `NO`, if it stands (sudoers(5), Tag_Spec).
 #[derive(Clone, Copy, Debug, PartialEq, Eq)]
-pub struct Tags {
+pub struct CommandTags {
     pub exec: Option<bool>,
     pub follow: Option<bool>,
     pub intercept: Option<bool>,
@@ -21,12 +21,12 @@ pub struct Tags {
     pub setenv: Option<bool>,
 }
 
-impl Tags {
+impl CommandTags {
     /// Returns the tags of which none stands.
-    pub fn none() -> Tags
-        ensures { result ≡ tags_of [] }
+    pub fn make_unset_tags() -> CommandTags
+        ensures { result ≡ final_tags_of [] }
     {
-        Tags {
+        CommandTags {
             exec: None,
             follow: None,
             intercept: None,
@@ -40,7 +40,7 @@ impl Tags {
 
     /// Sets a tag.
     fn set(&mut self, tag: Tag, on: bool)
-        ensures { self.new ≡ set_tag tag on self.old }
+        ensures { self.new ≡ tags_with_tag_set tag on self.old }
     {
         match tag {
             Tag::Exec => self.exec = Some(on),
@@ -55,8 +55,8 @@ impl Tags {
     }
 
     /// Sets the tags of a command.
-    pub fn set_all(&mut self, tags: &Rows<'_, TagRow>)
-        ensures { (before : List (TagOf × Bool)) → self.old ≡ tags_of before → self.new ≡ tags_of (before ++ tags_shown tags.now) }
+    pub fn set_all(&mut self, tags: &RowsOfTable<'_, TagRow>)
+        ensures { (before : List (TagOf × Bool)) → self.old ≡ final_tags_of before → self.new ≡ final_tags_of (before ++ tags_of_view tags.now) }
     {
         for row in tags.rows {
             self.set(row.tag, row.on);

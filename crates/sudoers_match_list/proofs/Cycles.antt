@@ -1,26 +1,17 @@
 -- Chains of aliases, and that there is no flat list of a list that leads to a cyclic one.
-use Rattle.std.proofs.Common.{◌≡◌, ◌⊎◌, inl, inr, ℕ, List, [], ◌∷◌, ◌++◌, Some, None, refl, sym, ap, subst}
-use Rattle.std.specs.List.{cons_option}
-use Rattle.sudoers_line.specs.declared.node.Kind.{Kind}
-use Rattle.sudoers_line.specs.declared.node.Atom.{Atom}
-use Rattle.sudoers_line.specs.declared.node.Atom.TheVariants as atom
-use Rattle.sudoers_line.specs.Node.{Member}
-use Rattle.sudoers_tree.specs.Line.{Line}
-use Rattle.sudoers_tree.specs.Definition.{definitions}
-use Rattle.sudoers_check.specs.Chain.{Has, Chain, here, onward}
-use Rattle.sudoers_check.specs.Chains.{name_in, names_in}
-use Rattle.sudoers_check.specs.Numbers.{numbers_of}
-use Rattle.sudoers_match_list.specs.Flat.{Signed, IsFlat, none, one, many}
-use Rattle.sudoers_match_list.specs.Search.{number_in, aliases_in, Leads, FindsItself, LeadsRound, Path}
+use Rattle.sudoers_match_list.proofs.Common.{Atom, HasAliasAsMember, IsAliasCyclic, IsFlatListOf, IsReachedBySteps, Kind, LeadsToAliasInSteps, Line, List, ListHasElement, ListLeadsToAliasCycle, Member, None}
+use Rattle.sudoers_match_list.proofs.Common.{SignedAtom, Some, [], alias_names_among_members, alias_names_of_atom, alias_number_of_atom, alias_numbers_in_list, ap, cons_option, definitions_of_lines, here, inl, inr}
+use Rattle.sudoers_match_list.proofs.Common.{many, none, numbers_of_defined_names, one, onward, refl, subst, sym, ℕ, ◌++◌, ◌∷◌, ◌≡◌, ◌⊎◌}
+use Rattle.sudoers_grammar.specs.declared.node.Atom.TheVariants as atom
 use Rattle.sudoers_match_list.proofs.Numbered.{none_number, some_number}
 
 module _ (kd : Kind) (lines : List Line) where
   -- the aliases of a list with a member more at its front
-  pub front_none : (m : Member) (ms : List Member) → number_in kd lines m.atom ≡ None → aliases_in kd lines (m ∷ ms) ≡ aliases_in kd lines ms
+  pub front_none : (m : Member) (ms : List Member) → alias_number_of_atom kd lines m.atom ≡ None → alias_numbers_in_list kd lines (m ∷ ms) ≡ alias_numbers_in_list kd lines ms
   front_none m ms e = by m.atom e
     where
-      by : (a : Atom) → number_in kd lines a ≡ None → numbers_of kd (name_in a ++ names_in ms) (definitions lines) ≡ aliases_in kd lines ms
-      by (atom.Alias name) e = ap (λ o. cons_option o (aliases_in kd lines ms)) e
+      by : (a : Atom) → alias_number_of_atom kd lines a ≡ None → numbers_of_defined_names kd (alias_names_of_atom a ++ alias_names_among_members ms) (definitions_of_lines lines) ≡ alias_numbers_in_list kd lines ms
+      by (atom.Alias name) e = ap (λ o. cons_option o (alias_numbers_in_list kd lines ms)) e
       by atom.All e = refl
       by (atom.Name name) e = refl
       by (atom.Id i) e = refl
@@ -35,11 +26,11 @@ module _ (kd : Kind) (lines : List Line) where
       by (atom.Path p a) e = refl
       by (atom.Sudoedit a) e = refl
 
-  pub front_some : (m : Member) (ms : List Member) (k : ℕ) → number_in kd lines m.atom ≡ Some k → aliases_in kd lines (m ∷ ms) ≡ k ∷ aliases_in kd lines ms
+  pub front_some : (m : Member) (ms : List Member) (k : ℕ) → alias_number_of_atom kd lines m.atom ≡ Some k → alias_numbers_in_list kd lines (m ∷ ms) ≡ k ∷ alias_numbers_in_list kd lines ms
   front_some m ms k e = by m.atom e
     where
-      by : (a : Atom) → number_in kd lines a ≡ Some k → numbers_of kd (name_in a ++ names_in ms) (definitions lines) ≡ k ∷ aliases_in kd lines ms
-      by (atom.Alias name) e = ap (λ o. cons_option o (aliases_in kd lines ms)) e
+      by : (a : Atom) → alias_number_of_atom kd lines a ≡ Some k → numbers_of_defined_names kd (alias_names_of_atom a ++ alias_names_among_members ms) (definitions_of_lines lines) ≡ k ∷ alias_numbers_in_list kd lines ms
+      by (atom.Alias name) e = ap (λ o. cons_option o (alias_numbers_in_list kd lines ms)) e
       by atom.All e = absurd cc
       by (atom.Name name) e = absurd cc
       by (atom.Id i) e = absurd cc
@@ -55,14 +46,14 @@ module _ (kd : Kind) (lines : List Line) where
       by (atom.Sudoedit a) e = absurd cc
 
   abbrev From : List ℕ → ℕ → Type 0
-  From ks = Chain (Leads kd lines) (Has ks)
+  From ks = IsReachedBySteps (HasAliasAsMember kd lines) (ListHasElement ks)
 
   -- a chain from several comes from the first or from the others
-  first_or_others : (k : ℕ) (ks : List ℕ) (x : ℕ) → From (k ∷ ks) x → (k ≡ x) ⊎ (Chain (Leads kd lines) (Leads kd lines k) x ⊎ From ks x)
+  first_or_others : (k : ℕ) (ks : List ℕ) (x : ℕ) → From (k ∷ ks) x → (k ≡ x) ⊎ (IsReachedBySteps (HasAliasAsMember kd lines) (HasAliasAsMember kd lines k) x ⊎ From ks x)
   first_or_others k ks x (here y (inl e)) = inl e
   first_or_others k ks x (here y (inr h)) = inr (inr (here y h))
   first_or_others k ks x (onward y z c s) = elim (first_or_others k ks y c) [
-    | inl e ↦ inr (inl (here z (subst (λ u. Leads kd lines u z) (sym e) s)))
+    | inl e ↦ inr (inl (here z (subst (λ u. HasAliasAsMember kd lines u z) (sym e) s)))
     | inr h ↦ elim h [ inl d ↦ inr (inl (onward y z d s)) | inr d ↦ inr (inr (onward y z d s)) ]
   ]
 
@@ -71,36 +62,36 @@ module _ (kd : Kind) (lines : List Line) where
   no_chain x (onward y z c s) = no_chain y c
 
   -- Nothing that a list with a flat list leads to is cyclic.
-  pub none_cyclic : (ms : List Member) (fs : List Signed) → IsFlat kd lines ms fs → (x : ℕ) → From (aliases_in kd lines ms) x → FindsItself kd lines x → ⊥
+  pub none_cyclic : (ms : List Member) (fs : List SignedAtom) → IsFlatListOf kd lines ms fs → (x : ℕ) → From (alias_numbers_in_list kd lines ms) x → IsAliasCyclic kd lines x → ⊥
   none_cyclic ms fs none x c cyclic = no_chain x c
   none_cyclic ms fs (one m rest more e f) x c cyclic =
       none_cyclic rest more f x (subst (λ ks. From ks x) (front_none m rest (none_number kd lines m.atom e)) c) cyclic
   none_cyclic ms fs (many m rest members inner more e i f) x c cyclic =
       let number = some_number kd lines m.atom members e in
       let k = number.0 in
-      elim (first_or_others k (aliases_in kd lines rest) x (subst (λ ks. From ks x) (front_some m rest k number.1) c)) [
-        | inl same ↦ none_cyclic members inner i x (subst (λ xs. From (aliases_in kd lines xs) x) (sym number.2) (subst (λ u. Chain (Leads kd lines) (Leads kd lines u) x) (sym same) cyclic)) cyclic
+      elim (first_or_others k (alias_numbers_in_list kd lines rest) x (subst (λ ks. From ks x) (front_some m rest k number.1) c)) [
+        | inl same ↦ none_cyclic members inner i x (subst (λ xs. From (alias_numbers_in_list kd lines xs) x) (sym number.2) (subst (λ u. IsReachedBySteps (HasAliasAsMember kd lines) (HasAliasAsMember kd lines u) x) (sym same) cyclic)) cyclic
         | inr h ↦ elim h [
-          | inl d ↦ none_cyclic members inner i x (subst (λ xs. From (aliases_in kd lines xs) x) (sym number.2) d) cyclic
+          | inl d ↦ none_cyclic members inner i x (subst (λ xs. From (alias_numbers_in_list kd lines xs) x) (sym number.2) d) cyclic
           | inr d ↦ none_cyclic rest more f x d cyclic
         ]
       ]
 
-  pub not_to_cycle : (ms : List Member) (fs : List Signed) → IsFlat kd lines ms fs → LeadsRound kd lines ms → ⊥
+  pub not_to_cycle : (ms : List Member) (fs : List SignedAtom) → IsFlatListOf kd lines ms fs → ListLeadsToAliasCycle kd lines ms → ⊥
   not_to_cycle ms fs f l = none_cyclic ms fs f l.alias l.reached l.cyclic
 
   -- ---- ways
 
-  pub path_on : (P : ℕ → Type 0) (v w : ℕ) → Chain (Leads kd lines) P v → Path kd lines v w → Chain (Leads kd lines) P w
-  path_on P v w c (here x e) = subst (Chain (Leads kd lines) P) e c
+  pub path_on : (P : ℕ → Type 0) (v w : ℕ) → IsReachedBySteps (HasAliasAsMember kd lines) P v → LeadsToAliasInSteps kd lines v w → IsReachedBySteps (HasAliasAsMember kd lines) P w
+  path_on P v w c (here x e) = subst (IsReachedBySteps (HasAliasAsMember kd lines) P) e c
   path_on P v w c (onward x y p s) = onward x y (path_on P v x c p) s
 
-  pub from_path : (P : ℕ → Type 0) (v w : ℕ) → P v → Path kd lines v w → Chain (Leads kd lines) P w
+  pub from_path : (P : ℕ → Type 0) (v w : ℕ) → P v → LeadsToAliasInSteps kd lines v w → IsReachedBySteps (HasAliasAsMember kd lines) P w
   from_path P v w p c = path_on P v w (here v p) c
 
-  pub same_path : (v : ℕ) → Path kd lines v v
+  pub same_path : (v : ℕ) → LeadsToAliasInSteps kd lines v v
   same_path v = here v refl
 
   -- a way to an alias that leads back closes a cycle
-  pub closes : (v w : ℕ) → Path kd lines v w → Leads kd lines w v → FindsItself kd lines w
-  closes v w p s = from_path (Leads kd lines w) v w s p
+  pub closes : (v w : ℕ) → LeadsToAliasInSteps kd lines v w → HasAliasAsMember kd lines w v → IsAliasCyclic kd lines w
+  closes v w p s = from_path (HasAliasAsMember kd lines w) v w s p

@@ -1,3 +1,4 @@
+mod Common
 pub mod Places
 pub mod Numbered
 pub mod Flats
@@ -16,3 +17,7 @@ pub mod Straight
 pub mod Roots
 pub mod Defined
 pub mod Known
+pub mod Appended
+pub mod Parts
+pub mod Shortened
+pub mod DefinitionLines

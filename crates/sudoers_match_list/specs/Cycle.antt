@@ -1,16 +1,16 @@
 -- Lists that lead to aliases which are joined to themselves.
 use Rattle.std.specs.Prelude.{◌≡◌, List}
-use Rattle.sudoers_line.specs.declared.node.Kind.{Kind}
-use Rattle.sudoers_line.specs.Node.{Member}
+use Rattle.sudoers_grammar.specs.declared.node.Kind.{Kind}
+use Rattle.sudoers_grammar.specs.Node.{Member}
 use Rattle.sudoers_tree.specs.Line.{Line}
-use Rattle.sudoers_tree.specs.Definition.{Definition, definitions}
-use Rattle.sudoers_check.specs.Chain.{Has, Chain}
-use Rattle.sudoers_check.specs.Chains.{names_in, Joins, IsCyclic}
+use Rattle.sudoers_tree.specs.Definition.{PlacedDefinition, definitions_of_lines}
+use Rattle.sudoers_check.specs.Chain.{ListHasElement, IsReachedBySteps}
+use Rattle.sudoers_check.specs.Chains.{alias_names_among_members, DefinitionMentionsName, IsCyclic}
 
 -- A chain of mentions leads from the list of this kind to a cyclic alias.
-pub record LeadsToCycle (k : Kind) (lines : List Line) (ms : List Member) : Type 0 where
-  pub alias : Definition
-  pub stands : Has (definitions lines) alias
+pub record ListLeadsToCyclicAlias (k : Kind) (lines : List Line) (ms : List Member) : Type 0 where
+  pub alias : PlacedDefinition
+  pub stands : ListHasElement (definitions_of_lines lines) alias
   pub of_kind : alias.kind ≡ k
-  pub reached : Chain (Joins k (definitions lines)) (Has (names_in ms)) alias.def.name
+  pub reached : IsReachedBySteps (DefinitionMentionsName k (definitions_of_lines lines)) (ListHasElement (alias_names_among_members ms)) alias.def.name
   pub cyclic : IsCyclic lines alias

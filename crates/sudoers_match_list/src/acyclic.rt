@@ -1,30 +1,30 @@
 //! Walks none of whose reachable aliases is cyclic.
 
 ghost use Rattle.std.specs.Prelude.{◌≡◌, ◌⊎◌, Bool, IfOk, IfErr};
-ghost use Rattle.sudoers_line.specs.declared.node.Atom.{Atom as AtomOf};
-ghost use Rattle.sudoers_line.specs.declared.node.Kind.{Kind as KindOf};
-ghost use Rattle.sudoers_tree.specs.Line.{lines_shown};
-ghost use Rattle.sudoers_tree.specs.Policy.{IsWalk};
+ghost use Rattle.sudoers_grammar.specs.declared.node.Atom.{Atom as AtomOf};
+ghost use Rattle.sudoers_grammar.specs.declared.node.Kind.{Kind as KindOf};
+ghost use Rattle.sudoers_tree.specs.Line.{lines_of_rows};
+ghost use Rattle.sudoers_tree.specs.Policy.{AreValidWalkLines};
 ghost use Rattle.sudoers_check.specs.Chains.{HasReachableCycle};
 ghost use Rattle.sudoers_match_list.specs.declared.verdict.AskFault.TheVariants.{Cycle, NoMemory};
-ghost use Rattle.sudoers_match_list.specs.Search.{Remembers};
+ghost use Rattle.sudoers_match_list.specs.Search.{IsValidVerdictCache};
 
-use crate::cycle::has_reachable_cycle;
+use crate::alias_cycles::has_reachable_cyclic_alias;
+use crate::alias_verdicts::AliasVerdictCache;
 use crate::verdict::AskFault;
-use crate::walk::Verdicts;
 use std::alloc::{AllocError, Global};
 use std::marker::Model;
-use sudoers_check::Numbers;
-use sudoers_tree::{LineRow, Rows, Walk};
+use sudoers_check::DefinitionNumbers;
+use sudoers_tree::{LineRow, RowsOfTable, Walk};
 
 /// The walk of a policy none of whose reachable aliases is cyclic, with the numbers of its definitions. Contracts see the list of its lines with
 /// what they say.
 #[derive(Drop)]
-pub struct Acyclic<'a> {
-    numbers: Numbers<'a>,
+pub struct AcyclicWalk<'a> {
+    numbers: DefinitionNumbers<'a>,
 }
 
-impl<'a> Model for Acyclic<'a> {
+impl<'a> Model for AcyclicWalk<'a> {
     ghost use Rattle.std.specs.Prelude.{List};
     ghost use Rattle.sudoers_tree.specs.Line.{Line};
     ghost use Rattle.sudoers_check.specs.Chains.{HasReachableCycle};
@@ -36,29 +36,30 @@ impl<'a> Model for Acyclic<'a> {
     ghost invariant = { λ acyclic. HasReachableCycle acyclic.numbers.walk → ⊥ };
 }
 
-impl<'a> Acyclic<'a> {
+impl<'a> AcyclicWalk<'a> {
     /// Returns `walk` with the numbers of its definitions, if none of its reachable aliases is cyclic.
     ///
     /// # Errors
     ///
     /// `Cycle`: a reachable alias is cyclic. `NoMemory`: memory ran out.
-    pub fn new(alloc: Global, walk: Walk<'a>) -> Result<Acyclic<'a>, AskFault>
+    pub fn new(alloc: Global, walk: Walk<'a>) -> Result<AcyclicWalk<'a>, AskFault>
         ensures walk { IfOk result (λ acyclic. acyclic ≡ walk.entry) }
         ensures straight { IfOk result (λ _. HasReachableCycle walk.entry → ⊥) }
         ensures fault { IfErr result (λ fault. (fault ≡ NoMemory) ⊎ ((fault ≡ Cycle) × HasReachableCycle walk.entry)) }
     {
-        let numbers = Numbers::new(alloc, walk)?;
-        if has_reachable_cycle(alloc, &numbers)? {
+        let numbers = DefinitionNumbers::new(alloc, walk)?;
+        if has_reachable_cyclic_alias(alloc, &numbers)? {
             return Err(AskFault::Cycle);
         }
-        Ok(Acyclic { numbers })
+        Ok(AcyclicWalk { numbers })
     }
 
     /// A law: the lines are a walk, and no reachable alias is cyclic.
     pub fn is_acyclic(&self)
-        ensures walk { IsWalk self.now }
+        ensures walk { AreValidWalkLines self.now }
         ensures straight { HasReachableCycle self.now → ⊥ }
     {
+        // laws
         self.numbers.walk.is_walk();
     }
 
@@ -70,15 +71,15 @@ impl<'a> Acyclic<'a> {
     }
 
     /// Returns the numbers of the definitions.
-    pub fn numbers(&self) -> &Numbers<'a>
+    pub fn definition_numbers(&self) -> &DefinitionNumbers<'a>
         ensures { result.now.walk ≡ self.now }
     {
         &self.numbers
     }
 
     /// Returns the lines with what they say.
-    pub fn lines(&self) -> Rows<'a, LineRow>
-        ensures { lines_shown result ≡ self.now }
+    pub fn lines(&self) -> RowsOfTable<'a, LineRow>
+        ensures { lines_of_rows result ≡ self.now }
     {
         self.numbers.walk.lines()
     }
@@ -88,9 +89,9 @@ impl<'a> Acyclic<'a> {
     /// # Errors
     ///
     /// Memory ran out.
-    pub fn verdicts(&self, alloc: Global) -> Result<Verdicts<'a>, AllocError>
-        ensures { IfOk result (λ verdicts. (kind : KindOf) (test : AtomOf → Bool) → Remembers kind self.now test verdicts) }
+    pub fn make_verdict_cache(&self, alloc: Global) -> Result<AliasVerdictCache<'a>, AllocError>
+        ensures { IfOk result (λ verdicts. (kind : KindOf) (test : AtomOf → Bool) → IsValidVerdictCache kind self.now test verdicts) }
     {
-        Verdicts::new(alloc, &self.numbers)
+        AliasVerdictCache::new(alloc, &self.numbers)
     }
 }

@@ -1,19 +1,19 @@
 //! Verdicts of lists.
 
 ghost use Rattle.std.specs.Prelude.{◌≡◌, ◌⊎◌, IfOk, IfErr};
-ghost use Rattle.sudoers_line_rows.specs.View.{members_shown};
+ghost use Rattle.sudoers_line_rows.specs.View.{members_of_view};
 ghost use Rattle.sudoers_check.specs.Chains.{HasReachableCycle};
 ghost use Rattle.sudoers_match_list.specs.declared.verdict.AskFault.TheVariants.{Cycle, NoMemory};
-ghost use Rattle.sudoers_match_list.specs.Flat.{IsVerdict};
-ghost use Rattle.sudoers_match_list.specs.Cycle.{LeadsToCycle};
+ghost use Rattle.sudoers_match_list.specs.Flat.{IsListVerdict};
+ghost use Rattle.sudoers_match_list.specs.Cycle.{ListLeadsToCyclicAlias};
 
-use crate::cycle::has_reachable_cycle;
+use crate::alias_cycles::has_reachable_cyclic_alias;
+use crate::alias_verdicts::AliasVerdictCache;
 use crate::kind::MemberKind;
-use crate::verdict::{AskFault, Decision, Verdict};
-use crate::walk::Verdicts;
+use crate::verdict::{AskFault, ListDecision, Verdict};
 use std::alloc::Global;
-use sudoers_check::Numbers;
-use sudoers_tree::{Kind, MemberRow, Policy, Rows};
+use sudoers_check::DefinitionNumbers;
+use sudoers_tree::{Kind, MemberRow, Policy, RowsOfTable};
 
 /// Returns what the list `members` of this kind says of `asked` (sudoers(5), Aliases).
 ///
@@ -25,23 +25,23 @@ pub fn decide<K: MemberKind>(
     alloc: Global,
     policy: &Policy,
     kind: Kind,
-    members: &Rows<'_, MemberRow>,
+    members: &RowsOfTable<'_, MemberRow>,
     asked: &K::Asked,
 ) -> Result<Verdict, AskFault>
-    ensures verdict { IfOk result (λ verdict. IsVerdict kind policy.now.walk.lines (K.test asked.now) (members_shown members.now) verdict) }
-    ensures straight { IfOk result (λ verdict. (HasReachableCycle policy.now.walk.lines ⊎ LeadsToCycle kind policy.now.walk.lines (members_shown members.now)) → ⊥) }
+    ensures verdict { IfOk result (λ verdict. IsListVerdict kind policy.now.walk.lines (K.test asked.now) (members_of_view members.now) verdict) }
+    ensures straight { IfOk result (λ verdict. (HasReachableCycle policy.now.walk.lines ⊎ ListLeadsToCyclicAlias kind policy.now.walk.lines (members_of_view members.now)) → ⊥) }
     ensures fault { IfErr result (λ fault. (fault ≡ NoMemory)
-        ⊎ ((fault ≡ Cycle) × (HasReachableCycle policy.now.walk.lines ⊎ LeadsToCycle kind policy.now.walk.lines (members_shown members.now)))) }
+        ⊎ ((fault ≡ Cycle) × (HasReachableCycle policy.now.walk.lines ⊎ ListLeadsToCyclicAlias kind policy.now.walk.lines (members_of_view members.now)))) }
 {
     // laws
     policy.walk().is_walk();
-    let numbers = Numbers::new(alloc, policy.walk())?;
-    if has_reachable_cycle(alloc, &numbers)? {
+    let numbers = DefinitionNumbers::new(alloc, policy.walk())?;
+    if has_reachable_cyclic_alias(alloc, &numbers)? {
         return Err(AskFault::Cycle);
     }
-    let mut verdicts = Verdicts::new(alloc, &numbers)?;
-    match verdicts.latest::<K>(&numbers, kind, members, asked)? {
-        Decision::Latest(hit) => Ok(Verdict::of(hit)),
-        Decision::Cyclic => Err(AskFault::Cycle),
+    let mut verdicts = AliasVerdictCache::new(alloc, &numbers)?;
+    match verdicts.find_last_hit::<K>(&numbers, kind, members, asked)? {
+        ListDecision::Latest(hit) => Ok(Verdict::from_last_hit(hit)),
+        ListDecision::Cyclic => Err(AskFault::Cycle),
     }
 }

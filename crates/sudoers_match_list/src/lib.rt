@@ -2,19 +2,28 @@
 #![tactic(auto)]
 
 mod acyclic;
-mod alias;
-mod cycle;
+mod alias_cycles;
+mod alias_shortcuts;
+mod alias_verdicts;
 mod deciding;
+mod definition_rows;
+mod expansion_source;
+mod fault;
+mod flatten;
 mod kind;
-mod kinds;
 pub mod laws;
+mod list_kinds;
+mod numbered_alias;
 mod verdict;
-mod walk;
 
-pub use acyclic::Acyclic;
-pub use cycle::reachable_cycle;
+pub use acyclic::AcyclicWalk;
+pub use alias_cycles::has_reachable_cycle_in_policy;
+pub use alias_verdicts::AliasVerdictCache;
 pub use deciding::decide;
+pub use definition_rows::DefinitionRow;
+pub use expansion_source::ExpansionSource;
+pub use fault::FlattenFault;
+pub use flatten::{MEMBER_LIMIT, flatten_member_list};
 pub use kind::MemberKind;
-pub use kinds::{Commands, Groups, Hosts, Users};
-pub use verdict::{AskFault, Decision, Hit, Verdict};
-pub use walk::Verdicts;
+pub use list_kinds::{CommandListKind, HostListKind, RunasGroupListKind, UserListKind};
+pub use verdict::{AskFault, ListDecision, MemberHit, Verdict};

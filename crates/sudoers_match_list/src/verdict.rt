@@ -1,7 +1,7 @@
 //! What lists say.
 
 ghost use Rattle.std.specs.Prelude.{◌≡◌};
-ghost use Rattle.sudoers_match_list.specs.Flat.{verdict_of, later, turned};
+ghost use Rattle.sudoers_match_list.specs.Flat.{verdict_of_hit, later_hit_if_any, hit_under_negation};
 
 use std::alloc::{AllocError, AllocFailed};
 
@@ -16,16 +16,16 @@ pub enum Verdict {
 
 /// What a matching member says, and whether the member is `ALL`.
 #[derive(Clone, Copy, Debug)]
-pub struct Hit {
+pub struct MemberHit {
     pub allow: bool,
     pub by_all: bool,
 }
 
 /// What is found of a list.
 #[derive(Clone, Copy, Debug)]
-pub enum Decision {
+pub enum ListDecision {
     /// What the last matching member says, if one matches.
-    Latest(Option<Hit>),
+    Latest(Option<MemberHit>),
     /// The list leads to a cyclic alias.
     Cyclic,
 }
@@ -54,8 +54,8 @@ impl From<AllocError> for AskFault {
 
 impl Verdict {
     /// Returns the verdict of a list whose last matching member says `hit`.
-    pub fn of(hit: Option<Hit>) -> Verdict
-        ensures { result ≡ verdict_of hit }
+    pub fn from_last_hit(hit: Option<MemberHit>) -> Verdict
+        ensures { result ≡ verdict_of_hit hit }
     {
         match hit {
             Some(hit) if hit.allow => Verdict::Allow,
@@ -66,8 +66,8 @@ impl Verdict {
 }
 
 /// Returns the later one, if it is one.
-pub fn later(before: Option<Hit>, hit: Option<Hit>) -> Option<Hit>
-    ensures { result ≡ later before hit }
+pub fn choose_later_hit(before: Option<MemberHit>, hit: Option<MemberHit>) -> Option<MemberHit>
+    ensures { result ≡ later_hit_if_any before hit }
 {
     match hit {
         Some(hit) => Some(hit),
@@ -76,11 +76,11 @@ pub fn later(before: Option<Hit>, hit: Option<Hit>) -> Option<Hit>
 }
 
 /// Returns `hit`, turned round if an odd number of `!` stands before it.
-pub fn turned(negated: bool, hit: Option<Hit>) -> Option<Hit>
-    ensures { result ≡ turned negated hit }
+pub fn flip_hit_if_negated(negated: bool, hit: Option<MemberHit>) -> Option<MemberHit>
+    ensures { result ≡ hit_under_negation negated hit }
 {
     match hit {
-        Some(hit) => Some(Hit {
+        Some(hit) => Some(MemberHit {
             allow: if negated { !hit.allow } else { hit.allow },
             by_all: hit.by_all,
         }),

@@ -1,7 +1,7 @@
 -- The classes of bytes that a set can name, over ASCII.
 use Rattle.std.specs.Prelude.{ℕ, Bool, true, false, not, ◌&&◌, ◌||◌, ◌==◌, nat_le, List, [], ◌∷◌, Option, Some, None, if◌then◌else◌, codes}
-use Rattle.sudoers_match_member.specs.declared.class.Class.{Class}
-use Rattle.sudoers_match_member.specs.declared.class.Class.TheVariants.{Alnum, Alpha, Blank, Cntrl, Digit, Graph, Lower, Print, Punct, Space, Upper, Xdigit}
+use Rattle.sudoers_match_member.specs.declared.byte_classes.PosixByteClass.{PosixByteClass}
+use Rattle.sudoers_match_member.specs.declared.byte_classes.PosixByteClass.TheVariants.{Alnum, Alpha, Blank, Cntrl, Digit, Graph, Lower, Print, Punct, Space, Upper, Xdigit}
 
 abbrev pub is_between : ℕ → ℕ → ℕ → Bool
 is_between low high b = nat_le low b && nat_le b high
@@ -19,48 +19,48 @@ abbrev pub is_alnum : ℕ → Bool
 is_alnum b = is_digit b || (is_upper b || is_lower b)
 
 -- the byte is of the class
-abbrev pub is_of_class : Class → ℕ → Bool
-is_of_class Alnum b = is_alnum b
-is_of_class Alpha b = is_upper b || is_lower b
-is_of_class Blank b = (b == 32) || (b == 9)
-is_of_class Cntrl b = nat_le b 31 || (b == 127)
-is_of_class Digit b = is_digit b
-is_of_class Graph b = is_between 33 126 b
-is_of_class Lower b = is_lower b
-is_of_class Print b = is_between 32 126 b
-is_of_class Punct b = is_between 33 126 b && not (is_alnum b)
-is_of_class Space b = (b == 32) || is_between 9 13 b
-is_of_class Upper b = is_upper b
-is_of_class Xdigit b = is_digit b || (is_between 65 70 b || is_between 97 102 b)
+abbrev pub is_byte_of_class : PosixByteClass → ℕ → Bool
+is_byte_of_class Alnum b = is_alnum b
+is_byte_of_class Alpha b = is_upper b || is_lower b
+is_byte_of_class Blank b = (b == 32) || (b == 9)
+is_byte_of_class Cntrl b = nat_le b 31 || (b == 127)
+is_byte_of_class Digit b = is_digit b
+is_byte_of_class Graph b = is_between 33 126 b
+is_byte_of_class Lower b = is_lower b
+is_byte_of_class Print b = is_between 32 126 b
+is_byte_of_class Punct b = is_between 33 126 b && not (is_alnum b)
+is_byte_of_class Space b = (b == 32) || is_between 9 13 b
+is_byte_of_class Upper b = is_upper b
+is_byte_of_class Xdigit b = is_digit b || (is_between 65 70 b || is_between 97 102 b)
 
 -- how a set names the class
-abbrev pub name_of : Class → List ℕ
-name_of Alnum = codes "[:alnum:]"
-name_of Alpha = codes "[:alpha:]"
-name_of Blank = codes "[:blank:]"
-name_of Cntrl = codes "[:cntrl:]"
-name_of Digit = codes "[:digit:]"
-name_of Graph = codes "[:graph:]"
-name_of Lower = codes "[:lower:]"
-name_of Print = codes "[:print:]"
-name_of Punct = codes "[:punct:]"
-name_of Space = codes "[:space:]"
-name_of Upper = codes "[:upper:]"
-name_of Xdigit = codes "[:xdigit:]"
+abbrev pub class_name_of : PosixByteClass → List ℕ
+class_name_of Alnum = codes "[:alnum:]"
+class_name_of Alpha = codes "[:alpha:]"
+class_name_of Blank = codes "[:blank:]"
+class_name_of Cntrl = codes "[:cntrl:]"
+class_name_of Digit = codes "[:digit:]"
+class_name_of Graph = codes "[:graph:]"
+class_name_of Lower = codes "[:lower:]"
+class_name_of Print = codes "[:print:]"
+class_name_of Punct = codes "[:punct:]"
+class_name_of Space = codes "[:space:]"
+class_name_of Upper = codes "[:upper:]"
+class_name_of Xdigit = codes "[:xdigit:]"
 
 -- the bytes begin with the name
-abbrev pub begins_with : List ℕ → List ℕ → Bool
-begins_with bytes [] = true
-begins_with [] (c ∷ cs) = false
-begins_with (b ∷ bs) (c ∷ cs) = (b == c) && begins_with bs cs
+abbrev pub has_name_prefix : List ℕ → List ℕ → Bool
+has_name_prefix bytes [] = true
+has_name_prefix [] (c ∷ cs) = false
+has_name_prefix (b ∷ bs) (c ∷ cs) = (b == c) && has_name_prefix bs cs
 
 -- the first of the classes whose name begins the bytes
-abbrev pub first_named : List Class → List ℕ → Option Class
-first_named [] bytes = None
-first_named (k ∷ ks) bytes = if begins_with bytes (name_of k) then Some k else first_named ks bytes
+abbrev pub first_class_named_at : List PosixByteClass → List ℕ → Option PosixByteClass
+first_class_named_at [] bytes = None
+first_class_named_at (k ∷ ks) bytes = if has_name_prefix bytes (class_name_of k) then Some k else first_class_named_at ks bytes
 
-abbrev pub classes : List Class
-classes = Alnum ∷ Alpha ∷ Blank ∷ Cntrl ∷ Digit ∷ Graph ∷ Lower ∷ Print ∷ Punct ∷ Space ∷ Upper ∷ Xdigit ∷ []
+abbrev pub all_posix_classes : List PosixByteClass
+all_posix_classes = Alnum ∷ Alpha ∷ Blank ∷ Cntrl ∷ Digit ∷ Graph ∷ Lower ∷ Print ∷ Punct ∷ Space ∷ Upper ∷ Xdigit ∷ []
 
-unfoldable pub class_at : List ℕ → Option Class
-class_at bytes = first_named classes bytes
+unfoldable pub class_named_at : List ℕ → Option PosixByteClass
+class_named_at bytes = first_class_named_at all_posix_classes bytes

@@ -1,21 +1,24 @@
 //! What matches a member of a list: names, numbers, networks, and patterns with wildcards.
 #![tactic(auto)]
 
-mod asked;
-mod class;
-mod front;
-mod hits;
-mod known;
+mod atom_matches;
+mod byte_classes;
+mod byte_sets;
 pub mod laws;
-mod moment;
 mod network;
+mod pattern_front;
+mod people_and_commands;
 mod request;
-mod set;
+mod set_cache;
+mod time_stamp;
 mod wildcards;
 
-pub use asked::{CommandLine, Group, Person, Who};
-pub use hits::{belongs_to_number, command_hits, group_hits, host_hits, is_same_name, user_hits};
-pub use moment::stamp_number;
+pub use atom_matches::{
+    belongs_to_group_number, is_same_name_ignoring_case, matches_command_atom, matches_host_atom,
+    matches_runas_group_atom, matches_user_atom,
+};
 pub use network::{Interface, network_hits};
+pub use people_and_commands::{CommandLine, Group, Person, Who};
 pub use request::Request;
-pub use wildcards::{GlobMode, glob, glob_as_read};
+pub use time_stamp::read_stamp_number;
+pub use wildcards::{GlobMode, glob, matches_glob_folding_case};

@@ -1,7 +1,7 @@
 //! What is asked.
 
-use crate::asked::{Group, Person, Who};
-use sudoers_line::Items;
+use crate::people_and_commands::{Group, Person, Who};
+use sudoers_grammar::Items;
 
 /// What a user asks for: to run a command as another user, at a moment.
 #[derive(Drop)]

@@ -1,32 +1,22 @@
 -- What is shown of the files of a policy.
-use Rattle.std.proofs.Common.{◌≡◌, ◌<◌, ◌≤◌, ◌+◌, ℕ, List, [], ◌∷◌, ◌++◌, length, drop, slice_get, Some, refl, ap, ◌∙◌, arith}
-use Rattle.sudoers_tree.specs.Files.{FileReading, lines_in, lines_of, name_in, name_of}
-use Rattle.sudoers_tree.proofs.Numbered.{drop_at, item_at}
-use Rattle.sudoers_run.specs.Shown.{file_head, shown, shown_file, shown_files, shown_lines}
-
-pub few_files : (files : List FileReading) → length files < 2 → shown_lines (lines_of files 0) ≡ shown files
-few_files [] few = refl
-few_files (file ∷ []) few = refl
-few_files (file ∷ other ∷ files) few = absurd (omega (arith, few))
-
-pub many_files : (files : List FileReading) → 2 ≤ length files → shown_files 1 files ≡ shown files
-many_files [] many = absurd (omega (arith, many))
-many_files (file ∷ []) many = absurd (omega (arith, many))
-many_files (file ∷ other ∷ files) many = refl
+use Rattle.std.proofs.Common.{◌≡◌, ◌<◌, ◌+◌, ℕ, List, ◌++◌, length, drop, slice_get, Some, ap, ◌∙◌}
+use Rattle.sudoers_tree.specs.Files.{ParsedFile, lines_of_optional_file, lines_of_numbered_file, name_of_optional_file, name_of_numbered_file}
+use Rattle.sudoers_tree.proofs.Numbered.{drop_begins_with_numbered_item, item_below_length_exists}
+use Rattle.sudoers_run.specs.Shown.{file_heading_text, shown_file_with_heading, shown_files_with_headings, shown_lines_of_file}
 
 -- a file with its number, from 0, and its name
-abbrev pub head_of : List FileReading → ℕ → List ℕ
-head_of files n = file_head (n + 1) (name_of files n)
+abbrev pub heading_of_numbered_file : List ParsedFile → ℕ → List ℕ
+heading_of_numbered_file files n = file_heading_text (n + 1) (name_of_numbered_file files n)
 
-file_shown : (files : List FileReading) (n : ℕ) (file : FileReading) → slice_get files n ≡ Some file → shown_file (n + 1) file ≡ head_of files n ++ shown_lines (lines_of files n)
-file_shown files n file at =
-    let name : name_of files n ≡ file.name = ap name_in at in
-    let lines : lines_of files n ≡ file.lines = ap lines_in at in
+shown_file_is_heading_and_lines : (files : List ParsedFile) (n : ℕ) (file : ParsedFile) → slice_get files n ≡ Some file → shown_file_with_heading (n + 1) file ≡ heading_of_numbered_file files n ++ shown_lines_of_file (lines_of_numbered_file files n)
+shown_file_is_heading_and_lines files n file at =
+    let name : name_of_numbered_file files n ≡ file.name = ap name_of_optional_file at in
+    let lines : lines_of_numbered_file files n ≡ file.lines = ap lines_of_optional_file at in
     cc
 
-pub file_by_file : (files : List FileReading) (n : ℕ) → n < length files
-    → shown_files (n + 1) (drop n files) ≡ (head_of files n ++ shown_lines (lines_of files n)) ++ shown_files (n + 1 + 1) (drop (n + 1) files)
-file_by_file files n less =
-    let at = item_at files n less in
-    ap (shown_files (n + 1)) (drop_at files n at.0 at.1)
-    ∙ ap (λ text. text ++ shown_files (n + 1 + 1) (drop (n + 1) files)) (file_shown files n at.0 at.1)
+pub shown_files_are_shown_one_by_one : (files : List ParsedFile) (n : ℕ) → n < length files
+    → shown_files_with_headings (n + 1) (drop n files) ≡ (heading_of_numbered_file files n ++ shown_lines_of_file (lines_of_numbered_file files n)) ++ shown_files_with_headings (n + 1 + 1) (drop (n + 1) files)
+shown_files_are_shown_one_by_one files n less =
+    let at = item_below_length_exists files n less in
+    ap (shown_files_with_headings (n + 1)) (drop_begins_with_numbered_item files n at.0 at.1)
+    ∙ ap (λ text. text ++ shown_files_with_headings (n + 1 + 1) (drop (n + 1) files)) (shown_file_is_heading_and_lines files n at.0 at.1)

@@ -3,88 +3,88 @@ use Rattle.std.specs.Prelude.{◌≡◌, ◌⊎◌, ◌&&◌, ◌||◌, nat_lt, 
 use Rattle.std.specs.Borrow.{Bor}
 use Rattle.std.specs.Option.{is_some, option_map}
 use Rattle.sudoers_tree.specs.Line.{Line}
-use Rattle.sudoers_tree.specs.declared.load.NamedFile.{NamedFile}
+use Rattle.sudoers_tree.specs.declared.named_files.NamedFile.{NamedFile}
 use Rattle.sudoers_tree.specs.declared.load_fault.LoadFault.{LoadFault}
-use Rattle.sudoers_tree.specs.Load.{Loaded}
+use Rattle.sudoers_tree.specs.Load.{LoadedPolicy}
 use Rattle.sudoers_cvt_rules.specs.declared.fault.CvtFault.{CvtFault}
 use Rattle.sudoers_cvt_rules.specs.declared.fault.CvtFault.TheVariants.{Cycle, TooLarge, NotUtf8}
-use Rattle.sudoers_cvt_rules.specs.Rules.{Rules, rules_of, fits, printed}
+use Rattle.sudoers_cvt_rules.specs.Rules.{Rules, rules_of_policy_lines, is_printed_within_limits, printed_rules}
 use Rattle.sudoers_cvt_rewrite.specs.declared.filter.Filter.{Filter}
 use Rattle.sudoers_cvt_rewrite.specs.declared.filter_text.FilterFault.{FilterFault}
-use Rattle.sudoers_cvt_rewrite.specs.FilterText.{filter_of}
-use Rattle.sudoers_cvt_rewrite.specs.Count.{member_limit}
-use Rattle.sudoers_cvt_rewrite.specs.Rewrite.{Changes, has_round, member_count, rewritten, used_rules}
-use Rattle.sudoers_cvt_json.specs.Value.{json_text, rules_value}
+use Rattle.sudoers_cvt_rewrite.specs.FilterText.{filter_read_from_text}
+use Rattle.sudoers_match_list.specs.Flattened.{expanded_member_limit}
+use Rattle.sudoers_cvt_rewrite.specs.Rewrite.{PolicyChanges, has_reachable_alias_cycle, member_count_of_rules, rewritten_lines_of_policy, rules_with_used_definitions}
+use Rattle.sudoers_cvt_json.specs.Value.{json_text_of_rules, rules_object_value}
 use Rattle.sudoers_cvt_json.specs.Unicode.{is_unicode}
-use Rattle.sudoers_run.specs.declared.form.Form.{Form}
-use Rattle.sudoers_run.specs.declared.form.Form.TheVariants as form
-use Rattle.sudoers_run.specs.declared.words.ConvertWords.{ConvertWords}
+use Rattle.sudoers_run.specs.declared.output_form.OutputForm.{OutputForm}
+use Rattle.sudoers_run.specs.declared.output_form.OutputForm.TheVariants as form
+use Rattle.sudoers_run.specs.declared.command_words.ConvertWords.{ConvertWords}
 use Rattle.sudoers_run.specs.declared.fault.LayerFault.{LayerFault}
 use Rattle.sudoers_run.specs.declared.fault.LayerFault.TheVariants as layer
 use Rattle.sudoers_run.specs.declared.fault.ToolFault.{ToolFault}
-use Rattle.sudoers_run.specs.Faults.{IsPairFault, WriteOr}
-use Rattle.sudoers_edit.specs.Memory.{IsOfFiles}
-use Rattle.sudoers_run.specs.Policy.{IsUnloaded, TellsFiles, of_files}
+use Rattle.sudoers_run.specs.Faults.{IsFilterFaultNotMemory, IsWriteFaultOr}
+use Rattle.sudoers_edit.specs.Memory.{IsMemoryFreeLoadFault}
+use Rattle.sudoers_run.specs.Policy.{IsFaultBeforeLoading, IsStatedOrOutsideFault, result_of_files_from_root}
 
 -- rules as the text of a policy, if it is within the limits; or as JSON, if all their texts are UTF-8
-abbrev pub converted : Form → Rules → Result (List ℕ) LayerFault
-converted form.Sudoers rules = if fits rules then Ok (printed rules) else Err (layer.Convert TooLarge)
-converted form.Json rules = if is_unicode (rules_value rules) then Ok (json_text rules) else Err (layer.Convert NotUtf8)
+abbrev pub rules_text_in_form : OutputForm → Rules → Result (List ℕ) LayerFault
+rules_text_in_form form.Sudoers rules = if is_printed_within_limits rules then Ok (printed_rules rules) else Err (layer.Convert TooLarge)
+rules_text_in_form form.Json rules = if is_unicode (rules_object_value rules) then Ok (json_text_of_rules rules) else Err (layer.Convert NotUtf8)
 
 -- The rules of a policy that is filtered or expanded. No reachable alias may be cyclic, and expanded rules have a limit of members.
-abbrev pub rewritten_rules : Form → Changes → List Line → Result (List ℕ) LayerFault
-rewritten_rules f c lines =
-    if has_round lines then Err (layer.Convert Cycle)
-    else if c.expand && nat_lt member_limit (member_count (rewritten c lines)) then Err (layer.Convert TooLarge)
-    else converted f (used_rules (rewritten c lines))
+abbrev pub rewritten_rules_text : OutputForm → PolicyChanges → List Line → Result (List ℕ) LayerFault
+rewritten_rules_text f c lines =
+    if has_reachable_alias_cycle lines then Err (layer.Convert Cycle)
+    else if c.expand && nat_lt expanded_member_limit (member_count_of_rules (rewritten_lines_of_policy c lines)) then Err (layer.Convert TooLarge)
+    else rules_text_in_form f (rules_with_used_definitions (rewritten_lines_of_policy c lines))
 
 -- Without a filter and without `-e` the rules are those of the policy, unused definitions too.
-abbrev pub changed_rules : Form → Changes → List Line → Result (List ℕ) LayerFault
-changed_rules f c lines = if is_some c.filter || c.expand then rewritten_rules f c lines else converted f (rules_of lines)
+abbrev pub rules_text_changed_if_asked : OutputForm → PolicyChanges → List Line → Result (List ℕ) LayerFault
+rules_text_changed_if_asked f c lines = if is_some c.filter || c.expand then rewritten_rules_text f c lines else rules_text_in_form f (rules_of_policy_lines lines)
 
 -- the filter of the command line, if there is one
-abbrev pub found_filter : Result Filter FilterFault → Result (Option Filter) LayerFault
-found_filter (Ok filter) = Ok (Some filter)
-found_filter (Err fault) = Err (layer.Filter fault)
+abbrev pub optional_filter_result : Result Filter FilterFault → Result (Option Filter) LayerFault
+optional_filter_result (Ok filter) = Ok (Some filter)
+optional_filter_result (Err fault) = Err (layer.Filter fault)
 
-abbrev pub filter_in : Option (List ℕ) → Result (Option Filter) LayerFault
-filter_in None = Ok None
-filter_in (Some text) = found_filter (filter_of text)
+abbrev pub filter_of_optional_text : Option (List ℕ) → Result (Option Filter) LayerFault
+filter_of_optional_text None = Ok None
+filter_of_optional_text (Some text) = optional_filter_result (filter_read_from_text text)
 
-abbrev pub changes_of : ConvertWords → Option Filter → Changes
-changes_of words filter = record { filter = filter; prune = words.prune; expand = words.expand }
+abbrev pub changes_of_convert_words : ConvertWords → Option Filter → PolicyChanges
+changes_of_convert_words words filter = record { filter = filter; prune = words.prune; expand = words.expand }
 
-abbrev pub filter_text : ConvertWords → Option (List ℕ)
-filter_text words = option_map (λ (text : Bor (List ℕ)). text.now) words.filter
+abbrev pub filter_text_of_words : ConvertWords → Option (List ℕ)
+filter_text_of_words words = option_map (λ (text : Bor (List ℕ)). text.now) words.filter
 
-abbrev pub convert_filtered : ConvertWords → List Line → Result (Option Filter) LayerFault → Result (List ℕ) LayerFault
-convert_filtered words lines (Ok filter) = changed_rules words.form (changes_of words filter) lines
-convert_filtered words lines (Err fault) = Err fault
+abbrev pub convert_output_of_filter : ConvertWords → List Line → Result (Option Filter) LayerFault → Result (List ℕ) LayerFault
+convert_output_of_filter words lines (Ok filter) = rules_text_changed_if_asked words.form (changes_of_convert_words words filter) lines
+convert_output_of_filter words lines (Err fault) = Err fault
 
-abbrev pub convert_lines : ConvertWords → List Line → Result (List ℕ) LayerFault
-convert_lines words lines = convert_filtered words lines (filter_in (filter_text words))
+abbrev pub convert_output_of_lines : ConvertWords → List Line → Result (List ℕ) LayerFault
+convert_output_of_lines words lines = convert_output_of_filter words lines (filter_of_optional_text (filter_text_of_words words))
 
 -- the rules of a policy in this form, or the fault of files that are none
-abbrev pub convert_read : ConvertWords → Result Loaded LoadFault → Result (List ℕ) LayerFault
-convert_read words (Ok policy) = convert_lines words policy.walk.lines
-convert_read words (Err fault) = Err (layer.Load fault)
+abbrev pub convert_output_of_loading : ConvertWords → Result LoadedPolicy LoadFault → Result (List ℕ) LayerFault
+convert_output_of_loading words (Ok policy) = convert_output_of_lines words policy.walk.lines
+convert_output_of_loading words (Err fault) = Err (layer.Load fault)
 
 -- the same of the policy that these files are from `root` on
 abbrev pub convert_output : ConvertWords → List ℕ → List NamedFile → Result (List ℕ) LayerFault
-convert_output words root known = of_files (convert_read words) root known
+convert_output words root known = result_of_files_from_root (convert_output_of_loading words) root known
 
 -- a fault that the files have, or the words; those of the devices and of memory say nothing of them
-abbrev pub TellsConvert : ConvertWords → List ℕ → ToolFault → List NamedFile → Type 0
-TellsConvert words root fault known = WriteOr (λ (said : LayerFault). TellsFiles said (convert_output words root known)) fault
+abbrev pub IsConvertFaultOfFiles : ConvertWords → List ℕ → ToolFault → List NamedFile → Type 0
+IsConvertFaultOfFiles words root fault known = IsWriteFaultOr (λ (said : LayerFault). IsStatedOrOutsideFault said (convert_output words root known)) fault
 
 -- the one fault that rules can have in this form
-abbrev pub form_fault : Form → CvtFault
-form_fault form.Sudoers = TooLarge
-form_fault form.Json = NotUtf8
+abbrev pub fault_of_output_form : OutputForm → CvtFault
+fault_of_output_form form.Sudoers = TooLarge
+fault_of_output_form form.Json = NotUtf8
 
 -- the faults of a filter
 abbrev pub IsFilterFault : LayerFault → Type 0
-IsFilterFault (layer.Filter fault) = IsPairFault fault
+IsFilterFault (layer.Filter fault) = IsFilterFaultNotMemory fault
 IsFilterFault (layer.Gather fault) = ⊥
 IsFilterFault (layer.Load fault) = ⊥
 IsFilterFault (layer.Convert fault) = ⊥
@@ -96,30 +96,30 @@ IsFilterFault (layer.Ask fault) = ⊥
 IsFilterFault layer.NoMemory = ⊥
 
 -- The fault of the form; or an alias is cyclic; or aliases are replaced, and there are too many members.
-abbrev pub IsRewriteFault : Form → Bool → LayerFault → Type 0
+abbrev pub IsRewriteFault : OutputForm → Bool → LayerFault → Type 0
 IsRewriteFault f expand fault =
-    (fault ≡ layer.Convert (form_fault f)) ⊎ ((fault ≡ layer.Convert Cycle) ⊎ ((fault ≡ layer.Convert TooLarge) × (expand ≡ true)))
+    (fault ≡ layer.Convert (fault_of_output_form f)) ⊎ ((fault ≡ layer.Convert Cycle) ⊎ ((fault ≡ layer.Convert TooLarge) × (expand ≡ true)))
 
 -- The fault of the form; or, where rules are filtered or aliases replaced, an alias is cyclic; or aliases are replaced, and there are
 -- too many members.
-abbrev pub IsConversionFault : ConvertWords → CvtFault → Type 0
-IsConversionFault words fault =
-    (fault ≡ form_fault words.form)
-    ⊎ (((fault ≡ Cycle) × ((is_some (filter_text words) || words.expand) ≡ true)) ⊎ ((fault ≡ TooLarge) × (words.expand ≡ true)))
+abbrev pub IsPolicyConversionFault : ConvertWords → CvtFault → Type 0
+IsPolicyConversionFault words fault =
+    (fault ≡ fault_of_output_form words.form)
+    ⊎ (((fault ≡ Cycle) × ((is_some (filter_text_of_words words) || words.expand) ≡ true)) ⊎ ((fault ≡ TooLarge) × (words.expand ≡ true)))
 
 -- The faults of converting files that are gathered. A fault of a filter is that of the words.
-abbrev pub IsRulesFault : ConvertWords → LayerFault → Type 0
-IsRulesFault words (layer.Load fault) = IsOfFiles fault
-IsRulesFault words (layer.Gather fault) = ⊥
-IsRulesFault words layer.NoMemory = Unit {0}
-IsRulesFault words (layer.Convert fault) = IsConversionFault words fault
-IsRulesFault words (layer.Filter fault) = IsPairFault fault × (filter_in (filter_text words) ≡ Err (layer.Filter fault))
-IsRulesFault words (layer.Script fault) = ⊥
-IsRulesFault words (layer.Edit place fault) = ⊥
-IsRulesFault words (layer.People fault) = ⊥
-IsRulesFault words (layer.Who fault) = ⊥
-IsRulesFault words (layer.Ask fault) = ⊥
+abbrev pub IsGatheredConvertFault : ConvertWords → LayerFault → Type 0
+IsGatheredConvertFault words (layer.Load fault) = IsMemoryFreeLoadFault fault
+IsGatheredConvertFault words (layer.Gather fault) = ⊥
+IsGatheredConvertFault words layer.NoMemory = Unit {0}
+IsGatheredConvertFault words (layer.Convert fault) = IsPolicyConversionFault words fault
+IsGatheredConvertFault words (layer.Filter fault) = IsFilterFaultNotMemory fault × (filter_of_optional_text (filter_text_of_words words) ≡ Err (layer.Filter fault))
+IsGatheredConvertFault words (layer.Script fault) = ⊥
+IsGatheredConvertFault words (layer.Edit place fault) = ⊥
+IsGatheredConvertFault words (layer.People fault) = ⊥
+IsGatheredConvertFault words (layer.Who fault) = ⊥
+IsGatheredConvertFault words (layer.Ask fault) = ⊥
 
 -- the faults of converting a policy
 abbrev pub IsConvertFault : ConvertWords → ToolFault → Type 0
-IsConvertFault words fault = WriteOr (λ (said : LayerFault). IsUnloaded said ⊎ IsRulesFault words said) fault
+IsConvertFault words fault = IsWriteFaultOr (λ (said : LayerFault). IsFaultBeforeLoading said ⊎ IsGatheredConvertFault words said) fault

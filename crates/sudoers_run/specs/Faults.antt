@@ -1,7 +1,7 @@
 -- What is said of the faults of a command.
 use Rattle.sudoers_edit.specs.declared.fault.EditFault.{EditFault}
 use Rattle.sudoers_edit.specs.declared.fault.EditFault.TheVariants as edit
-use Rattle.sudoers_edit.specs.Memory.{TellsMemoryAlone}
+use Rattle.sudoers_edit.specs.Memory.{HasNoInnerMemoryFault}
 use Rattle.sudoers_cvt_rewrite.specs.declared.filter_text.FilterFault.{FilterFault}
 use Rattle.sudoers_cvt_rewrite.specs.declared.filter_text.FilterFault.TheVariants as filter
 use Rattle.sudoers_edit_script.specs.declared.script.ScriptFault.{ScriptFault}
@@ -17,47 +17,47 @@ use Rattle.sudoers_run.specs.declared.fault.ToolFault.{ToolFault}
 use Rattle.sudoers_run.specs.declared.fault.ToolFault.TheVariants as tool
 
 -- Of a fault of the devices nothing is asked, and of one of a layer this. No other faults come.
-abbrev pub DeviceOr : (LayerFault → Type 0) → ToolFault → Type 0
-DeviceOr P tool.Read = Unit {0}
-DeviceOr P tool.Write = Unit {0}
-DeviceOr P tool.NoEnd = Unit {0}
-DeviceOr P (tool.Layer fault) = P fault
-DeviceOr P tool.NoMark = ⊥
-DeviceOr P (tool.BadBundle file) = ⊥
-DeviceOr P tool.InputTooLarge = ⊥
+abbrev pub IsDeviceFaultOr : (LayerFault → Type 0) → ToolFault → Type 0
+IsDeviceFaultOr P tool.Read = Unit {0}
+IsDeviceFaultOr P tool.Write = Unit {0}
+IsDeviceFaultOr P tool.NoEnd = Unit {0}
+IsDeviceFaultOr P (tool.Layer fault) = P fault
+IsDeviceFaultOr P tool.NoMark = ⊥
+IsDeviceFaultOr P (tool.BadBundle file) = ⊥
+IsDeviceFaultOr P tool.InputTooLarge = ⊥
 
 -- Of a failed write nothing is asked, and of a fault of a layer this. No other faults come.
-abbrev pub WriteOr : (LayerFault → Type 0) → ToolFault → Type 0
-WriteOr P tool.Write = Unit {0}
-WriteOr P (tool.Layer fault) = P fault
-WriteOr P tool.Read = ⊥
-WriteOr P tool.NoEnd = ⊥
-WriteOr P tool.NoMark = ⊥
-WriteOr P (tool.BadBundle file) = ⊥
-WriteOr P tool.InputTooLarge = ⊥
+abbrev pub IsWriteFaultOr : (LayerFault → Type 0) → ToolFault → Type 0
+IsWriteFaultOr P tool.Write = Unit {0}
+IsWriteFaultOr P (tool.Layer fault) = P fault
+IsWriteFaultOr P tool.Read = ⊥
+IsWriteFaultOr P tool.NoEnd = ⊥
+IsWriteFaultOr P tool.NoMark = ⊥
+IsWriteFaultOr P (tool.BadBundle file) = ⊥
+IsWriteFaultOr P tool.InputTooLarge = ⊥
 
 -- ---- Want of memory is the one fault `NoMemory`. No fault of a layer is it or holds it. For a policy `IsOfText` and `IsOfFiles` say so.
 
-abbrev pub IsScriptFault : ScriptFault → Type 0
-IsScriptFault script.NoMemory = ⊥
-IsScriptFault fault = Unit {0}
+abbrev pub IsScriptFaultNotMemory : ScriptFault → Type 0
+IsScriptFaultNotMemory script.NoMemory = ⊥
+IsScriptFaultNotMemory fault = Unit {0}
 
-abbrev pub IsRefusal : EditFault → Type 0
-IsRefusal edit.NoMemory = ⊥
-IsRefusal fault = TellsMemoryAlone fault
+abbrev pub IsEditRefusalNotMemory : EditFault → Type 0
+IsEditRefusalNotMemory edit.NoMemory = ⊥
+IsEditRefusalNotMemory fault = HasNoInnerMemoryFault fault
 
-abbrev pub IsPairFault : FilterFault → Type 0
-IsPairFault filter.NoMemory = ⊥
-IsPairFault fault = Unit {0}
+abbrev pub IsFilterFaultNotMemory : FilterFault → Type 0
+IsFilterFaultNotMemory filter.NoMemory = ⊥
+IsFilterFaultNotMemory fault = Unit {0}
 
-abbrev pub IsPeopleFault : PeopleFault → Type 0
-IsPeopleFault people.NoMemory = ⊥
-IsPeopleFault fault = Unit {0}
+abbrev pub IsPeopleFaultNotMemory : PeopleFault → Type 0
+IsPeopleFaultNotMemory people.NoMemory = ⊥
+IsPeopleFaultNotMemory fault = Unit {0}
 
-abbrev pub IsWhoFault : WhoFault → Type 0
-IsWhoFault who.NoMemory = ⊥
-IsWhoFault fault = Unit {0}
+abbrev pub IsWhoFaultNotMemory : WhoFault → Type 0
+IsWhoFaultNotMemory who.NoMemory = ⊥
+IsWhoFaultNotMemory fault = Unit {0}
 
-abbrev pub IsQuestionFault : AskFault → Type 0
-IsQuestionFault ask.NoMemory = ⊥
-IsQuestionFault fault = Unit {0}
+abbrev pub IsAskFaultNotMemory : AskFault → Type 0
+IsAskFaultNotMemory ask.NoMemory = ⊥
+IsAskFaultNotMemory fault = Unit {0}

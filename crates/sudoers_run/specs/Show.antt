@@ -1,35 +1,35 @@
 -- What `show` writes for a policy.
 use Rattle.std.specs.Prelude.{◌⊎◌, ℕ, List, Result, Ok, Err}
-use Rattle.sudoers_tree.specs.declared.load.NamedFile.{NamedFile}
+use Rattle.sudoers_tree.specs.declared.named_files.NamedFile.{NamedFile}
 use Rattle.sudoers_tree.specs.declared.load_fault.LoadFault.{LoadFault}
-use Rattle.sudoers_tree.specs.Load.{Loaded}
+use Rattle.sudoers_tree.specs.Load.{LoadedPolicy}
 use Rattle.sudoers_run.specs.declared.fault.LayerFault.{LayerFault}
 use Rattle.sudoers_run.specs.declared.fault.LayerFault.TheVariants as layer
 use Rattle.sudoers_run.specs.declared.fault.ToolFault.{ToolFault}
-use Rattle.sudoers_edit.specs.Memory.{IsOfFiles}
-use Rattle.sudoers_run.specs.Policy.{IsUnloaded, TellsFiles, of_files}
-use Rattle.sudoers_run.specs.Faults.{WriteOr}
-use Rattle.sudoers_run.specs.Shown.{shown}
+use Rattle.sudoers_edit.specs.Memory.{IsMemoryFreeLoadFault}
+use Rattle.sudoers_run.specs.Policy.{IsFaultBeforeLoading, IsStatedOrOutsideFault, result_of_files_from_root}
+use Rattle.sudoers_run.specs.Faults.{IsWriteFaultOr}
+use Rattle.sudoers_run.specs.Shown.{shown_policy_text}
 
 -- what is shown of a policy, or the fault of files that are no policy
-abbrev pub show_read : Result Loaded LoadFault → Result (List ℕ) LayerFault
-show_read (Ok policy) = Ok (shown policy.files)
-show_read (Err fault) = Err (layer.Load fault)
+abbrev pub show_output_of_loading : Result LoadedPolicy LoadFault → Result (List ℕ) LayerFault
+show_output_of_loading (Ok policy) = Ok (shown_policy_text policy.files)
+show_output_of_loading (Err fault) = Err (layer.Load fault)
 
 -- the same of the policy that these files are from `root` on
 abbrev pub show_output : List ℕ → List NamedFile → Result (List ℕ) LayerFault
-show_output root known = of_files show_read root known
+show_output root known = result_of_files_from_root show_output_of_loading root known
 
 -- The fault is the one that the files have. Faults of devices and of memory may come whatever the files are.
-abbrev pub TellsShow : List ℕ → ToolFault → List NamedFile → Type 0
-TellsShow root fault known = WriteOr (λ (said : LayerFault). TellsFiles said (show_output root known)) fault
+abbrev pub IsShowFaultOfFiles : List ℕ → ToolFault → List NamedFile → Type 0
+IsShowFaultOfFiles root fault known = IsWriteFaultOr (λ (said : LayerFault). IsStatedOrOutsideFault said (show_output root known)) fault
 
 -- the faults of loading files that are gathered
-abbrev pub IsFileFault : LayerFault → Type 0
-IsFileFault (layer.Load fault) = IsOfFiles fault
-IsFileFault layer.NoMemory = Unit {0}
-IsFileFault fault = ⊥
+abbrev pub IsLoadOrMemoryFault : LayerFault → Type 0
+IsLoadOrMemoryFault (layer.Load fault) = IsMemoryFreeLoadFault fault
+IsLoadOrMemoryFault layer.NoMemory = Unit {0}
+IsLoadOrMemoryFault fault = ⊥
 
 -- the faults of showing a policy
 abbrev pub IsShowFault : ToolFault → Type 0
-IsShowFault fault = WriteOr (λ (said : LayerFault). IsUnloaded said ⊎ IsFileFault said) fault
+IsShowFault fault = IsWriteFaultOr (λ (said : LayerFault). IsFaultBeforeLoading said ⊎ IsLoadOrMemoryFault said) fault

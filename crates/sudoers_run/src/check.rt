@@ -1,24 +1,26 @@
 //! Checking a policy.
 ghost use Rattle.std.specs.Prelude.{◌≡◌, ◌≢◌, ◌+◌, ◌<◌, ◌≤◌, ◌++◌, true, false, codes, length, List, Ok, Err, Some, IfOk, IfErr, IfSome, IsOkAnd, OnErr, OnOk, min, ◌-◌, ◌^◌};
 ghost use Rattle.std.specs.Io.KnownBytes.{Keeps, Appends};
-ghost use Rattle.sudoers_run.specs.Device.{Writes, AppendsFront, Rose};
-ghost use Rattle.sudoers_tree.specs.declared.load.NamedFile.{NamedFile as NamedFileOf};
-ghost use Rattle.sudoers_tree.specs.Load.{load_of};
-ghost use Rattle.sudoers_run.specs.Policy.{IsOutside, Searches};
-ghost use Rattle.sudoers_run.specs.FaultText.{text_of_load};
-ghost use Rattle.sudoers_run.specs.Check.{check_text as text_of_check, check_status, check_output, found_text, line_of, status_of, unless_quiet, unread_line, unread_text, why_unread, IsCheckFault, TellsCheck};
-ghost use Rattle.sudoers_run.specs.internal.LayerOf.{by_layer};
+ghost use Rattle.sudoers_run.specs.Device.{IsWriteEffect, AppendsPrefixOfBytes, IsCountRaised};
+ghost use Rattle.sudoers_tree.specs.declared.named_files.NamedFile.{NamedFile as NamedFileOf};
+ghost use Rattle.sudoers_tree.specs.Load.{policy_or_load_fault};
+ghost use Rattle.sudoers_run.specs.Policy.{IsDeviceOrMemoryLayerFault, CommandLeavesFilesUnchanged};
+ghost use Rattle.sudoers_run.specs.FaultText.{load_fault_message};
+ghost use Rattle.sudoers_run.specs.Check.{check_report_text as text_of_check, check_exit_status, check_output, check_text_of_found, unread_line_unless_found, check_status_from_root, text_unless_quiet, not_read_line, unread_lines_text, unread_reason_of_name, IsCheckFault, IsCheckFaultOfFiles};
+ghost use Rattle.sudoers_run.specs.internal.LayerOf.{tool_result_of_layer_result};
 
-use crate::device::Sink;
+use crate::command_words::CheckWords;
+use crate::counting_devices::Sink;
 use crate::fault::{LayerFault, ToolFault};
-use crate::fault_texts::load_fault_text;
-use crate::loading::{find_files, load_found};
-use crate::output::{Output, write_all};
-use crate::words::CheckWords;
+use crate::fault_texts::make_load_fault_text;
+use crate::loading::{gather_policy_files, load_gathered_files};
+use crate::output::{CommandOutput, write_all_to_sink};
 use std::alloc::{AllocError, Global};
 use sudoers_check::{check, report_text};
-use sudoers_files::{Files, Unread, find_unread};
-use sudoers_tree::{LoadFault, NamedFile, Policy, base_of, has_name, is_base};
+use sudoers_files::{Files, UnreadInclude, find_unread_includes};
+use sudoers_tree::{
+    LoadFault, NamedFile, Policy, base_name_of, has_file_named, is_included_base_name,
+};
 
 /// Reads the policy `root` with the files that it includes, and writes the notes on its aliases. If the files are no policy, writes the
 /// first fault instead. Returns status 0 if the policy passes, and else 1 (visudo(8)). `words` has the options.
@@ -35,89 +37,105 @@ pub fn run_check<F: Files, W: Sink>(
     writer: &mut W,
 ) -> Result<u8, ToolFault>
     // The status and what is written are the stated functions of the files.
-    ensures status { IfOk result (λ status. IfSome (F.shelf files.old).files (λ known. status_of words.now.strict root.now known ≡ Ok status)) }
+    ensures status { IfOk result (λ status. IfSome (F.shelf files.old).files (λ known. check_status_from_root words.now.strict root.now known ≡ Ok status)) }
     ensures ok { IfOk result (λ status. IfSome (F.shelf files.old).files (λ known.
         IsOkAnd (check_output words.now root.now known) (Appends (W.contents writer.old) (W.contents writer.new)))) }
     // A fault of gathering the files is the stated one.
-    ensures fault { IfErr result (λ fault. IfSome (F.shelf files.old).files (TellsCheck words.now.strict root.now fault)) }
+    ensures fault { IfErr result (λ fault. IfSome (F.shelf files.old).files (IsCheckFaultOfFiles words.now.strict root.now fault)) }
     // There are no other faults.
     ensures named { IfErr result IsCheckFault }
     // After `Write`, what was written is a beginning of the output.
     ensures front { result ≡ Err ToolFault.Write → IfSome (F.shelf files.old).files (λ known.
-        IsOkAnd (check_output words.now root.now known) (AppendsFront (W.contents writer.old) (W.contents writer.new))) }
+        IsOkAnd (check_output words.now root.now known) (AppendsPrefixOfBytes (W.contents writer.old) (W.contents writer.new))) }
     // What the counts of the files show, and that nothing is written before a fault, as the counts of the writer show.
-    ensures searches { Searches result (F.shelf files.old) (F.shelf files.new) }
-    ensures writes { Writes result (W.Sink.failures writer.old) (W.Sink.failures writer.new)
+    ensures searches { CommandLeavesFilesUnchanged result (F.shelf files.old) (F.shelf files.new) }
+    ensures writes { IsWriteEffect result (W.Sink.failures writer.old) (W.Sink.failures writer.new)
         (W.contents writer.old) (W.contents writer.new) }
     ensures statuses { IfOk result (λ status. status ≤ 1) }
     // With `quiet`, nothing is written.
     ensures silent { words.now.quiet ≡ true → (result ≢ Err ToolFault.Write) × Keeps (W.contents writer.old) (W.contents writer.new) }
 {
-    let found = find_files(alloc, files, root)?;
-    let output = check_found(alloc, files, found.as_slice(), words)?;
+    let found = gather_policy_files(alloc, files, root)?;
+    let output = check_gathered_files(alloc, files, found.as_slice(), words)?;
     write_unless_quiet(writer, words.quiet, output.text.as_slice())?;
     Ok(output.status)
 }
 
 /// Writes `text`, or nothing if `quiet`.
 fn write_unless_quiet<W: Sink>(writer: &mut W, quiet: bool, text: &[u8]) -> Result<(), ToolFault>
-    ensures all { OnOk result (Appends (W.contents writer.old) (W.contents writer.new) (unless_quiet quiet text.now)) }
-    ensures part { OnErr result (AppendsFront (W.contents writer.old) (W.contents writer.new) (unless_quiet quiet text.now)) }
+    ensures all { OnOk result (Appends (W.contents writer.old) (W.contents writer.new) (text_unless_quiet quiet text.now)) }
+    ensures part { OnErr result (AppendsPrefixOfBytes (W.contents writer.old) (W.contents writer.new) (text_unless_quiet quiet text.now)) }
     ensures fault { IfErr result (λ fault. (fault ≡ ToolFault.Write) × (quiet ≡ false)
-        × Rose (W.Sink.failures writer.old) (W.Sink.failures writer.new)) }
+        × IsCountRaised (W.Sink.failures writer.old) (W.Sink.failures writer.new)) }
     ensures well { OnOk result (W.Sink.failures writer.new ≡ W.Sink.failures writer.old) }
     ensures silent { quiet ≡ true → Keeps (W.contents writer.old) (W.contents writer.new) }
 {
     if quiet {
         return Ok(());
     }
-    write_all(writer, text)
+    write_all_to_sink(writer, text)
 }
 
 /// Returns the text that is written for the files `found`, and the exit status.
-fn check_found<F: Files>(
+fn check_gathered_files<F: Files>(
     alloc: Global,
     files: &mut F,
     found: &[NamedFile],
     words: &CheckWords,
-) -> Result<Output, LayerFault>
-    ensures text { IfOk result (λ output. IfSome (F.shelf files.old).files (λ known. output.text.items ≡ found_text words.now known found.now)) }
-    ensures status { IfOk result (λ output. output.status ≡ check_status words.now.strict (load_of found.now)) }
-    ensures outside { IfErr result IsOutside }
-    ensures searches { Searches (by_layer result) (F.shelf files.old) (F.shelf files.new) }
+) -> Result<CommandOutput, LayerFault>
+    ensures text { IfOk result (λ output. IfSome (F.shelf files.old).files (λ known. output.text.items ≡ check_text_of_found words.now known found.now)) }
+    ensures status { IfOk result (λ output. output.status ≡ check_exit_status words.now.strict (policy_or_load_fault found.now)) }
+    ensures outside { IfErr result IsDeviceOrMemoryLayerFault }
+    ensures searches { CommandLeavesFilesUnchanged (tool_result_of_layer_result result) (F.shelf files.old) (F.shelf files.new) }
 {
-    let mut output = check_text(alloc, load_found(alloc, found)?, words.strict)?;
+    let mut output = make_check_output(alloc, load_gathered_files(alloc, found)?, words.strict)?;
     if words.skipped {
-        let all = find_unread(alloc, files, found)?;
-        append_unread(&mut output.text, found, all.as_slice())?;
+        let all = find_unread_includes(alloc, files, found)?;
+        append_unread_lines(&mut output.text, found, all.as_slice())?;
     }
     Ok(output)
 }
 
 /// Appends to `out` a line for each folder or file of `all`, which was not read, unless it is among the files `found`.
-fn append_unread(out: &mut Vec<u8>, found: &[NamedFile], all: &[Unread]) -> Result<(), AllocError>
-    ensures { OnOk result (out.new.items ≡ out.old.items ++ unread_text found.now all.now) }
+fn append_unread_lines(
+    out: &mut Vec<u8>,
+    found: &[NamedFile],
+    all: &[UnreadInclude],
+) -> Result<(), AllocError>
+    ensures { OnOk result (out.new.items ≡ out.old.items ++ unread_lines_text found.now all.now) }
 {
     for one in all {
-        append_line(out, found, one)?;
+        append_unread_file_line(out, found, one)?;
     }
     Ok(())
 }
 
 /// Appends to `out` the line for `one`, which was not read, unless it is among the files `found`.
-fn append_line(out: &mut Vec<u8>, found: &[NamedFile], one: &Unread) -> Result<(), AllocError>
-    ensures { OnOk result (out.new.items ≡ out.old.items ++ line_of found.now one.now) }
+fn append_unread_file_line(
+    out: &mut Vec<u8>,
+    found: &[NamedFile],
+    one: &UnreadInclude,
+) -> Result<(), AllocError>
+    ensures { OnOk result (out.new.items ≡ out.old.items ++ unread_line_unless_found found.now one.now) }
 {
     match one {
-        Unread::Folder(dir) => append_reason(out, dir.as_slice(), b"no such folder"),
-        Unread::File(name) if has_name(found, name.as_slice()) => Ok(()),
-        Unread::File(name) => append_reason(out, name.as_slice(), why_unread(name.as_slice())),
+        UnreadInclude::Folder(dir) => append_not_read_reason(
+            out,
+            dir.as_slice(),
+            b"no such folder",
+        ),
+        UnreadInclude::File(name) if has_file_named(found, name.as_slice()) => Ok(()),
+        UnreadInclude::File(name) => append_not_read_reason(
+            out,
+            name.as_slice(),
+            choose_unread_reason(name.as_slice()),
+        ),
     }
 }
 
 /// Appends to `out` the line that says that the file or folder `name` is not read, and why.
-fn append_reason(out: &mut Vec<u8>, name: &[u8], reason: &[u8]) -> Result<(), AllocError>
-    ensures { OnOk result (out.new.items ≡ out.old.items ++ unread_line name.now reason.now) }
+fn append_not_read_reason(out: &mut Vec<u8>, name: &[u8], reason: &[u8]) -> Result<(), AllocError>
+    ensures { OnOk result (out.new.items ≡ out.old.items ++ not_read_line name.now reason.now) }
 {
     out.extend_from_slice(name)?;
     out.extend_from_slice(b": not read: ")?;
@@ -126,11 +144,11 @@ fn append_reason(out: &mut Vec<u8>, name: &[u8], reason: &[u8]) -> Result<(), Al
 }
 
 /// Returns why an include of its folder does not read the file `name`.
-fn why_unread(name: &[u8]) -> &'static [u8]
-    ensures { result.now ≡ why_unread name.now }
+fn choose_unread_reason(name: &[u8]) -> &'static [u8]
+    ensures { result.now ≡ unread_reason_of_name name.now }
 {
-    let base = base_of(name);
-    if is_base(base) {
+    let base = base_name_of(name);
+    if is_included_base_name(base) {
         b"no regular file"
     } else if base.contains(&b'.') {
         b"its name contains '.'"
@@ -140,30 +158,30 @@ fn why_unread(name: &[u8]) -> &'static [u8]
 }
 
 /// Returns the report on `policy`, or the text of its error, and the exit status.
-fn check_text(
+fn make_check_output(
     alloc: Global,
     policy: Result<Policy, LoadFault>,
     strict: bool,
-) -> Result<Output, AllocError>
+) -> Result<CommandOutput, AllocError>
     ensures text { IfOk result (λ output. output.text.items ≡ text_of_check strict policy) }
-    ensures status { IfOk result (λ output. output.status ≡ check_status strict policy) }
+    ensures status { IfOk result (λ output. output.status ≡ check_exit_status strict policy) }
 {
     let policy = match policy {
         Ok(policy) => policy,
-        Err(fault) => return refused(alloc, &fault),
+        Err(fault) => return make_load_fault_output(alloc, &fault),
     };
     let report = check(alloc, &policy)?;
     let text = report_text(alloc, &policy, &report, strict)?;
-    let status = if report.is_fine(strict) { 0 } else { 1 };
-    Ok(Output { text, status })
+    let status = if report.has_no_faults(strict) { 0 } else { 1 };
+    Ok(CommandOutput { text, status })
 }
 
 /// Returns the text of `fault`, and status 1.
-fn refused(alloc: Global, fault: &LoadFault) -> Result<Output, AllocError>
-    ensures text { IfOk result (λ output. output.text.items ≡ text_of_load fault.now ++ codes "\n") }
+fn make_load_fault_output(alloc: Global, fault: &LoadFault) -> Result<CommandOutput, AllocError>
+    ensures text { IfOk result (λ output. output.text.items ≡ load_fault_message fault.now ++ codes "\n") }
     ensures status { IfOk result (λ output. output.status ≡ 1) }
 {
-    let mut text = load_fault_text(alloc, fault)?;
+    let mut text = make_load_fault_text(alloc, fault)?;
     text.extend_from_slice(b"\n")?;
-    Ok(Output { text, status: 1 })
+    Ok(CommandOutput { text, status: 1 })
 }

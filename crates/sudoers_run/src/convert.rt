@@ -1,24 +1,24 @@
 //! Printing the rules of a policy in another form.
 ghost use Rattle.std.specs.Prelude.{ℕ, List, ◌≡◌, ◌≢◌, ◌⊎◌, ◌+◌, ◌<◌, ◌≤◌, length, Ok, Err, IfOk, IfErr, IfSome, IsOkAnd, MatchResult, min, ◌-◌, ◌^◌};
 ghost use Rattle.std.specs.Io.KnownBytes.{Keeps, Appends};
-ghost use Rattle.sudoers_run.specs.Device.{Writes, AppendsFront};
-ghost use Rattle.sudoers_edit.specs.Memory.{IsOfFiles};
-ghost use Rattle.sudoers_run.specs.Policy.{Searches};
-ghost use Rattle.sudoers_run.specs.Edit.{TellsLayer};
+ghost use Rattle.sudoers_run.specs.Device.{IsWriteEffect, AppendsPrefixOfBytes};
+ghost use Rattle.sudoers_edit.specs.Memory.{IsMemoryFreeLoadFault};
+ghost use Rattle.sudoers_run.specs.Policy.{CommandLeavesFilesUnchanged};
+ghost use Rattle.sudoers_run.specs.Edit.{IsLayerFaultOrMemory};
 ghost use Rattle.std.specs.Borrow.{Bor};
 ghost use Rattle.std.specs.Option.{option_map};
-ghost use Rattle.sudoers_cvt_rewrite.specs.Changed.{changes_shown};
-ghost use Rattle.sudoers_run.specs.Convert.{convert_lines, convert_output, convert_read, converted, filter_in, form_fault, rewritten_rules, TellsConvert, IsConvertFault, IsFilterFault, IsRewriteFault, IsRulesFault};
+ghost use Rattle.sudoers_cvt_rewrite.specs.Changed.{changes_of_view};
+ghost use Rattle.sudoers_run.specs.Convert.{convert_output_of_lines, convert_output, convert_output_of_loading, rules_text_in_form, filter_of_optional_text, fault_of_output_form, rewritten_rules_text, IsConvertFaultOfFiles, IsConvertFault, IsFilterFault, IsRewriteFault, IsGatheredConvertFault};
 
-use crate::device::Sink;
+use crate::command_words::ConvertWords;
+use crate::counting_devices::Sink;
 use crate::fault::{LayerFault, ToolFault};
-use crate::form::Form;
 use crate::loading::load_policy;
-use crate::output::write_all;
-use crate::words::ConvertWords;
+use crate::output::write_all_to_sink;
+use crate::output_form::OutputForm;
 use std::alloc::Global;
 use sudoers_cvt_json::json;
-use sudoers_cvt_rewrite::{Changes, Filter, read_filter, rewrite};
+use sudoers_cvt_rewrite::{Filter, RewriteChanges, read_filter, rewrite_policy_lines};
 use sudoers_cvt_rules::{Rules, print};
 use sudoers_files::Files;
 use sudoers_tree::{LoadFault, Policy};
@@ -42,41 +42,41 @@ pub fn run_convert<F: Files, W: Sink>(
     ensures ok { IfOk result (λ status. (status ≡ 0) × IfSome (F.shelf files.old).files (λ known.
         IsOkAnd (convert_output words.now root.now known) (Appends (W.contents writer.old) (W.contents writer.new)))) }
     // A fault of the files and of the filter is the stated one.
-    ensures fault { IfErr result (λ fault. IfSome (F.shelf files.old).files (TellsConvert words.now root.now fault)) }
+    ensures fault { IfErr result (λ fault. IfSome (F.shelf files.old).files (IsConvertFaultOfFiles words.now root.now fault)) }
     // There are no other faults.
     ensures named { IfErr result (IsConvertFault words.now) }
     // After `Write`, what was written is a beginning of the output.
     ensures front { result ≡ Err ToolFault.Write → IfSome (F.shelf files.old).files (λ known.
-        IsOkAnd (convert_output words.now root.now known) (AppendsFront (W.contents writer.old) (W.contents writer.new))) }
+        IsOkAnd (convert_output words.now root.now known) (AppendsPrefixOfBytes (W.contents writer.old) (W.contents writer.new))) }
     // What the counts of the files show, and that nothing is written before a fault, as the counts of the writer show.
-    ensures searches { Searches result (F.shelf files.old) (F.shelf files.new) }
-    ensures writes { Writes result (W.Sink.failures writer.old) (W.Sink.failures writer.new)
+    ensures searches { CommandLeavesFilesUnchanged result (F.shelf files.old) (F.shelf files.new) }
+    ensures writes { IsWriteEffect result (W.Sink.failures writer.old) (W.Sink.failures writer.new)
         (W.contents writer.old) (W.contents writer.new) }
 {
     let policy = load_policy(alloc, files, root)?;
-    let text = convert_text(alloc, policy, words)?;
-    write_all(writer, text.as_slice())?;
+    let text = make_converted_text(alloc, policy, words)?;
+    write_all_to_sink(writer, text.as_slice())?;
     Ok(0)
 }
 
 /// Returns the rules of `policy` as `words` ask for them, or its error.
-fn convert_text(
+fn make_converted_text(
     alloc: Global,
     policy: Result<Policy, LoadFault>,
     words: &ConvertWords<'_>,
 ) -> Result<Vec<u8>, LayerFault>
-    requires { IfErr policy IsOfFiles }
-    ensures { MatchResult result (λ text. convert_read words.now policy ≡ Ok text.items)
-        (λ fault. TellsLayer fault (convert_read words.now policy) × IsRulesFault words.now fault) }
+    requires { IfErr policy IsMemoryFreeLoadFault }
+    ensures { MatchResult result (λ text. convert_output_of_loading words.now policy ≡ Ok text.items)
+        (λ fault. IsLayerFaultOrMemory fault (convert_output_of_loading words.now policy) × IsGatheredConvertFault words.now fault) }
 {
     let policy = policy?;
     convert_policy(alloc, &policy, words)
 }
 
 /// Returns the filter with the text `text`, if there is a text.
-fn read_words(alloc: Global, text: Option<&[u8]>) -> Result<Option<Filter>, LayerFault>
-    ensures { MatchResult result (λ filter. filter_in (option_map (λ (text : Bor (List ℕ)). text.now) text.entry) ≡ Ok filter)
-        (λ fault. (fault ≡ LayerFault.NoMemory) ⊎ ((filter_in (option_map (λ (text : Bor (List ℕ)). text.now) text.entry) ≡ Err fault) × IsFilterFault fault)) }
+fn read_optional_filter(alloc: Global, text: Option<&[u8]>) -> Result<Option<Filter>, LayerFault>
+    ensures { MatchResult result (λ filter. filter_of_optional_text (option_map (λ (text : Bor (List ℕ)). text.now) text.entry) ≡ Ok filter)
+        (λ fault. (fault ≡ LayerFault.NoMemory) ⊎ ((filter_of_optional_text (option_map (λ (text : Bor (List ℕ)). text.now) text.entry) ≡ Err fault) × IsFilterFault fault)) }
 {
     match text {
         None => Ok(None),
@@ -90,45 +90,49 @@ fn convert_policy(
     policy: &Policy,
     words: &ConvertWords<'_>,
 ) -> Result<Vec<u8>, LayerFault>
-    ensures { MatchResult result (λ out. convert_lines words.now policy.now.walk.lines ≡ Ok out.items)
-        (λ fault. (fault ≡ LayerFault.NoMemory) ⊎ ((convert_lines words.now policy.now.walk.lines ≡ Err fault) × IsRulesFault words.now fault)) }
+    ensures { MatchResult result (λ out. convert_output_of_lines words.now policy.now.walk.lines ≡ Ok out.items)
+        (λ fault. (fault ≡ LayerFault.NoMemory) ⊎ ((convert_output_of_lines words.now policy.now.walk.lines ≡ Err fault) × IsGatheredConvertFault words.now fault)) }
 {
-    let filter = read_words(alloc, words.filter)?;
-    let changes = Changes {
+    let filter = read_optional_filter(alloc, words.filter)?;
+    let changes = RewriteChanges {
         filter: filter.as_ref(),
         prune: words.prune,
         expand: words.expand,
     };
     if filter.is_none() && !words.expand {
-        let rules = Rules::of(alloc, &policy.lines())?;
-        return print_rules(alloc, words.form, &rules);
+        let rules = Rules::from_policy_lines(alloc, &policy.lines())?;
+        return print_rules_in_form(alloc, words.form, &rules);
     }
-    rewrite_rules(alloc, policy, words.form, &changes)
+    print_rewritten_rules(alloc, policy, words.form, &changes)
 }
 
 /// Returns the rules of `policy`, filtered or expanded by `changes`, in the form `form`.
-fn rewrite_rules(
+fn print_rewritten_rules(
     alloc: Global,
     policy: &Policy,
-    form: Form,
-    changes: &Changes<'_>,
+    form: OutputForm,
+    changes: &RewriteChanges<'_>,
 ) -> Result<Vec<u8>, LayerFault>
-    ensures { MatchResult result (λ out. rewritten_rules form (changes_shown changes.now) policy.now.walk.lines ≡ Ok out.items)
-        (λ fault. (fault ≡ LayerFault.NoMemory) ⊎ ((rewritten_rules form (changes_shown changes.now) policy.now.walk.lines ≡ Err fault)
+    ensures { MatchResult result (λ out. rewritten_rules_text form (changes_of_view changes.now) policy.now.walk.lines ≡ Ok out.items)
+        (λ fault. (fault ≡ LayerFault.NoMemory) ⊎ ((rewritten_rules_text form (changes_of_view changes.now) policy.now.walk.lines ≡ Err fault)
         × IsRewriteFault form changes.now.expand fault)) }
 {
-    let rewritten = rewrite(alloc, policy, changes)?;
-    let rules = rewritten.rules(alloc)?;
-    print_rules(alloc, form, &rules)
+    let rewritten = rewrite_policy_lines(alloc, policy, changes)?;
+    let rules = rewritten.collect_used_rules(alloc)?;
+    print_rules_in_form(alloc, form, &rules)
 }
 
 /// Returns `rules` in the form `form`.
-fn print_rules(alloc: Global, form: Form, rules: &Rules<'_>) -> Result<Vec<u8>, LayerFault>
-    ensures { MatchResult result (λ out. converted form rules.now ≡ Ok out.items)
-        (λ fault. (fault ≡ LayerFault.NoMemory) ⊎ ((converted form rules.now ≡ Err fault) × (fault ≡ LayerFault.Convert (form_fault form)))) }
+fn print_rules_in_form(
+    alloc: Global,
+    form: OutputForm,
+    rules: &Rules<'_>,
+) -> Result<Vec<u8>, LayerFault>
+    ensures { MatchResult result (λ out. rules_text_in_form form rules.now ≡ Ok out.items)
+        (λ fault. (fault ≡ LayerFault.NoMemory) ⊎ ((rules_text_in_form form rules.now ≡ Err fault) × (fault ≡ LayerFault.Convert (fault_of_output_form form)))) }
 {
     match form {
-        Form::Sudoers => Ok(print(alloc, rules)?),
-        Form::Json => Ok(json(alloc, rules)?),
+        OutputForm::Sudoers => Ok(print(alloc, rules)?),
+        OutputForm::Json => Ok(json(alloc, rules)?),
     }
 }

@@ -3,22 +3,22 @@ ghost use Rattle.std.specs.Prelude.{◌≡◌, ◌≢◌, ◌+◌, ◌<◌, ◌�
 ghost use Rattle.std.specs.List.{flat_map};
 ghost use Rattle.std.specs.Option.{option_map};
 ghost use Rattle.std.specs.Io.KnownBytes.{Keeps, Appends};
-ghost use Rattle.sudoers_tree.specs.Load.{one_file as the_one_file};
-ghost use Rattle.sudoers_edit.specs.Named.{AreNamed};
-ghost use Rattle.sudoers_run.specs.Device.{Writes, AppendsFront};
-ghost use Rattle.sudoers_run.specs.Reading.{ReadsFile, reading_end};
-ghost use Rattle.sudoers_run.specs.Edit.{files_given as the_files_given, given_back, is_header as is_header_line, is_mark as is_mark_text, split_text, edit_output as output_of_edit, edited_output, output_of, output_text, input_limit, TellsLayer, TellsTool, IsAnswerFault, IsEditFault, IsInputFault};
+ghost use Rattle.sudoers_tree.specs.Load.{single_file_named_policy as the_one_file};
+ghost use Rattle.sudoers_edit.specs.Named.{HaveSpellableNames};
+ghost use Rattle.sudoers_run.specs.Device.{IsWriteEffect, AppendsPrefixOfBytes};
+ghost use Rattle.sudoers_run.specs.Reading.{IsFileReadingEffect, reading_end_of_result};
+ghost use Rattle.sudoers_run.specs.Edit.{given_files_result as the_files_given, files_in_given_shape, is_bundle_header_line as is_header_line, is_end_mark_line as is_mark_text, script_and_policy_text, edit_output_of_files as output_of_edit, edit_output_after_undo_redo, edit_output_of_input, inverse_and_files_text, edit_input_limit, IsLayerFaultOrMemory, IsFaultOfEditInput, IsReadInputFault, IsEditFault, IsEditInputFault};
 
-use crate::device::{Sink, Source};
+use crate::counting_devices::{Sink, Source};
 use crate::fault::{LayerFault, ToolFault};
-use crate::input::read_all;
-use crate::input_shape::InputShape;
-use crate::loading::load_found;
-use crate::output::write_all;
-use crate::undoing::{redo_up_to, undo_up_to};
+use crate::input::read_all_within_limit;
+use crate::input_shape::EditInputShape;
+use crate::loading::load_gathered_files;
+use crate::output::write_all_to_sink;
+use crate::undo_and_redo::{redo_up_to, undo_up_to};
 use std::alloc::{AllocError, Global};
 use sudoers_bundle::{append_bundle, read_bundle};
-use sudoers_edit::{Edit, Editor, Edits, first_line_len, read_script, write_script};
+use sudoers_edit::{Edit, Editor, Edits, first_physical_line_len, read_script, write_script};
 use sudoers_text::ends_in_lf;
 use sudoers_tree::{Items, NamedFile, Policy};
 
@@ -51,54 +51,54 @@ pub fn run_edit<R: Source, W: Sink>(
 ) -> Result<u8, ToolFault>
     // Status 0, and what is written is the stated function of what is read.
     ensures ok { IfOk result (λ status. (status ≡ 0) × IfSome (R.meter reader.old).remaining (λ input.
-        IsOkAnd (output_of undo redo input) (Appends (W.contents writer.old) (W.contents writer.new)))) }
+        IsOkAnd (edit_output_of_input undo redo input) (Appends (W.contents writer.old) (W.contents writer.new)))) }
     // A fault of the input is the stated one.
-    ensures fault { IfErr result (λ fault. IfSome (R.meter reader.old).remaining (TellsTool undo redo fault)) }
+    ensures fault { IfErr result (λ fault. IfSome (R.meter reader.old).remaining (IsFaultOfEditInput undo redo fault)) }
     // There are no other faults.
     ensures named { IfErr result IsEditFault }
     // After `Write`, what was written is a beginning of the output.
     ensures front { result ≡ Err ToolFault.Write → IfSome (R.meter reader.old).remaining (λ input.
-        IsOkAnd (output_of undo redo input) (AppendsFront (W.contents writer.old) (W.contents writer.new))) }
+        IsOkAnd (edit_output_of_input undo redo input) (AppendsPrefixOfBytes (W.contents writer.old) (W.contents writer.new))) }
     // How the input was read, and that nothing is written before a fault, as the counts of the devices show.
-    ensures reads { ReadsFile input_limit (reading_end result) (R.meter reader.old) (R.meter reader.new) }
-    ensures writes { Writes result (W.Sink.failures writer.old) (W.Sink.failures writer.new)
+    ensures reads { IsFileReadingEffect edit_input_limit (reading_end_of_result result) (R.meter reader.old) (R.meter reader.new) }
+    ensures writes { IsWriteEffect result (W.Sink.failures writer.old) (W.Sink.failures writer.new)
         (W.contents writer.old) (W.contents writer.new) }
 {
-    let input = read_all(alloc, reader, INPUT_LIMIT)?;
+    let input = read_all_within_limit(alloc, reader, INPUT_LIMIT)?;
     let output = edit_input(alloc, input.as_slice(), undo, redo)?;
-    write_all(writer, output.as_slice())?;
+    write_all_to_sink(writer, output.as_slice())?;
     Ok(0)
 }
 
 /// Returns what is written for the input `input`, which is within the limit, if up to `undo` edits are taken back and up to `redo` of
 /// these made again.
 fn edit_input(alloc: Global, input: &[u8], undo: u32, redo: u32) -> Result<Vec<u8>, ToolFault>
-    requires { length input.now ≤ input_limit }
-    ensures ok { IfOk result (λ out. output_of undo redo input.now ≡ Ok out.items) }
-    ensures fault { IfErr result (λ fault. TellsTool undo redo fault input.now × IsAnswerFault fault) }
+    requires { length input.now ≤ edit_input_limit }
+    ensures ok { IfOk result (λ out. edit_output_of_input undo redo input.now ≡ Ok out.items) }
+    ensures fault { IfErr result (λ fault. IsFaultOfEditInput undo redo fault input.now × IsReadInputFault fault) }
 {
-    let Some((script, shape, text)) = split_input(input) else {
+    let Some((script, shape, text)) = split_script_from_policy(input) else {
         return Err(ToolFault::NoMark);
     };
-    let files = files_given(alloc, shape, text)?;
-    let out = edit_given(alloc, script, shape, files.as_slice(), undo, redo)?;
+    let files = read_given_files(alloc, shape, text)?;
+    let out = edit_given_files(alloc, script, shape, files.as_slice(), undo, redo)?;
     Ok(out)
 }
 
 /// Returns the script before the first line of `input` that is the mark or a header, the shape in which the policy is given, and its text.
 /// Returns nothing if there is no such line.
-fn split_input(input: &[u8]) -> Option<(&[u8], InputShape, &[u8])>
-    ensures { option_map (λ parts. (parts.0.now, parts.1, parts.2.now)) result ≡ split_text input.now }
+fn split_script_from_policy(input: &[u8]) -> Option<(&[u8], EditInputShape, &[u8])>
+    ensures { option_map (λ parts. (parts.0.now, parts.1, parts.2.now)) result ≡ script_and_policy_text input.now }
 {
     let mut at = 0;
     while at < input.len() {
         let rest = &input[at..];
-        let (line, after) = rest.split_at(first_line_len(rest));
-        if is_mark(line) {
-            return Some((&input[..at], InputShape::OneText, after));
+        let (line, after) = rest.split_at(first_physical_line_len(rest));
+        if is_script_end_mark(line) {
+            return Some((&input[..at], EditInputShape::OneText, after));
         }
-        if is_header(line) {
-            return Some((&input[..at], InputShape::Bundle, rest));
+        if is_bundle_header(line) {
+            return Some((&input[..at], EditInputShape::Bundle, rest));
         }
         at += line.len();
     }
@@ -106,26 +106,30 @@ fn split_input(input: &[u8]) -> Option<(&[u8], InputShape, &[u8])>
 }
 
 /// Returns whether the line `line` is the header of a file.
-fn is_header(line: &[u8]) -> bool
+fn is_bundle_header(line: &[u8]) -> bool
     ensures { result ≡ is_header_line line.now }
 {
     line.starts_with(HEADER) && ends_in_lf(line)
 }
 
 /// Returns the files that are given in the shape `shape` by the text `text`.
-fn files_given(alloc: Global, shape: InputShape, text: &[u8]) -> Result<Vec<NamedFile>, ToolFault>
+fn read_given_files(
+    alloc: Global,
+    shape: EditInputShape,
+    text: &[u8],
+) -> Result<Vec<NamedFile>, ToolFault>
     ensures ok { IfOk result (λ files. the_files_given shape text.now ≡ Ok files.items) }
     ensures fault { IfErr result (λ fault. (fault ≡ ToolFault.Layer LayerFault.NoMemory)
         ⊎ ((file : ℕ) × (fault ≡ ToolFault.BadBundle file) × (the_files_given shape text.now ≡ Err fault))) }
 {
     match shape {
-        InputShape::OneText => Ok(one_file(alloc, text)?),
-        InputShape::Bundle => Ok(read_bundle(alloc, text)?),
+        EditInputShape::OneText => Ok(make_single_file_list(alloc, text)?),
+        EditInputShape::Bundle => Ok(read_bundle(alloc, text)?),
     }
 }
 
 /// Returns the list of the file `policy`, which has the bytes `text`.
-fn one_file(alloc: Global, text: &[u8]) -> Result<Vec<NamedFile>, AllocError>
+fn make_single_file_list(alloc: Global, text: &[u8]) -> Result<Vec<NamedFile>, AllocError>
     ensures { IfOk result (λ files. files.items ≡ the_one_file text.now) }
 {
     let mut files = Vec::with_capacity(alloc, 1)?;
@@ -137,7 +141,7 @@ fn one_file(alloc: Global, text: &[u8]) -> Result<Vec<NamedFile>, AllocError>
 }
 
 /// Returns whether the line `line` is the mark.
-fn is_mark(line: &[u8]) -> bool
+fn is_script_end_mark(line: &[u8]) -> bool
     ensures { result ≡ is_mark_text line.now }
 {
     match line {
@@ -153,84 +157,84 @@ fn is_mark(line: &[u8]) -> bool
 /// # Errors
 ///
 /// [`LayerFault`]: of the script, then of the policy, the edits and the inverse; or of memory.
-pub fn edit_given(
+pub fn edit_given_files(
     alloc: Global,
     script: &[u8],
-    shape: InputShape,
+    shape: EditInputShape,
     files: &[NamedFile],
     undo: u32,
     redo: u32,
 ) -> Result<Vec<u8>, LayerFault>
     ensures output { MatchResult result (λ out. output_of_edit shape undo redo script.now files.now ≡ Ok out.items)
-        (λ fault. TellsLayer fault (output_of_edit shape undo redo script.now files.now)) }
-    ensures named { IfErr result IsInputFault }
+        (λ fault. IsLayerFaultOrMemory fault (output_of_edit shape undo redo script.now files.now)) }
+    ensures named { IfErr result IsEditInputFault }
 {
     let edits = read_script(alloc, script)?;
-    let policy = load_found(alloc, files)??;
-    edited(alloc, shape, edits.as_slice(), policy, undo, redo)
+    let policy = load_gathered_files(alloc, files)??;
+    apply_edits_and_undo(alloc, shape, edits.as_slice(), policy, undo, redo)
 }
 
 /// Applies `edits` to `policy`, takes back up to `undo` of them, and makes up to `redo` of these again. Returns the inverse script of
 /// the edits that then stand, and the edited policy.
-fn edited(
+fn apply_edits_and_undo(
     alloc: Global,
-    shape: InputShape,
+    shape: EditInputShape,
     edits: &[Edit],
     policy: Policy,
     undo: u32,
     redo: u32,
 ) -> Result<Vec<u8>, LayerFault>
-    requires { AreNamed edits.now }
-    ensures output { MatchResult result (λ out. edited_output shape undo redo edits.now policy ≡ Ok out.items)
-        (λ fault. TellsLayer fault (edited_output shape undo redo edits.now policy)) }
-    ensures named { IfErr result IsInputFault }
+    requires { HaveSpellableNames edits.now }
+    ensures output { MatchResult result (λ out. edit_output_after_undo_redo shape undo redo edits.now policy ≡ Ok out.items)
+        (λ fault. IsLayerFaultOrMemory fault (edit_output_after_undo_redo shape undo redo edits.now policy)) }
+    ensures named { IfErr result IsEditInputFault }
 {
     let mut editor = Editor::new(policy);
     editor.apply_all(edits)?;
     undo_up_to(&mut editor, undo)?;
     redo_up_to(&mut editor, redo)?;
     let inverse = editor.inverse()?;
-    output(alloc, shape, &inverse, editor.policy())
+    make_edit_output(alloc, shape, &inverse, editor.policy())
 }
 
 /// Returns the script of `inverse`, and the files of `policy` in the shape `shape`.
-fn output(
+fn make_edit_output(
     alloc: Global,
-    shape: InputShape,
+    shape: EditInputShape,
     inverse: &Edits,
     policy: &Policy,
 ) -> Result<Vec<u8>, LayerFault>
-    requires { AreNamed inverse.now }
-    ensures output { MatchResult result (λ out. output_text shape inverse.now policy.now ≡ Ok out.items)
-        (λ fault. TellsLayer fault (output_text shape inverse.now policy.now)) }
-    ensures named { IfErr result IsInputFault }
+    requires { HaveSpellableNames inverse.now }
+    ensures output { MatchResult result (λ out. inverse_and_files_text shape inverse.now policy.now ≡ Ok out.items)
+        (λ fault. IsLayerFaultOrMemory fault (inverse_and_files_text shape inverse.now policy.now)) }
+    ensures named { IfErr result IsEditInputFault }
 {
     let mut out = write_script(alloc, inverse.as_slice())?;
-    let files = policy.named_files()?;
-    append_given(alloc, &mut out, shape, files.as_slice())?;
+    let files = policy.copy_named_files()?;
+    append_files_in_shape(alloc, &mut out, shape, files.as_slice())?;
     Ok(out)
 }
 
 /// Appends the files `files` in the shape `shape`.
-fn append_given(
+fn append_files_in_shape(
     alloc: Global,
     out: &mut Vec<u8>,
-    shape: InputShape,
+    shape: EditInputShape,
     files: &[NamedFile],
 ) -> Result<(), AllocError>
-    ensures { OnOk result (out.new.items ≡ out.old.items ++ given_back shape files.now) }
+    ensures { OnOk result (out.new.items ≡ out.old.items ++ files_in_given_shape shape files.now) }
 {
     match shape {
-        InputShape::OneText => {
+        EditInputShape::OneText => {
             out.extend_from_slice(MARK)?;
-            append_bytes(out, files)
+            append_file_bytes(out, files)
         }
-        InputShape::Bundle => append_bundle(alloc, out, files),
+        EditInputShape::Bundle => append_bundle(alloc, out, files),
     }
 }
 
 /// Appends the bytes of the files `files`.
-fn append_bytes(out: &mut Vec<u8>, files: &[NamedFile]) -> Result<(), AllocError>
+fn append_file_bytes(out: &mut Vec<u8>, files: &[NamedFile]) -> Result<(), AllocError>
     ensures { OnOk result (out.new.items ≡ out.old.items ++ flat_map (λ file. file.bytes) files.now) }
 {
     for file in files {

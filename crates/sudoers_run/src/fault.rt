@@ -74,9 +74,9 @@ pub enum ToolFault {
 
 impl From<GatherFault> for LayerFault {
     ghost use Rattle.std.specs.Prelude.{◌≡◌};
-    ghost use Rattle.sudoers_run.specs.internal.LayerOf.{layer_of_gather};
+    ghost use Rattle.sudoers_run.specs.internal.LayerOf.{layer_fault_of_gather};
 
-    ghost from_gives = { λ fault e. e ≡ layer_of_gather fault };
+    ghost from_gives = { λ fault e. e ≡ layer_fault_of_gather fault };
 
     fn from(fault: GatherFault) -> LayerFault {
         match fault {
@@ -88,9 +88,9 @@ impl From<GatherFault> for LayerFault {
 
 impl From<LoadFault> for LayerFault {
     ghost use Rattle.std.specs.Prelude.{◌≡◌};
-    ghost use Rattle.sudoers_run.specs.internal.LayerOf.{layer_of_load};
+    ghost use Rattle.sudoers_run.specs.internal.LayerOf.{layer_fault_of_load};
 
-    ghost from_gives = { λ fault e. e ≡ layer_of_load fault };
+    ghost from_gives = { λ fault e. e ≡ layer_fault_of_load fault };
 
     fn from(fault: LoadFault) -> LayerFault {
         match fault {
@@ -102,9 +102,9 @@ impl From<LoadFault> for LayerFault {
 
 impl From<ScriptFault> for LayerFault {
     ghost use Rattle.std.specs.Prelude.{◌≡◌};
-    ghost use Rattle.sudoers_run.specs.internal.LayerOf.{layer_of_script};
+    ghost use Rattle.sudoers_run.specs.internal.LayerOf.{layer_fault_of_script};
 
-    ghost from_gives = { λ fault e. e ≡ layer_of_script fault };
+    ghost from_gives = { λ fault e. e ≡ layer_fault_of_script fault };
 
     fn from(fault: ScriptFault) -> LayerFault {
         match fault {
@@ -116,9 +116,9 @@ impl From<ScriptFault> for LayerFault {
 
 impl From<(usize, EditFault)> for LayerFault {
     ghost use Rattle.std.specs.Prelude.{◌≡◌};
-    ghost use Rattle.sudoers_run.specs.internal.LayerOf.{layer_of_edit};
+    ghost use Rattle.sudoers_run.specs.internal.LayerOf.{layer_fault_of_edit};
 
-    ghost from_gives = { λ refused e. e ≡ layer_of_edit refused.0 refused.1 };
+    ghost from_gives = { λ refused e. e ≡ layer_fault_of_edit refused.0 refused.1 };
 
     fn from(refused: (usize, EditFault)) -> LayerFault {
         let (place, fault) = refused;
@@ -131,9 +131,9 @@ impl From<(usize, EditFault)> for LayerFault {
 
 impl From<CvtFault> for LayerFault {
     ghost use Rattle.std.specs.Prelude.{◌≡◌};
-    ghost use Rattle.sudoers_run.specs.internal.LayerOf.{layer_of_cvt};
+    ghost use Rattle.sudoers_run.specs.internal.LayerOf.{layer_fault_of_cvt};
 
-    ghost from_gives = { λ fault e. e ≡ layer_of_cvt fault };
+    ghost from_gives = { λ fault e. e ≡ layer_fault_of_cvt fault };
 
     fn from(fault: CvtFault) -> LayerFault {
         match fault {
@@ -145,9 +145,9 @@ impl From<CvtFault> for LayerFault {
 
 impl From<FilterFault> for LayerFault {
     ghost use Rattle.std.specs.Prelude.{◌≡◌};
-    ghost use Rattle.sudoers_run.specs.internal.LayerOf.{layer_of_filter};
+    ghost use Rattle.sudoers_run.specs.internal.LayerOf.{layer_fault_of_filter};
 
-    ghost from_gives = { λ fault e. e ≡ layer_of_filter fault };
+    ghost from_gives = { λ fault e. e ≡ layer_fault_of_filter fault };
 
     fn from(fault: FilterFault) -> LayerFault {
         match fault {
@@ -159,9 +159,9 @@ impl From<FilterFault> for LayerFault {
 
 impl From<PeopleFault> for LayerFault {
     ghost use Rattle.std.specs.Prelude.{◌≡◌};
-    ghost use Rattle.sudoers_run.specs.internal.LayerOf.{layer_of_people};
+    ghost use Rattle.sudoers_run.specs.internal.LayerOf.{layer_fault_of_people};
 
-    ghost from_gives = { λ fault e. e ≡ layer_of_people fault };
+    ghost from_gives = { λ fault e. e ≡ layer_fault_of_people fault };
 
     fn from(fault: PeopleFault) -> LayerFault {
         match fault {
@@ -173,9 +173,9 @@ impl From<PeopleFault> for LayerFault {
 
 impl From<WhoFault> for LayerFault {
     ghost use Rattle.std.specs.Prelude.{◌≡◌};
-    ghost use Rattle.sudoers_run.specs.internal.LayerOf.{layer_of_who};
+    ghost use Rattle.sudoers_run.specs.internal.LayerOf.{layer_fault_of_who};
 
-    ghost from_gives = { λ fault e. e ≡ layer_of_who fault };
+    ghost from_gives = { λ fault e. e ≡ layer_fault_of_who fault };
 
     fn from(fault: WhoFault) -> LayerFault {
         match fault {
@@ -187,9 +187,9 @@ impl From<WhoFault> for LayerFault {
 
 impl From<AskFault> for LayerFault {
     ghost use Rattle.std.specs.Prelude.{◌≡◌};
-    ghost use Rattle.sudoers_run.specs.internal.LayerOf.{layer_of_ask};
+    ghost use Rattle.sudoers_run.specs.internal.LayerOf.{layer_fault_of_ask};
 
-    ghost from_gives = { λ fault e. e ≡ layer_of_ask fault };
+    ghost from_gives = { λ fault e. e ≡ layer_fault_of_ask fault };
 
     fn from(fault: AskFault) -> LayerFault {
         match fault {
@@ -235,9 +235,9 @@ impl From<AllocError> for ToolFault {
 
 impl From<BundleFault> for ToolFault {
     ghost use Rattle.std.specs.Prelude.{◌≡◌};
-    ghost use Rattle.sudoers_run.specs.internal.LayerOf.{tool_of_bundle};
+    ghost use Rattle.sudoers_run.specs.internal.LayerOf.{tool_fault_of_bundle};
 
-    ghost from_gives = { λ fault e. e ≡ tool_of_bundle fault };
+    ghost from_gives = { λ fault e. e ≡ tool_fault_of_bundle fault };
 
     fn from(fault: BundleFault) -> ToolFault {
         match fault {

@@ -1,7 +1,7 @@
 //! The texts of the program's faults.
 ghost use Rattle.std.specs.Prelude.{◌≡◌, ◌+◌, ◌<◌, ◌^◌, ◌++◌, IfOk, OnOk};
 ghost use Rattle.std.specs.Fmt.{decimal};
-ghost use Rattle.sudoers_run.specs.FaultText.{ask_name, cvt_name, file_name, filter_name, gather_name, include_text, text_of_load, text_of_people, text_of_tool, text_of_layer, text_of_read, text_of_text, text_of_script, text_of_edit, script_text, edit_name, name_text, who_name, why_name};
+ghost use Rattle.sudoers_run.specs.FaultText.{ask_fault_name, convert_fault_name, people_file_name, filter_fault_name, gather_fault_name, include_line_text, load_fault_message, people_fault_message, tool_fault_message, layer_fault_message, read_fault_message, text_fault_message, script_fault_message, edit_fault_message, script_line_message, numbered_edit_message, alias_name_in_file_text, who_fault_name, syntax_reason_name};
 
 use crate::fault::{LayerFault, ToolFault};
 use std::alloc::{AllocError, Global};
@@ -9,10 +9,10 @@ use sudoers_cvt_rewrite::FilterFault;
 use sudoers_cvt_rules::CvtFault;
 use sudoers_edit::{EditFault, ScriptFault};
 use sudoers_files::{FileFault, GatherFault};
-use sudoers_line::{Kind, Why, kind_name};
+use sudoers_grammar::{Kind, Why, alias_keyword_of_kind};
 use sudoers_list_people::{PeopleFault, PeopleFile, WhoFault};
 use sudoers_match_list::AskFault;
-use sudoers_text::{TextFault, append_number};
+use sudoers_text::{TextFault, append_decimal_number};
 use sudoers_tree::{LoadFault, ReadFault};
 
 /// Returns the text of the fault `fault`, without LF.
@@ -21,7 +21,7 @@ use sudoers_tree::{LoadFault, ReadFault};
 ///
 /// Want of memory alone.
 pub fn fault_text(alloc: Global, fault: &ToolFault) -> Result<Vec<u8>, AllocError>
-    ensures { IfOk result (λ text. text.items ≡ text_of_tool fault.now) }
+    ensures { IfOk result (λ text. text.items ≡ tool_fault_message fault.now) }
 {
     match fault {
         ToolFault::Read => Vec::from_slice(alloc, b"Read"),
@@ -30,35 +30,35 @@ pub fn fault_text(alloc: Global, fault: &ToolFault) -> Result<Vec<u8>, AllocErro
         ToolFault::NoMark => Vec::from_slice(alloc, b"NoMark"),
         ToolFault::BadBundle { .. } => Vec::from_slice(alloc, b"BadBundle"),
         ToolFault::InputTooLarge => Vec::from_slice(alloc, b"InputTooLarge"),
-        ToolFault::Layer(fault) => layer_text(alloc, fault),
+        ToolFault::Layer(fault) => make_layer_fault_text(alloc, fault),
     }
 }
 
-fn layer_text(alloc: Global, fault: &LayerFault) -> Result<Vec<u8>, AllocError>
-    ensures { IfOk result (λ text. text.items ≡ text_of_layer fault.now) }
+fn make_layer_fault_text(alloc: Global, fault: &LayerFault) -> Result<Vec<u8>, AllocError>
+    ensures { IfOk result (λ text. text.items ≡ layer_fault_message fault.now) }
 {
     match fault {
-        LayerFault::Gather(fault) => Vec::from_slice(alloc, gather_word(*fault)),
-        LayerFault::Load(fault) => load_fault_text(alloc, fault),
-        LayerFault::Script(fault) => script_fault_text(alloc, fault),
-        LayerFault::Edit(place, fault) => edit_fault_text(alloc, *place, fault),
-        LayerFault::Convert(fault) => Vec::from_slice(alloc, cvt_word(*fault)),
-        LayerFault::Filter(fault) => Vec::from_slice(alloc, filter_word(*fault)),
-        LayerFault::People(fault) => people_fault_text(alloc, fault),
-        LayerFault::Who(fault) => Vec::from_slice(alloc, who_word(*fault)),
-        LayerFault::Ask(fault) => Vec::from_slice(alloc, ask_word(*fault)),
+        LayerFault::Gather(fault) => Vec::from_slice(alloc, name_of_gather_fault(*fault)),
+        LayerFault::Load(fault) => make_load_fault_text(alloc, fault),
+        LayerFault::Script(fault) => make_script_fault_text(alloc, fault),
+        LayerFault::Edit(place, fault) => make_edit_fault_text(alloc, *place, fault),
+        LayerFault::Convert(fault) => Vec::from_slice(alloc, name_of_cvt_fault(*fault)),
+        LayerFault::Filter(fault) => Vec::from_slice(alloc, name_of_filter_fault(*fault)),
+        LayerFault::People(fault) => make_people_fault_text(alloc, fault),
+        LayerFault::Who(fault) => Vec::from_slice(alloc, name_of_who_fault(*fault)),
+        LayerFault::Ask(fault) => Vec::from_slice(alloc, name_of_ask_fault(*fault)),
         LayerFault::NoMemory => Vec::from_slice(alloc, b"NoMemory"),
     }
 }
 
 /// Returns the text of a fault of passwd or of group.
-fn people_fault_text(alloc: Global, fault: &PeopleFault) -> Result<Vec<u8>, AllocError>
-    ensures { IfOk result (λ text. text.items ≡ text_of_people fault.now) }
+fn make_people_fault_text(alloc: Global, fault: &PeopleFault) -> Result<Vec<u8>, AllocError>
+    ensures { IfOk result (λ text. text.items ≡ people_fault_message fault.now) }
 {
     match fault {
         PeopleFault::BadRow { file, line } => {
-            let mut text = concat(alloc, file_word(*file), b":")?;
-            append_number(alloc, &mut text, *line)?;
+            let mut text = join_two_texts(alloc, name_of_people_file(*file), b":")?;
+            append_decimal_number(alloc, &mut text, *line)?;
             text.extend_from_slice(b": BadRow")?;
             Ok(text)
         }
@@ -68,8 +68,8 @@ fn people_fault_text(alloc: Global, fault: &PeopleFault) -> Result<Vec<u8>, Allo
 }
 
 /// Returns the name of a file of people.
-fn file_word(file: PeopleFile) -> &'static [u8]
-    ensures { result.now ≡ file_name file }
+fn name_of_people_file(file: PeopleFile) -> &'static [u8]
+    ensures { result.now ≡ people_file_name file }
 {
     match file {
         PeopleFile::Passwd => b"passwd",
@@ -78,8 +78,8 @@ fn file_word(file: PeopleFile) -> &'static [u8]
 }
 
 /// Returns the name of a fault of words.
-fn who_word(fault: WhoFault) -> &'static [u8]
-    ensures { result.now ≡ who_name fault }
+fn name_of_who_fault(fault: WhoFault) -> &'static [u8]
+    ensures { result.now ≡ who_fault_name fault }
 {
     match fault {
         WhoFault::NoUser => b"NoUser",
@@ -91,8 +91,8 @@ fn who_word(fault: WhoFault) -> &'static [u8]
 }
 
 /// Returns the name of a fault of asking.
-fn ask_word(fault: AskFault) -> &'static [u8]
-    ensures { result.now ≡ ask_name fault }
+fn name_of_ask_fault(fault: AskFault) -> &'static [u8]
+    ensures { result.now ≡ ask_fault_name fault }
 {
     match fault {
         AskFault::Cycle => b"Cycle",
@@ -102,8 +102,8 @@ fn ask_word(fault: AskFault) -> &'static [u8]
 }
 
 /// Returns the name of a fault of converting.
-fn cvt_word(fault: CvtFault) -> &'static [u8]
-    ensures { result.now ≡ cvt_name fault }
+fn name_of_cvt_fault(fault: CvtFault) -> &'static [u8]
+    ensures { result.now ≡ convert_fault_name fault }
 {
     match fault {
         CvtFault::Cycle => b"Cycle",
@@ -114,8 +114,8 @@ fn cvt_word(fault: CvtFault) -> &'static [u8]
 }
 
 /// Returns the name of a fault of a filter.
-fn filter_word(fault: FilterFault) -> &'static [u8]
-    ensures { result.now ≡ filter_name fault }
+fn name_of_filter_fault(fault: FilterFault) -> &'static [u8]
+    ensures { result.now ≡ filter_fault_name fault }
 {
     match fault {
         FilterFault::BadKey => b"BadKey",
@@ -125,32 +125,38 @@ fn filter_word(fault: FilterFault) -> &'static [u8]
 }
 
 /// Returns the text of a fault of the policy file `file`.
-fn read_fault_text(alloc: Global, fault: &ReadFault, file: &[u8]) -> Result<Vec<u8>, AllocError>
-    ensures { IfOk result (λ text. text.items ≡ text_of_read fault.now file.now) }
+fn make_read_fault_text(
+    alloc: Global,
+    fault: &ReadFault,
+    file: &[u8],
+) -> Result<Vec<u8>, AllocError>
+    ensures { IfOk result (λ text. text.items ≡ read_fault_message fault.now file.now) }
 {
     match fault {
-        ReadFault::Text(fault) => text_fault_text(alloc, fault, file),
-        ReadFault::Syntax { line, col, why } => syntax_text(alloc, *line, *col, *why, file),
+        ReadFault::Text(fault) => make_text_fault_text(alloc, fault, file),
+        ReadFault::Syntax { line, col, why } => make_syntax_fault_text(
+            alloc, *line, *col, *why, file,
+        ),
         ReadFault::Reserved { kind, name } => {
-            at_name(alloc, *kind, name.as_slice(), b" reserved", file)
+            make_alias_name_fault_text(alloc, *kind, name.as_slice(), b" reserved", file)
         }
         ReadFault::Duplicate { kind, name } => {
-            at_name(alloc, *kind, name.as_slice(), b" defined twice", file)
+            make_alias_name_fault_text(alloc, *kind, name.as_slice(), b" defined twice", file)
         }
         ReadFault::TooMany { kind } => {
-            let mut text = concat(alloc, file, b": too many ")?;
-            text.extend_from_slice(kind_name(*kind))?;
+            let mut text = join_two_texts(alloc, file, b": too many ")?;
+            text.extend_from_slice(alias_keyword_of_kind(*kind))?;
             Ok(text)
         }
         ReadFault::NotLoaded { line, name } => {
-            include_text(alloc, *line, name.as_slice(), b" not loaded", file)
+            make_include_fault_text(alloc, *line, name.as_slice(), b" not loaded", file)
         }
         ReadFault::Twice { line, name } => {
-            include_text(alloc, *line, name.as_slice(), b" twice", file)
+            make_include_fault_text(alloc, *line, name.as_slice(), b" twice", file)
         }
         ReadFault::TooDeep { line } => {
-            let mut text = concat(alloc, file, b":")?;
-            append_number(alloc, &mut text, *line)?;
+            let mut text = join_two_texts(alloc, file, b":")?;
+            append_decimal_number(alloc, &mut text, *line)?;
             text.extend_from_slice(b":1: includes nested too deep")?;
             Ok(text)
         }
@@ -159,20 +165,20 @@ fn read_fault_text(alloc: Global, fault: &ReadFault, file: &[u8]) -> Result<Vec<
 }
 
 /// Returns the text of a fault of files that are loaded.
-pub fn load_fault_text(alloc: Global, fault: &LoadFault) -> Result<Vec<u8>, AllocError>
-    ensures { IfOk result (λ text. text.items ≡ text_of_load fault.now) }
+pub fn make_load_fault_text(alloc: Global, fault: &LoadFault) -> Result<Vec<u8>, AllocError>
+    ensures { IfOk result (λ text. text.items ≡ load_fault_message fault.now) }
 {
     match fault {
         LoadFault::TooManyFiles => Vec::from_slice(alloc, b"TooManyFiles"),
         LoadFault::SameName { .. } => Vec::from_slice(alloc, b"SameName"),
-        LoadFault::InFile { file, fault } => read_fault_text(alloc, fault, file.as_slice()),
+        LoadFault::InFile { file, fault } => make_read_fault_text(alloc, fault, file.as_slice()),
         LoadFault::NoMemory => Vec::from_slice(alloc, b"NoMemory"),
     }
 }
 
 /// Returns the name of a fault of files that are gathered.
-fn gather_word(fault: GatherFault) -> &'static [u8]
-    ensures { result.now ≡ gather_name fault }
+fn name_of_gather_fault(fault: GatherFault) -> &'static [u8]
+    ensures { result.now ≡ gather_fault_name fault }
 {
     match fault {
         GatherFault::NoRoot => b"NoRoot",
@@ -183,36 +189,36 @@ fn gather_word(fault: GatherFault) -> &'static [u8]
     }
 }
 
-fn syntax_text(
+fn make_syntax_fault_text(
     alloc: Global,
     line: usize,
     col: usize,
     why: Why,
     file: &[u8],
 ) -> Result<Vec<u8>, AllocError>
-    ensures { IfOk result (λ text. text.items ≡ text_of_read (ReadFault.Syntax line col why) file.now) }
+    ensures { IfOk result (λ text. text.items ≡ read_fault_message (ReadFault.Syntax line col why) file.now) }
 {
-    let mut text = concat(alloc, file, b":")?;
-    append_number(alloc, &mut text, line)?;
+    let mut text = join_two_texts(alloc, file, b":")?;
+    append_decimal_number(alloc, &mut text, line)?;
     text.extend_from_slice(b":")?;
-    append_number(alloc, &mut text, col)?;
+    append_decimal_number(alloc, &mut text, col)?;
     text.extend_from_slice(b": syntax error: ")?;
-    text.extend_from_slice(why_word(why))?;
+    text.extend_from_slice(name_of_syntax_reason(why))?;
     Ok(text)
 }
 
 /// Returns the place of the line with the number `line` of the file `file`, which includes `name`, and what is wrong with it.
-fn include_text(
+fn make_include_fault_text(
     alloc: Global,
     line: usize,
     name: &[u8],
     wrong: &[u8],
     file: &[u8],
 ) -> Result<Vec<u8>, AllocError>
-    ensures { IfOk result (λ text. text.items ≡ include_text file.now line name.now ++ wrong.now) }
+    ensures { IfOk result (λ text. text.items ≡ include_line_text file.now line name.now ++ wrong.now) }
 {
-    let mut text = concat(alloc, file, b":")?;
-    append_number(alloc, &mut text, line)?;
+    let mut text = join_two_texts(alloc, file, b":")?;
+    append_decimal_number(alloc, &mut text, line)?;
     text.extend_from_slice(b":1: include ")?;
     text.extend_from_slice(name)?;
     text.extend_from_slice(wrong)?;
@@ -220,25 +226,25 @@ fn include_text(
 }
 
 /// Returns the file `file`, the kind `kind`, the name `name`, and what is wrong with it.
-fn at_name(
+fn make_alias_name_fault_text(
     alloc: Global,
     kind: Kind,
     name: &[u8],
     wrong: &[u8],
     file: &[u8],
 ) -> Result<Vec<u8>, AllocError>
-    ensures { IfOk result (λ text. text.items ≡ name_text file.now kind name.now ++ wrong.now) }
+    ensures { IfOk result (λ text. text.items ≡ alias_name_in_file_text file.now kind name.now ++ wrong.now) }
 {
-    let mut text = concat(alloc, file, b": ")?;
-    text.extend_from_slice(kind_name(kind))?;
+    let mut text = join_two_texts(alloc, file, b": ")?;
+    text.extend_from_slice(alias_keyword_of_kind(kind))?;
     text.extend_from_slice(b" ")?;
     text.extend_from_slice(name)?;
     text.extend_from_slice(wrong)?;
     Ok(text)
 }
 
-fn why_word(why: Why) -> &'static [u8]
-    ensures { result.now ≡ why_name why }
+fn name_of_syntax_reason(why: Why) -> &'static [u8]
+    ensures { result.now ≡ syntax_reason_name why }
 {
     match why {
         Why::UnexpectedByte => b"UnexpectedByte",
@@ -253,76 +259,84 @@ fn why_word(why: Why) -> &'static [u8]
     }
 }
 
-fn text_fault_text(alloc: Global, fault: &TextFault, file: &[u8]) -> Result<Vec<u8>, AllocError>
-    ensures { IfOk result (λ text. text.items ≡ text_of_text fault.now file.now) }
+fn make_text_fault_text(
+    alloc: Global,
+    fault: &TextFault,
+    file: &[u8],
+) -> Result<Vec<u8>, AllocError>
+    ensures { IfOk result (λ text. text.items ≡ text_fault_message fault.now file.now) }
 {
     match fault {
-        TextFault::TooLarge => concat(alloc, file, b": TooLarge"),
-        TextFault::OpenContinuation => concat(alloc, file, b": OpenContinuation"),
+        TextFault::TooLarge => join_two_texts(alloc, file, b": TooLarge"),
+        TextFault::OpenContinuation => join_two_texts(alloc, file, b": OpenContinuation"),
         TextFault::NoMemory => Vec::from_slice(alloc, b"NoMemory"),
         TextFault::LineTooLong { line } => {
-            let mut text = concat(alloc, file, b":")?;
-            append_number(alloc, &mut text, *line)?;
+            let mut text = join_two_texts(alloc, file, b":")?;
+            append_decimal_number(alloc, &mut text, *line)?;
             text.extend_from_slice(b":1: line too long")?;
             Ok(text)
         }
         TextFault::Nul { at } => {
-            let mut text = concat(alloc, file, b": NUL at byte ")?;
-            append_number(alloc, &mut text, *at)?;
+            let mut text = join_two_texts(alloc, file, b": NUL at byte ")?;
+            append_decimal_number(alloc, &mut text, *at)?;
             Ok(text)
         }
     }
 }
 
-fn script_fault_text(alloc: Global, fault: &ScriptFault) -> Result<Vec<u8>, AllocError>
-    ensures { IfOk result (λ text. text.items ≡ text_of_script fault.now) }
+fn make_script_fault_text(alloc: Global, fault: &ScriptFault) -> Result<Vec<u8>, AllocError>
+    ensures { IfOk result (λ text. text.items ≡ script_fault_message fault.now) }
 {
     match fault {
-        ScriptFault::BadWord { line } => at_script_line(alloc, *line, b"BadWord"),
-        ScriptFault::BadNumber { line } => at_script_line(alloc, *line, b"BadNumber"),
-        ScriptFault::NoPayload { line } => at_script_line(alloc, *line, b"NoPayload"),
+        ScriptFault::BadWord { line } => make_script_line_text(alloc, *line, b"BadWord"),
+        ScriptFault::BadNumber { line } => make_script_line_text(alloc, *line, b"BadNumber"),
+        ScriptFault::NoPayload { line } => make_script_line_text(alloc, *line, b"NoPayload"),
         ScriptFault::TooMany => Vec::from_slice(alloc, b"TooMany"),
         ScriptFault::NoMemory => Vec::from_slice(alloc, b"NoMemory"),
     }
 }
 
-fn edit_fault_text(alloc: Global, place: usize, fault: &EditFault) -> Result<Vec<u8>, AllocError>
-    ensures { IfOk result (λ text. text.items ≡ text_of_edit place fault.now) }
+fn make_edit_fault_text(
+    alloc: Global,
+    place: usize,
+    fault: &EditFault,
+) -> Result<Vec<u8>, AllocError>
+    ensures { IfOk result (λ text. text.items ≡ edit_fault_message place fault.now) }
 {
     match fault {
         EditFault::NoMemory => Vec::from_slice(alloc, b"NoMemory"),
-        EditFault::NoFile => at_edit(alloc, place, b"NoFile"),
-        EditFault::NoLine => at_edit(alloc, place, b"NoLine"),
-        EditFault::NotOneLine => at_edit(alloc, place, b"NotOneLine"),
-        EditFault::OpenLine => at_edit(alloc, place, b"OpenLine"),
-        EditFault::NoAlias => at_edit(alloc, place, b"NoAlias"),
-        EditFault::NoPlace => at_edit(alloc, place, b"NoPlace"),
-        EditFault::OnlyOne => at_edit(alloc, place, b"OnlyOne"),
-        EditFault::BadName => at_edit(alloc, place, b"BadName"),
-        EditFault::NameTaken => at_edit(alloc, place, b"NameTaken"),
-        EditFault::BadSplice => at_edit(alloc, place, b"BadSplice"),
-        EditFault::EndAsIs => at_edit(alloc, place, b"EndAsIs"),
-        EditFault::TooLarge => at_edit(alloc, place, b"TooLarge"),
+        EditFault::NoFile => make_numbered_edit_text(alloc, place, b"NoFile"),
+        EditFault::NoLine => make_numbered_edit_text(alloc, place, b"NoLine"),
+        EditFault::NotOneLine => make_numbered_edit_text(alloc, place, b"NotOneLine"),
+        EditFault::OpenLine => make_numbered_edit_text(alloc, place, b"OpenLine"),
+        EditFault::NoAlias => make_numbered_edit_text(alloc, place, b"NoAlias"),
+        EditFault::NoPlace => make_numbered_edit_text(alloc, place, b"NoPlace"),
+        EditFault::OnlyOne => make_numbered_edit_text(alloc, place, b"OnlyOne"),
+        EditFault::BadName => make_numbered_edit_text(alloc, place, b"BadName"),
+        EditFault::NameTaken => make_numbered_edit_text(alloc, place, b"NameTaken"),
+        EditFault::BadSplice => make_numbered_edit_text(alloc, place, b"BadSplice"),
+        EditFault::EndAsIs => make_numbered_edit_text(alloc, place, b"EndAsIs"),
+        EditFault::TooLarge => make_numbered_edit_text(alloc, place, b"TooLarge"),
         EditFault::NotPolicy(fault) => {
-            let mut text = at_edit(alloc, place, b"NotPolicy: ")?;
-            text.extend_from_slice(load_fault_text(alloc, fault)?.as_slice())?;
+            let mut text = make_numbered_edit_text(alloc, place, b"NotPolicy: ")?;
+            text.extend_from_slice(make_load_fault_text(alloc, fault)?.as_slice())?;
             Ok(text)
         }
     }
 }
 
-fn at_script_line(alloc: Global, line: usize, name: &[u8]) -> Result<Vec<u8>, AllocError>
-    ensures { IfOk result (λ text. text.items ≡ script_text line name.now) }
+fn make_script_line_text(alloc: Global, line: usize, name: &[u8]) -> Result<Vec<u8>, AllocError>
+    ensures { IfOk result (λ text. text.items ≡ script_line_message line name.now) }
 {
     let mut text = Vec::from_slice(alloc, b"script:")?;
-    append_number(alloc, &mut text, line)?;
+    append_decimal_number(alloc, &mut text, line)?;
     text.extend_from_slice(b": ")?;
     text.extend_from_slice(name)?;
     Ok(text)
 }
 
-fn at_edit(alloc: Global, place: usize, name: &[u8]) -> Result<Vec<u8>, AllocError>
-    ensures { IfOk result (λ text. text.items ≡ edit_name place name.now) }
+fn make_numbered_edit_text(alloc: Global, place: usize, name: &[u8]) -> Result<Vec<u8>, AllocError>
+    ensures { IfOk result (λ text. text.items ≡ numbered_edit_message place name.now) }
 {
     let mut text = Vec::from_slice(alloc, b"edit ")?;
     let number = (place as u128 + 1).to_string(alloc)?;
@@ -332,7 +346,7 @@ fn at_edit(alloc: Global, place: usize, name: &[u8]) -> Result<Vec<u8>, AllocErr
     Ok(text)
 }
 
-fn concat(alloc: Global, front: &[u8], back: &[u8]) -> Result<Vec<u8>, AllocError>
+fn join_two_texts(alloc: Global, front: &[u8], back: &[u8]) -> Result<Vec<u8>, AllocError>
     ensures { IfOk result (λ text. text.items ≡ front.now ++ back.now) }
 {
     let mut text = Vec::from_slice(alloc, front)?;

@@ -1,9 +1,9 @@
 //! Reading an input whole.
 ghost use Rattle.std.specs.Prelude.{◌≡◌, ◌+◌, ◌<◌, ◌≤◌, length, IfOk, IfErr, MatchResult, min, ◌-◌, ◌^◌};
-ghost use Rattle.sudoers_run.specs.Edit.{input_limit};
-ghost use Rattle.sudoers_run.specs.Reading.{IsFront, IsFrontFault, IsReadFault, IsTextOf, ReadsFile, front_end, reading_end};
+ghost use Rattle.sudoers_run.specs.Edit.{edit_input_limit};
+ghost use Rattle.sudoers_run.specs.Reading.{IsTextReadUpToLimit, IsLimitedReadingFault, IsWholeReadingFault, IsTextOfReader, IsFileReadingEffect, reading_end_of_read_bytes, reading_end_of_result};
 
-use crate::device::{DeviceFailed, Pulled, Source};
+use crate::counting_devices::{DeviceFailed, PullOutcome, Source};
 use crate::fault::ToolFault;
 use std::alloc::Global;
 
@@ -15,17 +15,17 @@ pub const PULL_LIMIT: usize = 4_194_304;
 /// # Errors
 ///
 /// Of reading, an input that is too large, and want of memory.
-pub fn read_all<R: Source>(
+pub fn read_all_within_limit<R: Source>(
     alloc: Global,
     reader: &mut R,
     limit: usize,
 ) -> Result<Vec<u8>, ToolFault>
-    requires { limit ≤ input_limit }
-    ensures all { IfOk result (λ input. (length input.items ≤ limit) × IsTextOf (R.meter reader.old) input.items) }
-    ensures faults { IfErr result IsReadFault }
-    ensures reads { ReadsFile limit (reading_end result) (R.meter reader.old) (R.meter reader.new) }
+    requires { limit ≤ edit_input_limit }
+    ensures all { IfOk result (λ input. (length input.items ≤ limit) × IsTextOfReader (R.meter reader.old) input.items) }
+    ensures faults { IfErr result IsWholeReadingFault }
+    ensures reads { IsFileReadingEffect limit (reading_end_of_result result) (R.meter reader.old) (R.meter reader.new) }
 {
-    let input = read_front(alloc, reader, limit)?;
+    let input = read_up_to_limit(alloc, reader, limit)?;
     if input.len() > limit {
         return Err(ToolFault::InputTooLarge);
     }
@@ -37,15 +37,15 @@ pub fn read_all<R: Source>(
 /// # Errors
 ///
 /// Of reading, and want of memory.
-pub fn read_front<R: Source>(
+pub fn read_up_to_limit<R: Source>(
     alloc: Global,
     reader: &mut R,
     limit: usize,
 ) -> Result<Vec<u8>, ToolFault>
-    requires { limit ≤ input_limit }
-    ensures front { IfOk result (λ front. IsFront limit (R.meter reader.old) (R.meter reader.new) front.items) }
-    ensures faults { IfErr result IsFrontFault }
-    ensures reads { ReadsFile limit (front_end limit result) (R.meter reader.old) (R.meter reader.new) }
+    requires { limit ≤ edit_input_limit }
+    ensures front { IfOk result (λ front. IsTextReadUpToLimit limit (R.meter reader.old) (R.meter reader.new) front.items) }
+    ensures faults { IfErr result IsLimitedReadingFault }
+    ensures reads { IsFileReadingEffect limit (reading_end_of_read_bytes limit result) (R.meter reader.old) (R.meter reader.new) }
 {
     let mut input = Vec::new(alloc);
     let mut buffer = [0u8; 65_536];
@@ -54,8 +54,8 @@ pub fn read_front<R: Source>(
         let _ = pull;
         let room = buffer.len().min(limit + 1 - input.len());
         let n = match reader.pull(&mut buffer[..room]) {
-            Ok(Pulled::Bytes(n)) => n,
-            Ok(Pulled::Interrupted) => continue,
+            Ok(PullOutcome::Bytes(n)) => n,
+            Ok(PullOutcome::Interrupted) => continue,
             Err(DeviceFailed) => return Err(ToolFault::Read),
         };
         if n == 0 {

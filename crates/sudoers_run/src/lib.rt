@@ -2,30 +2,30 @@
 #![tactic(auto)]
 
 mod check;
+mod command_words;
 mod convert;
-mod device;
+mod counting_devices;
 mod edit;
 mod fault;
 mod fault_texts;
-mod form;
 mod input;
 mod input_shape;
 mod list;
 mod loading;
 mod output;
+mod output_form;
 mod show;
-mod undoing;
-mod words;
+mod undo_and_redo;
 
 pub use check::run_check;
+pub use command_words::{CheckWords, ConvertWords, ListWords};
 pub use convert::run_convert;
-pub use device::{Counted, DeviceFailed, Pulled, Sink, Source};
-pub use edit::{INPUT_LIMIT, edit_given, run_edit};
+pub use counting_devices::{Counted, DeviceFailed, PullOutcome, Sink, Source};
+pub use edit::{INPUT_LIMIT, edit_given_files, run_edit};
 pub use fault::{LayerFault, ToolFault};
 pub use fault_texts::fault_text;
-pub use form::Form;
-pub use input::read_all;
-pub use input_shape::InputShape;
+pub use input::read_all_within_limit;
+pub use input_shape::EditInputShape;
 pub use list::run_list;
+pub use output_form::OutputForm;
 pub use show::run_show;
-pub use words::{CheckWords, ConvertWords, ListWords};

@@ -1,11 +1,11 @@
 //! Loading the policy of a command: its files, from a root on.
 
 ghost use Rattle.std.specs.Prelude.{◌≡◌, false, Ok, IfErr, IfOk, IfSome, MatchResult};
-ghost use Rattle.sudoers_files.specs.Gather.{gathered};
-ghost use Rattle.sudoers_tree.specs.Load.{load_of};
-ghost use Rattle.sudoers_edit.specs.Memory.{IsOfFiles};
-ghost use Rattle.sudoers_run.specs.Policy.{IsPolicyOf, IsUnloaded, Searches, TellsGather};
-ghost use Rattle.sudoers_run.specs.internal.LayerOf.{by_layer};
+ghost use Rattle.sudoers_files.specs.Gather.{gathered_files_or_fault};
+ghost use Rattle.sudoers_tree.specs.Load.{policy_or_load_fault};
+ghost use Rattle.sudoers_edit.specs.Memory.{IsMemoryFreeLoadFault};
+ghost use Rattle.sudoers_run.specs.Policy.{IsPolicyFromRoot, IsFaultBeforeLoading, CommandLeavesFilesUnchanged, IsStatedGatherFault};
+ghost use Rattle.sudoers_run.specs.internal.LayerOf.{tool_result_of_layer_result};
 
 use crate::fault::LayerFault;
 use std::alloc::{AllocError, Global};
@@ -23,13 +23,13 @@ pub fn load_policy<F: Files>(
     files: &mut F,
     root: &[u8],
 ) -> Result<Result<Policy, LoadFault>, LayerFault>
-    ensures policy { IfOk result (λ policy. IfSome (F.shelf files.old).files (IsPolicyOf root.now policy)) }
-    ensures fault { IfErr result (λ fault. IfSome (F.shelf files.old).files (TellsGather root.now fault)) }
-    ensures named { MatchResult result (λ policy. IfErr policy IsOfFiles) IsUnloaded }
-    ensures searches { Searches (by_layer result) (F.shelf files.old) (F.shelf files.new) }
+    ensures policy { IfOk result (λ policy. IfSome (F.shelf files.old).files (IsPolicyFromRoot root.now policy)) }
+    ensures fault { IfErr result (λ fault. IfSome (F.shelf files.old).files (IsStatedGatherFault root.now fault)) }
+    ensures named { MatchResult result (λ policy. IfErr policy IsMemoryFreeLoadFault) IsFaultBeforeLoading }
+    ensures searches { CommandLeavesFilesUnchanged (tool_result_of_layer_result result) (F.shelf files.old) (F.shelf files.new) }
 {
-    let found = find_files(alloc, files, root)?;
-    Ok(load_found(alloc, found.as_slice())?)
+    let found = gather_policy_files(alloc, files, root)?;
+    Ok(load_gathered_files(alloc, found.as_slice())?)
 }
 
 /// Gathers the files of a policy from `root` on, and returns them.
@@ -37,15 +37,15 @@ pub fn load_policy<F: Files>(
 /// # Errors
 ///
 /// `Gather`: the files cannot be gathered. `NoMemory`: memory ran out.
-pub fn find_files<F: Files>(
+pub fn gather_policy_files<F: Files>(
     alloc: Global,
     files: &mut F,
     root: &[u8],
 ) -> Result<Vec<NamedFile>, LayerFault>
-    ensures found { IfOk result (λ found. IfSome (F.shelf files.old).files (λ known. gathered known root.now ≡ Ok found.items)) }
-    ensures fault { IfErr result (λ fault. IfSome (F.shelf files.old).files (TellsGather root.now fault)) }
-    ensures named { IfErr result IsUnloaded }
-    ensures searches { Searches (by_layer result) (F.shelf files.old) (F.shelf files.new) }
+    ensures found { IfOk result (λ found. IfSome (F.shelf files.old).files (λ known. gathered_files_or_fault known root.now ≡ Ok found.items)) }
+    ensures fault { IfErr result (λ fault. IfSome (F.shelf files.old).files (IsStatedGatherFault root.now fault)) }
+    ensures named { IfErr result IsFaultBeforeLoading }
+    ensures searches { CommandLeavesFilesUnchanged (tool_result_of_layer_result result) (F.shelf files.old) (F.shelf files.new) }
 {
     Ok(gather(alloc, root, files)?)
 }
@@ -55,23 +55,23 @@ pub fn find_files<F: Files>(
 /// # Errors
 ///
 /// Memory ran out.
-pub fn load_found(
+pub fn load_gathered_files(
     alloc: Global,
     found: &[NamedFile],
 ) -> Result<Result<Policy, LoadFault>, AllocError>
-    ensures policy { IfOk result (λ policy. load_of found.now ≡ policy) }
-    ensures named { IfOk result (λ policy. IfErr policy IsOfFiles) }
+    ensures policy { IfOk result (λ policy. policy_or_load_fault found.now ≡ policy) }
+    ensures named { IfOk result (λ policy. IfErr policy IsMemoryFreeLoadFault) }
 {
     match Policy::load(alloc, found) {
         Ok(policy) => Ok(Ok(policy)),
-        Err(fault) if is_of_memory(&fault) => Err(AllocError),
+        Err(fault) if is_memory_fault(&fault) => Err(AllocError),
         Err(fault) => Ok(Err(fault)),
     }
 }
 
 /// Returns whether the error `fault` is want of memory, or holds it.
-fn is_of_memory(fault: &LoadFault) -> bool
-    ensures { result ≡ false → IsOfFiles fault.now }
+fn is_memory_fault(fault: &LoadFault) -> bool
+    ensures { result ≡ false → IsMemoryFreeLoadFault fault.now }
 {
     match fault {
         LoadFault::NoMemory => true,

@@ -1,14 +1,14 @@
 //! Writing the output of a command.
 ghost use Rattle.std.specs.Prelude.{◌≡◌, ◌+◌, ◌<◌, ◌≤◌, length, IfErr, OnOk, OnErr, min, ◌-◌, ◌^◌};
 ghost use Rattle.std.specs.Io.KnownBytes.{Appends};
-ghost use Rattle.sudoers_run.specs.Device.{Rose, AppendsFront};
+ghost use Rattle.sudoers_run.specs.Device.{IsCountRaised, AppendsPrefixOfBytes};
 
-use crate::device::{DeviceFailed, Sink};
+use crate::counting_devices::{DeviceFailed, Sink};
 use crate::fault::ToolFault;
 
 /// The output of a command, and its exit status.
 #[derive(Drop)]
-pub struct Output {
+pub struct CommandOutput {
     pub text: Vec<u8>,
     pub status: u8,
 }
@@ -18,11 +18,11 @@ pub struct Output {
 /// # Errors
 ///
 /// The writer failed; a beginning of `bytes` is written.
-pub fn write_all<W: Sink>(writer: &mut W, bytes: &[u8]) -> Result<(), ToolFault>
+pub fn write_all_to_sink<W: Sink>(writer: &mut W, bytes: &[u8]) -> Result<(), ToolFault>
     ensures all { OnOk result (Appends (W.contents writer.old) (W.contents writer.new) bytes.now) }
-    ensures part { OnErr result (AppendsFront (W.contents writer.old) (W.contents writer.new) bytes.now) }
+    ensures part { OnErr result (AppendsPrefixOfBytes (W.contents writer.old) (W.contents writer.new) bytes.now) }
     ensures fault { IfErr result (λ fault. (fault ≡ ToolFault.Write)
-        × Rose (W.Sink.failures writer.old) (W.Sink.failures writer.new)) }
+        × IsCountRaised (W.Sink.failures writer.old) (W.Sink.failures writer.new)) }
     ensures well { OnOk result (W.Sink.failures writer.new ≡ W.Sink.failures writer.old) }
 {
     let mut at = 0;

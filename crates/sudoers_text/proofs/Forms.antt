@@ -4,42 +4,42 @@ use lib.Pointwise.{pointwise_long}
 use Rattle.std.specs.Prelude.{◌==◌, if◌then◌else◌, nat_lt, nat_eq}
 use Rattle.std.specs.List.{starts_with}
 use Rattle.std.proofs.lemmas.Bool.{eqb-true}
-use Rattle.sudoers_text.specs.declared.part.Rule.TheVariants as rule
-use Rattle.sudoers_text.specs.Unit.{LineUnit, Byte, begins_item, begun, is_empty, begins_comment, names_include, up_to_line_end, includedir_word, include_word, has_path, defaults_word}
-use Rattle.sudoers_text.specs.Part.{one_if, run_size, is_some_run, begins_with, quoted_size}
-use Rattle.sudoers_text.specs.Piece.{Form, Mark, Operator, Number, NonUnixGroup, Run, CommandPath, QuotedPart, CommentPart, IncludeWord, FirstWord, Argument, QuotedRest, is_piece, is_hash_number, is_colon_number, is_number, is_colon_word, is_group_word, operator_size, comment_size, include_size, first_word_size, quoted_rest_size, begins_scope, is_argument}
-use Rattle.sudoers_text.specs.Word.{is_among, at_includes}
-use Rattle.sudoers_text.specs.Found.{behind_prefix, hash_number_size, colon_number_size, number_size, colon_word_size, group_size, command_path_size, comment_at, include_at, argument_size, size_of}
-use Rattle.sudoers_text.proofs.Units.{and_parts}
-use Rattle.sudoers_text.proofs.Reach.{chosen_within, run_within, between_within, begins_inside, up_within}
-use Rattle.sudoers_text.proofs.Arguments.{argument_piece}
-use Rattle.sudoers_text.proofs.Sizes.{PieceSize, none_size, same_size, run_piece, positive, some_positive, eq_same, both}
+use Rattle.sudoers_text.specs.declared.part.ByteRunKind.TheVariants as rule
+use Rattle.sudoers_text.specs.Unit.{LineUnit, Byte, is_id_position_after_units, bytes_after_leading_gap, is_empty, is_hash_of_comment, is_rest_of_hash_include, bytes_up_to_line_end, includedir_word, include_word, has_blanks_and_path, defaults_word}
+use Rattle.sudoers_text.specs.Part.{size_of_one_matching_byte, leading_run_size, is_nonempty_run, has_given_first_byte, closed_quote_size}
+use Rattle.sudoers_text.specs.Piece.{TokenForm, Mark, Operator, Number, NonUnixGroup, Run, CommandPath, QuotedPart, CommentPart, IncludeWord, FirstWord, Argument, QuotedRest, is_piece_of_form, is_hash_id, is_optional_colon_id, is_numeric_id, is_colon_and_word, is_non_unix_group_word, plus_or_minus_equals_size, comment_size, hash_include_word_size, leading_keyword_size, quoted_argument_rest_size, has_host_or_runas_sign, is_argument_of_size}
+use Rattle.sudoers_text.specs.Word.{is_among, at_include_words}
+use Rattle.sudoers_text.specs.Found.{size_with_prefix, hash_id_size, optional_colon_id_size, numeric_id_size, colon_and_word_size, non_unix_group_size, command_path_size, comment_size_at, hash_include_size_at, argument_size, longest_piece_size}
+use Rattle.sudoers_text.proofs.Units.{true_conjunction_has_two_true_parts}
+use Rattle.sudoers_text.proofs.Reach.{choice_of_bounded_sizes_is_within_bound, leading_run_size_is_within_bytes, quoted_run_size_is_within_bytes, place_with_first_byte_is_within_bytes, line_end_search_is_within_bytes}
+use Rattle.sudoers_text.proofs.Arguments.{argument_size_is_that_of_longest_argument}
+use Rattle.sudoers_text.proofs.Sizes.{IsLongestPieceSize, test_failing_all_prefixes_has_zero_size, equal_tests_have_same_longest_piece_size, leading_run_size_is_longest_nonempty_run, positive_by_test_is_positive, positive_number_passes_positive_test, equal_numbers_pass_equality_test, two_true_values_are_true_together}
 
 -- how many bytes the longest piece of the form has that begins the bytes; 0: none does
-pub record IsSize (form : Form) (before : List LineUnit) (bytes : List ℕ) (n : ℕ) : Type 0 where
+pub record IsLongestFormPieceSize (form : TokenForm) (before : List LineUnit) (bytes : List ℕ) (n : ℕ) : Type 0 where
   pub inside : n ≤ length bytes
-  pub sound : 0 < n → is_piece form before bytes n ≡ true
-  pub most : (m : ℕ) → m ≤ length bytes → is_piece form before bytes m ≡ true → (0 < m) × (m ≤ n)
+  pub sound : 0 < n → is_piece_of_form form before bytes n ≡ true
+  pub most : (m : ℕ) → m ≤ length bytes → is_piece_of_form form before bytes m ≡ true → (0 < m) × (m ≤ n)
 
-cond_within : (t : Bool) (a n : ℕ) → (t ≡ true → a ≤ n) → (if t then a else 0) ≤ n
-cond_within true a n h = h refl
-cond_within false a n h = omega arith
+choice_with_zero_is_within_bound : (t : Bool) (a n : ℕ) → (t ≡ true → a ≤ n) → (if t then a else 0) ≤ n
+choice_with_zero_is_within_bound true a n h = h refl
+choice_with_zero_is_within_bound false a n h = omega arith
 
-else_within : (t : Bool) (a b n : ℕ) → (t ≡ true → a ≤ n) → b ≤ n → (if t then a else b) ≤ n
-else_within true a b n h k = h refl
-else_within false a b n h k = k
+choice_of_bounded_numbers_is_within_bound : (t : Bool) (a b n : ℕ) → (t ≡ true → a ≤ n) → b ≤ n → (if t then a else b) ≤ n
+choice_of_bounded_numbers_is_within_bound true a b n h k = h refl
+choice_of_bounded_numbers_is_within_bound false a b n h k = k
 
-take_short : (n : ℕ) (bytes : List ℕ) → length (take n bytes) ≤ length bytes
-take_short zero bytes = omega arith
-take_short (suc n) [] = omega arith
-take_short (suc n) (b ∷ bytes) = omega (arith, take_short n bytes)
+prefix_is_no_longer_than_bytes : (n : ℕ) (bytes : List ℕ) → length (take n bytes) ≤ length bytes
+prefix_is_no_longer_than_bytes zero bytes = omega arith
+prefix_is_no_longer_than_bytes (suc n) [] = omega arith
+prefix_is_no_longer_than_bytes (suc n) (b ∷ bytes) = omega (arith, prefix_is_no_longer_than_bytes n bytes)
 
-starts_long : (bytes needle : List ℕ) → starts_with nat_eq bytes needle ≡ true → length needle ≤ length bytes
-starts_long bytes needle h = omega (arith, pointwise_long nat_eq needle (take (length needle) bytes) h, take_short (length needle) bytes)
+word_that_begins_bytes_is_no_longer : (bytes needle : List ℕ) → starts_with nat_eq bytes needle ≡ true → length needle ≤ length bytes
+word_that_begins_bytes_is_no_longer bytes needle h = omega (arith, pointwise_long nat_eq needle (take (length needle) bytes) h, prefix_is_no_longer_than_bytes (length needle) bytes)
 
 -- nothing begins where nothing is left
-nothing_size : (is : List ℕ → Bool) → is [] ≡ false → PieceSize is [] 0
-nothing_size is none = none_size is [] absent
+longest_piece_of_empty_bytes_is_zero : (is : List ℕ → Bool) → is [] ≡ false → IsLongestPieceSize is [] 0
+longest_piece_of_empty_bytes_is_zero is none = test_failing_all_prefixes_has_zero_size is [] absent
   where
     absent : (m : ℕ) → m ≤ 0 → is (take m []) ≡ true → ⊥
     absent zero inside h = absurd (cc)
@@ -47,13 +47,13 @@ nothing_size is none = none_size is [] absent
 
 -- ---- one byte and more behind it
 
-behind_byte : (is other : List ℕ → Bool) (b : ℕ) (rest : List ℕ) (n : ℕ) → is [] ≡ false → ((text : List ℕ) → is (b ∷ text) ≡ other text) → PieceSize other rest n → PieceSize is (b ∷ rest) (behind_prefix 1 n)
-behind_byte is other b rest zero none same size = none_size is (b ∷ rest) absent
+piece_size_grows_by_first_byte : (is other : List ℕ → Bool) (b : ℕ) (rest : List ℕ) (n : ℕ) → is [] ≡ false → ((text : List ℕ) → is (b ∷ text) ≡ other text) → IsLongestPieceSize other rest n → IsLongestPieceSize is (b ∷ rest) (size_with_prefix 1 n)
+piece_size_grows_by_first_byte is other b rest zero none same size = test_failing_all_prefixes_has_zero_size is (b ∷ rest) absent
   where
     absent : (m : ℕ) → m ≤ suc (length rest) → is (take m (b ∷ rest)) ≡ true → ⊥
     absent zero inside h = absurd (cc)
     absent (suc m) inside h = let more = size.most m (omega arith) (sym (same (take m rest)) ∙ h) in omega (arith, more.0, more.1)
-behind_byte is other b rest (suc n) none same size = record {
+piece_size_grows_by_first_byte is other b rest (suc n) none same size = record {
   inside = omega (arith, size.inside);
   sound = λ some. let one : 1 + suc n ≡ suc (suc n) = omega arith in ap (λ (k : ℕ). is (take k (b ∷ rest))) one ∙ same (take (suc n) rest) ∙ size.sound (omega arith);
   most = most;
@@ -65,180 +65,180 @@ behind_byte is other b rest (suc n) none same size = record {
 
 -- ---- numbers
 
-hash_number : (before : List LineUnit) (bytes : List ℕ) → PieceSize (is_hash_number before) bytes (hash_number_size (begins_item before) bytes)
-unfolding hash_number_size
-hash_number before [] = nothing_size (is_hash_number before) refl
-hash_number before (b ∷ rest) = by_tests (b == 35) (begins_item before) refl refl
+hash_id_size_is_longest : (before : List LineUnit) (bytes : List ℕ) → IsLongestPieceSize (is_hash_id before) bytes (hash_id_size (is_id_position_after_units before) bytes)
+unfolding hash_id_size
+hash_id_size_is_longest before [] = longest_piece_of_empty_bytes_is_zero (is_hash_id before) refl
+hash_id_size_is_longest before (b ∷ rest) = by_tests (b == 35) (is_id_position_after_units before) refl refl
   where
-    by_tests : (s t : Bool) → (b == 35) ≡ s → begins_item before ≡ t → PieceSize (is_hash_number before) (b ∷ rest) (if s && t then behind_prefix 1 (run_size rule.Digits rest) else 0)
-    by_tests true true e f = behind_byte (is_hash_number before) (is_some_run rule.Digits) b rest (run_size rule.Digits rest) refl (λ text. rw e (rw f refl)) (run_piece rule.Digits rest)
-    by_tests true false e f = behind_byte (is_hash_number before) (λ text. false) b rest 0 refl (λ text. rw e (rw f refl)) (none_size (λ text. false) rest (λ m inside h. absurd (cc)))
-    by_tests false t e f = behind_byte (is_hash_number before) (λ text. false) b rest 0 refl (λ text. rw e refl) (none_size (λ text. false) rest (λ m inside h. absurd (cc)))
+    by_tests : (s t : Bool) → (b == 35) ≡ s → is_id_position_after_units before ≡ t → IsLongestPieceSize (is_hash_id before) (b ∷ rest) (if s && t then size_with_prefix 1 (leading_run_size rule.Digits rest) else 0)
+    by_tests true true e f = piece_size_grows_by_first_byte (is_hash_id before) (is_nonempty_run rule.Digits) b rest (leading_run_size rule.Digits rest) refl (λ text. rw e (rw f refl)) (leading_run_size_is_longest_nonempty_run rule.Digits rest)
+    by_tests true false e f = piece_size_grows_by_first_byte (is_hash_id before) (λ text. false) b rest 0 refl (λ text. rw e (rw f refl)) (test_failing_all_prefixes_has_zero_size (λ text. false) rest (λ m inside h. absurd (cc)))
+    by_tests false t e f = piece_size_grows_by_first_byte (is_hash_id before) (λ text. false) b rest 0 refl (λ text. rw e refl) (test_failing_all_prefixes_has_zero_size (λ text. false) rest (λ m inside h. absurd (cc)))
 
-colon_number : (before : List LineUnit) (bytes : List ℕ) → PieceSize (is_colon_number before) bytes (colon_number_size (begins_item before) bytes)
-unfolding colon_number_size
-colon_number before [] = nothing_size (is_colon_number before) refl
-colon_number before (b ∷ rest) = by_test (b == 58) refl
+optional_colon_id_size_is_longest : (before : List LineUnit) (bytes : List ℕ) → IsLongestPieceSize (is_optional_colon_id before) bytes (optional_colon_id_size (is_id_position_after_units before) bytes)
+unfolding optional_colon_id_size
+optional_colon_id_size_is_longest before [] = longest_piece_of_empty_bytes_is_zero (is_optional_colon_id before) refl
+optional_colon_id_size_is_longest before (b ∷ rest) = by_test (b == 58) refl
   where
-    by_test : (s : Bool) → (b == 58) ≡ s → PieceSize (is_colon_number before) (b ∷ rest) (if s then behind_prefix 1 (hash_number_size true rest) else hash_number_size (begins_item before) (b ∷ rest))
-    by_test true e = behind_byte (is_colon_number before) (is_hash_number (Byte 58 ∷ before)) b rest (hash_number_size true rest) refl (λ text. rw e refl) (hash_number (Byte 58 ∷ before) rest)
-    by_test false e = same_size (is_colon_number before) (is_hash_number before) (b ∷ rest) (hash_number_size (begins_item before) (b ∷ rest)) same (hash_number before (b ∷ rest))
+    by_test : (s : Bool) → (b == 58) ≡ s → IsLongestPieceSize (is_optional_colon_id before) (b ∷ rest) (if s then size_with_prefix 1 (hash_id_size true rest) else hash_id_size (is_id_position_after_units before) (b ∷ rest))
+    by_test true e = piece_size_grows_by_first_byte (is_optional_colon_id before) (is_hash_id (Byte 58 ∷ before)) b rest (hash_id_size true rest) refl (λ text. rw e refl) (hash_id_size_is_longest (Byte 58 ∷ before) rest)
+    by_test false e = equal_tests_have_same_longest_piece_size (is_optional_colon_id before) (is_hash_id before) (b ∷ rest) (hash_id_size (is_id_position_after_units before) (b ∷ rest)) same (hash_id_size_is_longest before (b ∷ rest))
       where
-        same : (m : ℕ) → is_colon_number before (take m (b ∷ rest)) ≡ is_hash_number before (take m (b ∷ rest))
+        same : (m : ℕ) → is_optional_colon_id before (take m (b ∷ rest)) ≡ is_hash_id before (take m (b ∷ rest))
         same zero = refl
         same (suc m) = rw e refl
 
-number : (before : List LineUnit) (bytes : List ℕ) → PieceSize (is_number before) bytes (number_size (begins_item before) bytes)
-unfolding number_size
-number before [] = nothing_size (is_number before) refl
-number before (b ∷ rest) = by_test (b == 37) refl
+numeric_id_size_is_longest : (before : List LineUnit) (bytes : List ℕ) → IsLongestPieceSize (is_numeric_id before) bytes (numeric_id_size (is_id_position_after_units before) bytes)
+unfolding numeric_id_size
+numeric_id_size_is_longest before [] = longest_piece_of_empty_bytes_is_zero (is_numeric_id before) refl
+numeric_id_size_is_longest before (b ∷ rest) = by_test (b == 37) refl
   where
-    by_test : (s : Bool) → (b == 37) ≡ s → PieceSize (is_number before) (b ∷ rest) (if s then behind_prefix 1 (colon_number_size (begins_item before) rest) else hash_number_size (begins_item before) (b ∷ rest))
-    by_test true e = behind_byte (is_number before) (is_colon_number (Byte 37 ∷ before)) b rest (colon_number_size (begins_item before) rest) refl (λ text. rw e refl) (colon_number (Byte 37 ∷ before) rest)
-    by_test false e = same_size (is_number before) (is_hash_number before) (b ∷ rest) (hash_number_size (begins_item before) (b ∷ rest)) same (hash_number before (b ∷ rest))
+    by_test : (s : Bool) → (b == 37) ≡ s → IsLongestPieceSize (is_numeric_id before) (b ∷ rest) (if s then size_with_prefix 1 (optional_colon_id_size (is_id_position_after_units before) rest) else hash_id_size (is_id_position_after_units before) (b ∷ rest))
+    by_test true e = piece_size_grows_by_first_byte (is_numeric_id before) (is_optional_colon_id (Byte 37 ∷ before)) b rest (optional_colon_id_size (is_id_position_after_units before) rest) refl (λ text. rw e refl) (optional_colon_id_size_is_longest (Byte 37 ∷ before) rest)
+    by_test false e = equal_tests_have_same_longest_piece_size (is_numeric_id before) (is_hash_id before) (b ∷ rest) (hash_id_size (is_id_position_after_units before) (b ∷ rest)) same (hash_id_size_is_longest before (b ∷ rest))
       where
-        same : (m : ℕ) → is_number before (take m (b ∷ rest)) ≡ is_hash_number before (take m (b ∷ rest))
+        same : (m : ℕ) → is_numeric_id before (take m (b ∷ rest)) ≡ is_hash_id before (take m (b ∷ rest))
         same zero = refl
         same (suc m) = rw e refl
 
 -- ---- words of non-Unix groups
 
-prefixed : (is other : List ℕ → Bool) (mark : ℕ) (bytes : List ℕ) (n : List ℕ → ℕ) → is [] ≡ false → ((b : ℕ) (text : List ℕ) → is (b ∷ text) ≡ (b == mark && other text)) → ((rest : List ℕ) → PieceSize other rest (n rest)) → (size : List ℕ → ℕ) → size [] ≡ 0 → ((b : ℕ) (rest : List ℕ) → size (b ∷ rest) ≡ (if b == mark then behind_prefix 1 (n rest) else 0)) → PieceSize is bytes (size bytes)
-prefixed is other mark [] n none same later size nothing told = subst (PieceSize is []) (sym nothing) (nothing_size is none)
-prefixed is other mark (b ∷ rest) n none same later size nothing told = subst (PieceSize is (b ∷ rest)) (sym (told b rest)) (by_test (b == mark) refl)
+size_of_marked_piece_is_longest : (is other : List ℕ → Bool) (mark : ℕ) (bytes : List ℕ) (n : List ℕ → ℕ) → is [] ≡ false → ((b : ℕ) (text : List ℕ) → is (b ∷ text) ≡ (b == mark && other text)) → ((rest : List ℕ) → IsLongestPieceSize other rest (n rest)) → (size : List ℕ → ℕ) → size [] ≡ 0 → ((b : ℕ) (rest : List ℕ) → size (b ∷ rest) ≡ (if b == mark then size_with_prefix 1 (n rest) else 0)) → IsLongestPieceSize is bytes (size bytes)
+size_of_marked_piece_is_longest is other mark [] n none same later size nothing told = subst (IsLongestPieceSize is []) (sym nothing) (longest_piece_of_empty_bytes_is_zero is none)
+size_of_marked_piece_is_longest is other mark (b ∷ rest) n none same later size nothing told = subst (IsLongestPieceSize is (b ∷ rest)) (sym (told b rest)) (by_test (b == mark) refl)
   where
-    by_test : (s : Bool) → (b == mark) ≡ s → PieceSize is (b ∷ rest) (if s then behind_prefix 1 (n rest) else 0)
-    by_test true e = behind_byte is other b rest (n rest) none (λ text. same b text ∙ ap (λ (t : Bool). t && other text) e) (later rest)
-    by_test false e = behind_byte is (λ text. false) b rest 0 none (λ text. same b text ∙ ap (λ (t : Bool). t && other text) e) (none_size (λ text. false) rest (λ m inside h. absurd (cc)))
+    by_test : (s : Bool) → (b == mark) ≡ s → IsLongestPieceSize is (b ∷ rest) (if s then size_with_prefix 1 (n rest) else 0)
+    by_test true e = piece_size_grows_by_first_byte is other b rest (n rest) none (λ text. same b text ∙ ap (λ (t : Bool). t && other text) e) (later rest)
+    by_test false e = piece_size_grows_by_first_byte is (λ text. false) b rest 0 none (λ text. same b text ∙ ap (λ (t : Bool). t && other text) e) (test_failing_all_prefixes_has_zero_size (λ text. false) rest (λ m inside h. absurd (cc)))
 
-colon_word : (bytes : List ℕ) → PieceSize is_colon_word bytes (colon_word_size bytes)
-unfolding colon_word_size
-colon_word bytes = prefixed is_colon_word (is_some_run rule.Word) 58 bytes (run_size rule.Word) refl (λ b text. refl) (run_piece rule.Word) colon_word_size refl (λ b rest. refl)
+colon_and_word_size_is_longest : (bytes : List ℕ) → IsLongestPieceSize is_colon_and_word bytes (colon_and_word_size bytes)
+unfolding colon_and_word_size
+colon_and_word_size_is_longest bytes = size_of_marked_piece_is_longest is_colon_and_word (is_nonempty_run rule.Word) 58 bytes (leading_run_size rule.Word) refl (λ b text. refl) (leading_run_size_is_longest_nonempty_run rule.Word) colon_and_word_size refl (λ b rest. refl)
 
-group_word : (bytes : List ℕ) → PieceSize is_group_word bytes (group_size bytes)
-unfolding group_size
-group_word bytes = prefixed is_group_word is_colon_word 37 bytes colon_word_size refl (λ b text. refl) colon_word group_size refl (λ b rest. refl)
+non_unix_group_size_is_longest : (bytes : List ℕ) → IsLongestPieceSize is_non_unix_group_word bytes (non_unix_group_size bytes)
+unfolding non_unix_group_size
+non_unix_group_size_is_longest bytes = size_of_marked_piece_is_longest is_non_unix_group_word is_colon_and_word 37 bytes colon_and_word_size refl (λ b text. refl) colon_and_word_size_is_longest non_unix_group_size refl (λ b rest. refl)
 
 -- ---- pieces of one size
 
-definite : (form : Form) (before : List LineUnit) (bytes : List ℕ) (n : ℕ) → n ≤ length bytes → ((m : ℕ) → is_piece form before bytes m ≡ (nat_lt 0 m && (m == n))) → IsSize form before bytes n
-definite form before bytes n inside told = record {
+only_possible_size_is_longest_form_size : (form : TokenForm) (before : List LineUnit) (bytes : List ℕ) (n : ℕ) → n ≤ length bytes → ((m : ℕ) → is_piece_of_form form before bytes m ≡ (nat_lt 0 m && (m == n))) → IsLongestFormPieceSize form before bytes n
+only_possible_size_is_longest_form_size form before bytes n inside told = record {
   inside = inside;
-  sound = λ some. told n ∙ both (nat_lt 0 n) (n == n) (some_positive n some) (eq_same n n refl);
+  sound = λ some. told n ∙ two_true_values_are_true_together (nat_lt 0 n) (n == n) (positive_number_passes_positive_test n some) (equal_numbers_pass_equality_test n n refl);
   most = λ m below h.
-      let parts = and_parts (nat_lt 0 m) (m == n) (sym (told m) ∙ h) in
-      (positive m parts.0, omega (arith, eqb-true m n parts.1));
+      let parts = true_conjunction_has_two_true_parts (nat_lt 0 m) (m == n) (sym (told m) ∙ h) in
+      (positive_by_test_is_positive m parts.0, omega (arith, eqb-true m n parts.1));
 }
 
-by_text : (form : Form) (before : List LineUnit) (bytes : List ℕ) (n : ℕ) (is : List ℕ → Bool) → ((m : ℕ) → is_piece form before bytes m ≡ is (take m bytes)) → PieceSize is bytes n → IsSize form before bytes n
-by_text form before bytes n is told size = record {
+longest_text_piece_is_longest_form_piece : (form : TokenForm) (before : List LineUnit) (bytes : List ℕ) (n : ℕ) (is : List ℕ → Bool) → ((m : ℕ) → is_piece_of_form form before bytes m ≡ is (take m bytes)) → IsLongestPieceSize is bytes n → IsLongestFormPieceSize form before bytes n
+longest_text_piece_is_longest_form_piece form before bytes n is told size = record {
   inside = size.inside;
   sound = λ some. told n ∙ size.sound some;
   most = λ m below h. size.most m below (sym (told m) ∙ h);
 }
 
-mark : (test : ℕ → Bool) (before : List LineUnit) (bytes : List ℕ) → IsSize (Mark test) before bytes (one_if test bytes)
-mark test before [] = record { inside = omega arith; sound = λ some. absurd (omega arith); most = λ m below h. absurd (cc) }
-mark test before (b ∷ rest) = by_test (test b) refl
+one_byte_size_is_longest_mark_size : (test : ℕ → Bool) (before : List LineUnit) (bytes : List ℕ) → IsLongestFormPieceSize (Mark test) before bytes (size_of_one_matching_byte test bytes)
+one_byte_size_is_longest_mark_size test before [] = record { inside = omega arith; sound = λ some. absurd (omega arith); most = λ m below h. absurd (cc) }
+one_byte_size_is_longest_mark_size test before (b ∷ rest) = by_test (test b) refl
   where
-    by_test : (t : Bool) → test b ≡ t → IsSize (Mark test) before (b ∷ rest) (if t then 1 else 0)
+    by_test : (t : Bool) → test b ≡ t → IsLongestFormPieceSize (Mark test) before (b ∷ rest) (if t then 1 else 0)
     by_test true e = record {
       inside = omega arith;
       sound = λ some. rw e refl;
       most = λ m below h.
-          let parts = and_parts (test b) (m == 1) h in
+          let parts = true_conjunction_has_two_true_parts (test b) (m == 1) h in
           let one : m ≡ 1 = eqb-true m 1 parts.1 in
           (omega arith, omega arith);
     }
     by_test false e = record {
       inside = omega arith;
       sound = λ some. absurd (omega arith);
-      most = λ m below h. let parts = and_parts (test b) (m == 1) h in absurd (cc);
+      most = λ m below h. let parts = true_conjunction_has_two_true_parts (test b) (m == 1) h in absurd (cc);
     }
 
-operator_within : (bytes : List ℕ) → operator_size bytes ≤ length bytes
-unfolding operator_size
-operator_within [] = omega arith
-operator_within (b ∷ []) = omega arith
-operator_within (b ∷ c ∷ rest) = chosen_within ((b == 43 || b == 45) && c == 61) 2 0 (length (b ∷ c ∷ rest)) (omega arith) (omega arith)
+operator_size_is_within_bytes : (bytes : List ℕ) → plus_or_minus_equals_size bytes ≤ length bytes
+unfolding plus_or_minus_equals_size
+operator_size_is_within_bytes [] = omega arith
+operator_size_is_within_bytes (b ∷ []) = omega arith
+operator_size_is_within_bytes (b ∷ c ∷ rest) = choice_of_bounded_sizes_is_within_bound ((b == 43 || b == 45) && c == 61) 2 0 (length (b ∷ c ∷ rest)) (omega arith) (omega arith)
 
-command_path : (before : List LineUnit) (bytes : List ℕ) → IsSize CommandPath before bytes (command_path_size bytes)
+command_path_size_is_longest_path_size : (before : List LineUnit) (bytes : List ℕ) → IsLongestFormPieceSize CommandPath before bytes (command_path_size bytes)
 unfolding command_path_size
-command_path before bytes = by_test (begins_with 47 bytes) refl
+command_path_size_is_longest_path_size before bytes = by_test (has_given_first_byte 47 bytes) refl
   where
-    by_test : (t : Bool) → begins_with 47 bytes ≡ t → IsSize CommandPath before bytes (if t then run_size rule.Path bytes else 0)
-    by_test true e = by_text CommandPath before bytes (run_size rule.Path bytes) (is_some_run rule.Path) (λ m. rw e refl) (run_piece rule.Path bytes)
-    by_test false e = by_text CommandPath before bytes 0 (λ text. false) (λ m. rw e refl) (none_size (λ text. false) bytes (λ m inside h. absurd (cc)))
+    by_test : (t : Bool) → has_given_first_byte 47 bytes ≡ t → IsLongestFormPieceSize CommandPath before bytes (if t then leading_run_size rule.Path bytes else 0)
+    by_test true e = longest_text_piece_is_longest_form_piece CommandPath before bytes (leading_run_size rule.Path bytes) (is_nonempty_run rule.Path) (λ m. rw e refl) (leading_run_size_is_longest_nonempty_run rule.Path bytes)
+    by_test false e = longest_text_piece_is_longest_form_piece CommandPath before bytes 0 (λ text. false) (λ m. rw e refl) (test_failing_all_prefixes_has_zero_size (λ text. false) bytes (λ m inside h. absurd (cc)))
 
 -- ---- pieces that begin with `#`
 
-comment_same : (before : List LineUnit) (bytes : List ℕ) → comment_at (begins_item before) (is_empty (begun before)) bytes ≡ comment_size before bytes
-unfolding comment_at
-comment_same before [] = refl
-comment_same before (b ∷ rest) = refl
+comment_size_by_flags_is_comment_size : (before : List LineUnit) (bytes : List ℕ) → comment_size_at (is_id_position_after_units before) (is_empty (bytes_after_leading_gap before)) bytes ≡ comment_size before bytes
+unfolding comment_size_at
+comment_size_by_flags_is_comment_size before [] = refl
+comment_size_by_flags_is_comment_size before (b ∷ rest) = refl
 
-comment_within : (before : List LineUnit) (bytes : List ℕ) → comment_size before bytes ≤ length bytes
-comment_within before [] = omega arith
-comment_within before (b ∷ rest) = cond_within (b == 35 && begins_comment before rest) (length (up_to_line_end rest) + 1) (length (b ∷ rest)) (λ t. omega (arith, up_within rest))
+comment_size_is_within_bytes : (before : List LineUnit) (bytes : List ℕ) → comment_size before bytes ≤ length bytes
+comment_size_is_within_bytes before [] = omega arith
+comment_size_is_within_bytes before (b ∷ rest) = choice_with_zero_is_within_bound (b == 35 && is_hash_of_comment before rest) (length (bytes_up_to_line_end rest) + 1) (length (b ∷ rest)) (λ t. omega (arith, line_end_search_is_within_bytes rest))
 
-include_same : (before : List LineUnit) (bytes : List ℕ) → include_at (is_empty (begun before)) bytes ≡ include_size before bytes
-unfolding include_at
-include_same before [] = refl
-include_same before (b ∷ rest) = refl
+include_size_by_flag_is_include_size : (before : List LineUnit) (bytes : List ℕ) → hash_include_size_at (is_empty (bytes_after_leading_gap before)) bytes ≡ hash_include_word_size before bytes
+unfolding hash_include_size_at
+include_size_by_flag_is_include_size before [] = refl
+include_size_by_flag_is_include_size before (b ∷ rest) = refl
 
-include_fits : (rest : List ℕ) → names_include rest ≡ true → (if starts_with nat_eq rest includedir_word then 11 else 8) ≤ suc (length rest)
-include_fits rest h = by_test (starts_with nat_eq rest includedir_word) (starts_with nat_eq rest include_word) refl refl h
+hash_include_word_fits_into_bytes : (rest : List ℕ) → is_rest_of_hash_include rest ≡ true → (if starts_with nat_eq rest includedir_word then 11 else 8) ≤ suc (length rest)
+hash_include_word_fits_into_bytes rest h = by_test (starts_with nat_eq rest includedir_word) (starts_with nat_eq rest include_word) refl refl h
   where
-    by_test : (s t : Bool) → starts_with nat_eq rest includedir_word ≡ s → starts_with nat_eq rest include_word ≡ t → ((t && has_path (drop 7 rest)) || (s && has_path (drop 10 rest))) ≡ true → (if s then 11 else 8) ≤ suc (length rest)
-    by_test true t e f g = omega (arith, starts_long rest includedir_word e)
-    by_test false true e f g = omega (arith, starts_long rest include_word f)
+    by_test : (s t : Bool) → starts_with nat_eq rest includedir_word ≡ s → starts_with nat_eq rest include_word ≡ t → ((t && has_blanks_and_path (drop 7 rest)) || (s && has_blanks_and_path (drop 10 rest))) ≡ true → (if s then 11 else 8) ≤ suc (length rest)
+    by_test true t e f g = omega (arith, word_that_begins_bytes_is_no_longer rest includedir_word e)
+    by_test false true e f g = omega (arith, word_that_begins_bytes_is_no_longer rest include_word f)
     by_test false false e f g = absurd (cc)
 
-include_within : (before : List LineUnit) (bytes : List ℕ) → include_size before bytes ≤ length bytes
-include_within before [] = omega arith
-include_within before (b ∷ rest) =
-    cond_within (b == 35 && (is_empty (begun before) && names_include rest)) (if starts_with nat_eq rest includedir_word then 11 else 8) (length (b ∷ rest))
+hash_include_word_size_is_within_bytes : (before : List LineUnit) (bytes : List ℕ) → hash_include_word_size before bytes ≤ length bytes
+hash_include_word_size_is_within_bytes before [] = omega arith
+hash_include_word_size_is_within_bytes before (b ∷ rest) =
+    choice_with_zero_is_within_bound (b == 35 && (is_empty (bytes_after_leading_gap before) && is_rest_of_hash_include rest)) (if starts_with nat_eq rest includedir_word then 11 else 8) (length (b ∷ rest))
     (λ t.
-    let parts = and_parts (b == 35) (is_empty (begun before) && names_include rest) t in
-    include_fits rest (and_parts (is_empty (begun before)) (names_include rest) parts.1).1)
+    let parts = true_conjunction_has_two_true_parts (b == 35) (is_empty (bytes_after_leading_gap before) && is_rest_of_hash_include rest) t in
+    hash_include_word_fits_into_bytes rest (true_conjunction_has_two_true_parts (is_empty (bytes_after_leading_gap before)) (is_rest_of_hash_include rest) parts.1).1)
 
 -- ---- others
 
-first_word_within : (bytes : List ℕ) → first_word_size bytes ≤ length bytes
-unfolding first_word_size
-first_word_within bytes =
-    let word = run_size rule.Word bytes in
+leading_keyword_size_is_within_bytes : (bytes : List ℕ) → leading_keyword_size bytes ≤ length bytes
+unfolding leading_keyword_size
+leading_keyword_size_is_within_bytes bytes =
+    let word = leading_run_size rule.Word bytes in
     let defaults = starts_with nat_eq bytes defaults_word in
-    let whole = word == 8 || begins_scope (drop 8 bytes) in
-    else_within (defaults && whole) 8 (if is_among at_includes (take word bytes) then word else 0) (length bytes)
-    (λ t. omega (arith, starts_long bytes defaults_word (and_parts defaults whole t).0))
-    (cond_within (is_among at_includes (take word bytes)) word (length bytes) (λ t. run_within rule.Word bytes))
+    let whole = word == 8 || has_host_or_runas_sign (drop 8 bytes) in
+    choice_of_bounded_numbers_is_within_bound (defaults && whole) 8 (if is_among at_include_words (take word bytes) then word else 0) (length bytes)
+    (λ t. omega (arith, word_that_begins_bytes_is_no_longer bytes defaults_word (true_conjunction_has_two_true_parts defaults whole t).0))
+    (choice_with_zero_is_within_bound (is_among at_include_words (take word bytes)) word (length bytes) (λ t. leading_run_size_is_within_bytes rule.Word bytes))
 
-quoted_rest_within : (bytes : List ℕ) → quoted_rest_size bytes ≤ length bytes
-unfolding quoted_rest_size
-quoted_rest_within bytes =
-    let clean = run_size rule.Clean bytes in
-    else_within (begins_with 34 (drop clean bytes)) (clean + 1) clean (length bytes)
-    (λ t. omega (arith, begins_inside 34 clean bytes t)) (run_within rule.Clean bytes)
+quoted_argument_rest_is_within_bytes : (bytes : List ℕ) → quoted_argument_rest_size bytes ≤ length bytes
+unfolding quoted_argument_rest_size
+quoted_argument_rest_is_within_bytes bytes =
+    let clean = leading_run_size rule.Clean bytes in
+    choice_of_bounded_numbers_is_within_bound (has_given_first_byte 34 (drop clean bytes)) (clean + 1) clean (length bytes)
+    (λ t. omega (arith, place_with_first_byte_is_within_bytes 34 clean bytes t)) (leading_run_size_is_within_bytes rule.Clean bytes)
 
-pub is_size : (form : Form) (before : List LineUnit) (bytes : List ℕ) → IsSize form before bytes (size_of form (begins_item before) (is_empty (begun before)) bytes)
-is_size (Mark test) before bytes = mark test before bytes
-is_size Operator before bytes = definite Operator before bytes (operator_size bytes) (operator_within bytes) (λ m. refl)
-is_size Number before bytes = by_text Number before bytes (number_size (begins_item before) bytes) (is_number before) (λ m. refl) (number before bytes)
-is_size NonUnixGroup before bytes = by_text NonUnixGroup before bytes (group_size bytes) is_group_word (λ m. refl) (group_word bytes)
-is_size (Run k r) before bytes = by_text (Run k r) before bytes (run_size r bytes) (is_some_run r) (λ m. refl) (run_piece r bytes)
-is_size CommandPath before bytes = command_path before bytes
-is_size (QuotedPart k) before bytes = definite (QuotedPart k) before bytes (quoted_size bytes) (between_within rule.Quote bytes) (λ m. refl)
-is_size CommentPart before bytes =
-    subst (IsSize CommentPart before bytes) (sym (comment_same before bytes)) (definite CommentPart before bytes (comment_size before bytes) (comment_within before bytes) (λ m. refl))
-is_size IncludeWord before bytes =
-    subst (IsSize IncludeWord before bytes) (sym (include_same before bytes)) (definite IncludeWord before bytes (include_size before bytes) (include_within before bytes) (λ m. refl))
-is_size FirstWord before bytes = definite FirstWord before bytes (first_word_size bytes) (first_word_within bytes) (λ m. refl)
-is_size Argument before bytes =
-    let size = argument_piece bytes in
+pub computed_form_size_is_longest : (form : TokenForm) (before : List LineUnit) (bytes : List ℕ) → IsLongestFormPieceSize form before bytes (longest_piece_size form (is_id_position_after_units before) (is_empty (bytes_after_leading_gap before)) bytes)
+computed_form_size_is_longest (Mark test) before bytes = one_byte_size_is_longest_mark_size test before bytes
+computed_form_size_is_longest Operator before bytes = only_possible_size_is_longest_form_size Operator before bytes (plus_or_minus_equals_size bytes) (operator_size_is_within_bytes bytes) (λ m. refl)
+computed_form_size_is_longest Number before bytes = longest_text_piece_is_longest_form_piece Number before bytes (numeric_id_size (is_id_position_after_units before) bytes) (is_numeric_id before) (λ m. refl) (numeric_id_size_is_longest before bytes)
+computed_form_size_is_longest NonUnixGroup before bytes = longest_text_piece_is_longest_form_piece NonUnixGroup before bytes (non_unix_group_size bytes) is_non_unix_group_word (λ m. refl) (non_unix_group_size_is_longest bytes)
+computed_form_size_is_longest (Run k r) before bytes = longest_text_piece_is_longest_form_piece (Run k r) before bytes (leading_run_size r bytes) (is_nonempty_run r) (λ m. refl) (leading_run_size_is_longest_nonempty_run r bytes)
+computed_form_size_is_longest CommandPath before bytes = command_path_size_is_longest_path_size before bytes
+computed_form_size_is_longest (QuotedPart k) before bytes = only_possible_size_is_longest_form_size (QuotedPart k) before bytes (closed_quote_size bytes) (quoted_run_size_is_within_bytes rule.Quote bytes) (λ m. refl)
+computed_form_size_is_longest CommentPart before bytes =
+    subst (IsLongestFormPieceSize CommentPart before bytes) (sym (comment_size_by_flags_is_comment_size before bytes)) (only_possible_size_is_longest_form_size CommentPart before bytes (comment_size before bytes) (comment_size_is_within_bytes before bytes) (λ m. refl))
+computed_form_size_is_longest IncludeWord before bytes =
+    subst (IsLongestFormPieceSize IncludeWord before bytes) (sym (include_size_by_flag_is_include_size before bytes)) (only_possible_size_is_longest_form_size IncludeWord before bytes (hash_include_word_size before bytes) (hash_include_word_size_is_within_bytes before bytes) (λ m. refl))
+computed_form_size_is_longest FirstWord before bytes = only_possible_size_is_longest_form_size FirstWord before bytes (leading_keyword_size bytes) (leading_keyword_size_is_within_bytes bytes) (λ m. refl)
+computed_form_size_is_longest Argument before bytes =
+    let size = argument_size_is_that_of_longest_argument bytes in
     record {
       inside = size.inside;
-      sound = λ some. both (nat_lt 0 (argument_size bytes)) (is_argument bytes (argument_size bytes)) (some_positive (argument_size bytes) some) (size.sound some);
-      most = λ m below h. let parts = and_parts (nat_lt 0 m) (is_argument bytes m) h in (positive m parts.0, size.most m below parts.1);
+      sound = λ some. two_true_values_are_true_together (nat_lt 0 (argument_size bytes)) (is_argument_of_size bytes (argument_size bytes)) (positive_number_passes_positive_test (argument_size bytes) some) (size.sound some);
+      most = λ m below h. let parts = true_conjunction_has_two_true_parts (nat_lt 0 m) (is_argument_of_size bytes m) h in (positive_by_test_is_positive m parts.0, size.most m below parts.1);
     }
-is_size QuotedRest before bytes = definite QuotedRest before bytes (quoted_rest_size bytes) (quoted_rest_within bytes) (λ m. refl)
+computed_form_size_is_longest QuotedRest before bytes = only_possible_size_is_longest_form_size QuotedRest before bytes (quoted_argument_rest_size bytes) (quoted_argument_rest_is_within_bytes bytes) (λ m. refl)

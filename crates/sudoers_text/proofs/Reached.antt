@@ -5,117 +5,117 @@ use Rattle.std.proofs.lemmas.Bool.{or_parts}
 use Rattle.std.proofs.lemmas.Bool.Decides.{eqb_tells}
 use Rattle.sudoers_text.specs.declared.token.TokenKind.{TokenKind}
 use Rattle.std.proofs.lemmas.List.{length-append}
-use Rattle.sudoers_text.specs.declared.unit.Left.{Left}
-use Rattle.sudoers_text.specs.Unit.{LineUnit, text_of, begins_lf, begins_item, begun, is_empty, escaped}
-use Rattle.sudoers_text.specs.internal.Left.{Knows, ends_apart, begins_sign}
-use Rattle.sudoers_text.specs.Piece.{Form, Mark, Operator, Number, NonUnixGroup, Run, CommandPath, QuotedPart, CommentPart, IncludeWord, FirstWord, Argument, QuotedRest, kind_of}
-use Rattle.sudoers_text.specs.Token.{plain_unit, passed, passed_from, units_left}
-use Rattle.sudoers_text.specs.Found.{hash_number_size, number_size, comment_at, include_at, size_of, found, found_behind}
-use Rattle.sudoers_text.proofs.Units.{is_empty-length}
-use Rattle.sudoers_text.proofs.Passed.{plain_front}
-use Rattle.sudoers_text.proofs.Steady.{by_escape, other_escaped, take_more}
+use Rattle.sudoers_text.specs.declared.text_units.LeftContext.{LeftContext}
+use Rattle.sudoers_text.specs.Unit.{LineUnit, bytes_of_unit, begins_lf, is_id_position_after_units, bytes_after_leading_gap, is_empty, unit_after_backslash}
+use Rattle.sudoers_text.specs.internal.Left.{LeftDescribesUnits, ends_without_backslash_or_cr, has_leading_hash_or_percent}
+use Rattle.sudoers_text.specs.Piece.{TokenForm, Mark, Operator, Number, NonUnixGroup, Run, CommandPath, QuotedPart, CommentPart, IncludeWord, FirstWord, Argument, QuotedRest, kind_of_form}
+use Rattle.sudoers_text.specs.Token.{byte_or_escape_unit, units_with_those_of_bytes, units_with_rest_of_bytes, units_left_of_place}
+use Rattle.sudoers_text.specs.Found.{hash_id_size, numeric_id_size, comment_size_at, hash_include_size_at, longest_piece_size, kind_and_size_of_token, kind_and_size_after_units}
+use Rattle.sudoers_text.proofs.Units.{emptiness_test_is_zero_length_test}
+use Rattle.sudoers_text.proofs.Passed.{bytes_begin_with_byte_or_escape_unit}
+use Rattle.sudoers_text.proofs.Steady.{bytes_after_backslash_have_five_cases, backslash_before_other_byte_is_pair, prefix_and_next_bytes_are_longer_prefix}
 
 -- ---- units of a longer text
 
-apart_tail : (b : ℕ) (rest : List ℕ) → ends_apart (b ∷ rest) ≡ true → ends_apart rest ≡ true
-apart_tail b [] h = refl
-apart_tail b (c ∷ rest) h = h
+tail_ends_without_backslash_or_cr : (b : ℕ) (rest : List ℕ) → ends_without_backslash_or_cr (b ∷ rest) ≡ true → ends_without_backslash_or_cr rest ≡ true
+tail_ends_without_backslash_or_cr b [] h = refl
+tail_ends_without_backslash_or_cr b (c ∷ rest) h = h
 
-escaped_apart : (more rest : List ℕ) → ends_apart (92 ∷ rest) ≡ true → escaped (rest ++ more) ≡ escaped rest
-escaped_apart more =
-    by_escape (λ rest. ends_apart (92 ∷ rest) ≡ true → escaped (rest ++ more) ≡ escaped rest) (λ h. absurd (cc))
+escaped_unit_is_same_in_longer_text : (more rest : List ℕ) → ends_without_backslash_or_cr (92 ∷ rest) ≡ true → unit_after_backslash (rest ++ more) ≡ unit_after_backslash rest
+escaped_unit_is_same_in_longer_text more =
+    bytes_after_backslash_have_five_cases (λ rest. ends_without_backslash_or_cr (92 ∷ rest) ≡ true → unit_after_backslash (rest ++ more) ≡ unit_after_backslash rest) (λ h. absurd (cc))
     (λ rest h. refl)
     (λ rest h. refl)
     behind_cr
-    (λ c rest e f h. other_escaped c (rest ++ more) e f ∙ sym (other_escaped c rest e f))
+    (λ c rest e f h. backslash_before_other_byte_is_pair c (rest ++ more) e f ∙ sym (backslash_before_other_byte_is_pair c rest e f))
   where
-    behind_cr : (rest : List ℕ) → begins_lf rest ≡ false → ends_apart (92 ∷ 13 ∷ rest) ≡ true → escaped (13 ∷ rest ++ more) ≡ escaped (13 ∷ rest)
+    behind_cr : (rest : List ℕ) → begins_lf rest ≡ false → ends_without_backslash_or_cr (92 ∷ 13 ∷ rest) ≡ true → unit_after_backslash (13 ∷ rest ++ more) ≡ unit_after_backslash (13 ∷ rest)
     behind_cr [] e h = absurd (cc)
     behind_cr (d ∷ rest) e h = refl
 
-plain_apart : (b : ℕ) (rest more : List ℕ) → ends_apart (b ∷ rest) ≡ true → plain_unit b (rest ++ more) ≡ plain_unit b rest
-plain_apart b rest more h =
+plain_unit_is_same_in_longer_text : (b : ℕ) (rest more : List ℕ) → ends_without_backslash_or_cr (b ∷ rest) ≡ true → byte_or_escape_unit b (rest ++ more) ≡ byte_or_escape_unit b rest
+plain_unit_is_same_in_longer_text b rest more h =
     elim (eqb_tells b 92) [
       | inl w ↦
-          let mine : ends_apart (92 ∷ rest) ≡ true = subst (λ (c : ℕ). ends_apart (c ∷ rest) ≡ true) w.1 h in
-          subst (λ (c : ℕ). plain_unit c (rest ++ more) ≡ plain_unit c rest) (sym w.1) (escaped_apart more rest mine)
+          let mine : ends_without_backslash_or_cr (92 ∷ rest) ≡ true = subst (λ (c : ℕ). ends_without_backslash_or_cr (c ∷ rest) ≡ true) w.1 h in
+          subst (λ (c : ℕ). byte_or_escape_unit c (rest ++ more) ≡ byte_or_escape_unit c rest) (sym w.1) (escaped_unit_is_same_in_longer_text more rest mine)
       | inr w ↦ let other : (b == 92) ≡ false = w.0 in rw other refl
     ]
 
-plain_within : (b : ℕ) (rest : List ℕ) → length (text_of (plain_unit b rest)) ≤ suc (length rest)
-plain_within b rest =
-    let front = plain_front b rest in
-    omega (arith, ap length front.1, length-append (text_of (plain_unit b rest)) front.0)
+byte_or_escape_unit_is_within_bytes : (b : ℕ) (rest : List ℕ) → length (bytes_of_unit (byte_or_escape_unit b rest)) ≤ suc (length rest)
+byte_or_escape_unit_is_within_bytes b rest =
+    let front = bytes_begin_with_byte_or_escape_unit b rest in
+    omega (arith, ap length front.1, length-append (bytes_of_unit (byte_or_escape_unit b rest)) front.0)
 
 -- What a text is read as stands before more, where its last byte is part of no longer unit.
-passed_split : (k : ℕ) (before : List LineUnit) (text more : List ℕ) → k ≤ length text → ends_apart text ≡ true → passed_from k before (text ++ more) ≡ passed (passed_from k before text) more
-passed_split zero before [] more h e = refl
-passed_split (suc k) before [] more h e = absurd (omega arith)
-passed_split (suc k) before (b ∷ text) more h e = passed_split k before text more (omega arith) (apart_tail b text e)
-passed_split zero before (b ∷ text) more h e =
-    let u = plain_unit b text in
-    let same : plain_unit b (text ++ more) ≡ u = plain_apart b text more e in
-    ap (λ (v : LineUnit). passed_from (length (text_of v) - 1) (v ∷ before) (text ++ more)) same
-    ∙ passed_split (length (text_of u) - 1) (u ∷ before) text more (omega (arith, plain_within b text)) (apart_tail b text e)
+units_of_longer_text_continue_its_front : (k : ℕ) (before : List LineUnit) (text more : List ℕ) → k ≤ length text → ends_without_backslash_or_cr text ≡ true → units_with_rest_of_bytes k before (text ++ more) ≡ units_with_those_of_bytes (units_with_rest_of_bytes k before text) more
+units_of_longer_text_continue_its_front zero before [] more h e = refl
+units_of_longer_text_continue_its_front (suc k) before [] more h e = absurd (omega arith)
+units_of_longer_text_continue_its_front (suc k) before (b ∷ text) more h e = units_of_longer_text_continue_its_front k before text more (omega arith) (tail_ends_without_backslash_or_cr b text e)
+units_of_longer_text_continue_its_front zero before (b ∷ text) more h e =
+    let u = byte_or_escape_unit b text in
+    let same : byte_or_escape_unit b (text ++ more) ≡ u = plain_unit_is_same_in_longer_text b text more e in
+    ap (λ (v : LineUnit). units_with_rest_of_bytes (length (bytes_of_unit v) - 1) (v ∷ before) (text ++ more)) same
+    ∙ units_of_longer_text_continue_its_front (length (bytes_of_unit u) - 1) (u ∷ before) text more (omega (arith, byte_or_escape_unit_is_within_bytes b text)) (tail_ends_without_backslash_or_cr b text e)
 
 -- the last byte tells
-abbrev is_apart : ℕ → Bool
-is_apart b = not (b == 92 || b == 13)
+abbrev is_byte_neither_backslash_nor_cr : ℕ → Bool
+is_byte_neither_backslash_nor_cr b = not (b == 92 || b == 13)
 
-apart_at : (line : List ℕ) (n : ℕ) → n < length line → is_apart (slice_index_or line n 0) ≡ true → ends_apart (take (suc n) line) ≡ true
-apart_at [] n l e = absurd (omega arith)
-apart_at (x ∷ line) zero l e = e
-apart_at (x ∷ []) (suc n) l e = absurd (omega arith)
-apart_at (x ∷ y ∷ line) (suc n) l e = apart_at (y ∷ line) n (omega arith) e
+byte_tells_prefix_without_backslash_end : (line : List ℕ) (n : ℕ) → n < length line → is_byte_neither_backslash_nor_cr (slice_index_or line n 0) ≡ true → ends_without_backslash_or_cr (take (suc n) line) ≡ true
+byte_tells_prefix_without_backslash_end [] n l e = absurd (omega arith)
+byte_tells_prefix_without_backslash_end (x ∷ line) zero l e = e
+byte_tells_prefix_without_backslash_end (x ∷ []) (suc n) l e = absurd (omega arith)
+byte_tells_prefix_without_backslash_end (x ∷ y ∷ line) (suc n) l e = byte_tells_prefix_without_backslash_end (y ∷ line) n (omega arith) e
 
-pub apart_behind : (line : List ℕ) (from place : ℕ) → from < place → place ≤ length line → not (slice_index_or line (place - 1) 0 == 92 || slice_index_or line (place - 1) 0 == 13) ≡ true → ends_apart (take place line) ≡ true
-apart_behind line from zero l i e = absurd (omega arith)
-apart_behind line from (suc n) l i e =
+pub place_ends_prefix_without_backslash_or_cr : (line : List ℕ) (from place : ℕ) → from < place → place ≤ length line → not (slice_index_or line (place - 1) 0 == 92 || slice_index_or line (place - 1) 0 == 13) ≡ true → ends_without_backslash_or_cr (take place line) ≡ true
+place_ends_prefix_without_backslash_or_cr line from zero l i e = absurd (omega arith)
+place_ends_prefix_without_backslash_or_cr line from (suc n) l i e =
     let same : suc n - 1 ≡ n = omega arith in
-    apart_at line n (omega arith) (subst (λ (k : ℕ). is_apart (slice_index_or line k 0) ≡ true) same e)
+    byte_tells_prefix_without_backslash_end line n (omega arith) (subst (λ (k : ℕ). is_byte_neither_backslash_nor_cr (slice_index_or line k 0) ≡ true) same e)
 
 -- a place behind a byte that ends a unit
-pub units_on : (line : List ℕ) (from to : ℕ) → from ≤ to → ends_apart (take from line) ≡ true → passed (units_left line from) (slice_range line from to) ≡ units_left line to
-units_on line from to below apart =
-    sym (passed_split 0 [] (take from line) (slice_range line from to) (omega arith) apart) ∙ ap (passed []) (take_more from to line below)
+pub units_from_place_continue_units_left : (line : List ℕ) (from to : ℕ) → from ≤ to → ends_without_backslash_or_cr (take from line) ≡ true → units_with_those_of_bytes (units_left_of_place line from) (slice_range line from to) ≡ units_left_of_place line to
+units_from_place_continue_units_left line from to below apart =
+    sym (units_of_longer_text_continue_its_front 0 [] (take from line) (slice_range line from to) (omega arith) apart) ∙ ap (units_with_those_of_bytes []) (prefix_and_next_bytes_are_longer_prefix from to line below)
 
 -- ---- what is found where nothing left of the place counts
 
-signs_apart : (i j f g : Bool) (bytes : List ℕ) → begins_sign bytes ≡ false → (number_size i bytes ≡ number_size j bytes) × (comment_at i f bytes ≡ comment_at j g bytes) × (include_at f bytes ≡ include_at g bytes)
-unfolding hash_number_size number_size comment_at include_at
-signs_apart i j f g [] h = (refl, refl, refl)
-signs_apart i j f g (b ∷ rest) h =
+sign_sizes_are_same_without_sign : (i j f g : Bool) (bytes : List ℕ) → has_leading_hash_or_percent bytes ≡ false → (numeric_id_size i bytes ≡ numeric_id_size j bytes) × (comment_size_at i f bytes ≡ comment_size_at j g bytes) × (hash_include_size_at f bytes ≡ hash_include_size_at g bytes)
+unfolding hash_id_size numeric_id_size comment_size_at hash_include_size_at
+sign_sizes_are_same_without_sign i j f g [] h = (refl, refl, refl)
+sign_sizes_are_same_without_sign i j f g (b ∷ rest) h =
     let parts = or_parts (b == 35) (b == 37) h in
     let hash : (b == 35) ≡ false = parts.0 in
     let percent : (b == 37) ≡ false = parts.1 in
     (rw (hash, percent) refl, rw hash refl, rw hash refl)
 
-size_alike : (form : Form) (i j f g : Bool) (bytes : List ℕ) → begins_sign bytes ≡ false → size_of form i f bytes ≡ size_of form j g bytes
-size_alike (Mark test) i j f g bytes h = refl
-size_alike Operator i j f g bytes h = refl
-size_alike Number i j f g bytes h = (signs_apart i j f g bytes h).0
-size_alike NonUnixGroup i j f g bytes h = refl
-size_alike (Run k r) i j f g bytes h = refl
-size_alike CommandPath i j f g bytes h = refl
-size_alike (QuotedPart k) i j f g bytes h = refl
-size_alike CommentPart i j f g bytes h = (signs_apart i j f g bytes h).1
-size_alike IncludeWord i j f g bytes h = (signs_apart i j f g bytes h).2
-size_alike FirstWord i j f g bytes h = refl
-size_alike Argument i j f g bytes h = refl
-size_alike QuotedRest i j f g bytes h = refl
+form_size_is_same_without_sign : (form : TokenForm) (i j f g : Bool) (bytes : List ℕ) → has_leading_hash_or_percent bytes ≡ false → longest_piece_size form i f bytes ≡ longest_piece_size form j g bytes
+form_size_is_same_without_sign (Mark test) i j f g bytes h = refl
+form_size_is_same_without_sign Operator i j f g bytes h = refl
+form_size_is_same_without_sign Number i j f g bytes h = (sign_sizes_are_same_without_sign i j f g bytes h).0
+form_size_is_same_without_sign NonUnixGroup i j f g bytes h = refl
+form_size_is_same_without_sign (Run k r) i j f g bytes h = refl
+form_size_is_same_without_sign CommandPath i j f g bytes h = refl
+form_size_is_same_without_sign (QuotedPart k) i j f g bytes h = refl
+form_size_is_same_without_sign CommentPart i j f g bytes h = (sign_sizes_are_same_without_sign i j f g bytes h).1
+form_size_is_same_without_sign IncludeWord i j f g bytes h = (sign_sizes_are_same_without_sign i j f g bytes h).2
+form_size_is_same_without_sign FirstWord i j f g bytes h = refl
+form_size_is_same_without_sign Argument i j f g bytes h = refl
+form_size_is_same_without_sign QuotedRest i j f g bytes h = refl
 
-found_alike : (fs : List Form) (i j f g : Bool) (bytes : List ℕ) → begins_sign bytes ≡ false → found fs i f bytes ≡ found fs j g bytes
-found_alike [] i j f g bytes h = refl
-found_alike (form ∷ fs) i j f g bytes h =
-    ap (λ (n : ℕ). if nat_lt 0 n then (kind_of form, n) else found fs i f bytes) (size_alike form i j f g bytes h)
-    ∙ ap (λ (p : TokenKind × ℕ). if nat_lt 0 (size_of form j g bytes) then (kind_of form, size_of form j g bytes) else p) (found_alike fs i j f g bytes h)
+found_token_is_same_without_sign : (fs : List TokenForm) (i j f g : Bool) (bytes : List ℕ) → has_leading_hash_or_percent bytes ≡ false → kind_and_size_of_token fs i f bytes ≡ kind_and_size_of_token fs j g bytes
+found_token_is_same_without_sign [] i j f g bytes h = refl
+found_token_is_same_without_sign (form ∷ fs) i j f g bytes h =
+    ap (λ (n : ℕ). if nat_lt 0 n then (kind_of_form form, n) else kind_and_size_of_token fs i f bytes) (form_size_is_same_without_sign form i j f g bytes h)
+    ∙ ap (λ (p : TokenKind × ℕ). if nat_lt 0 (longest_piece_size form j g bytes) then (kind_of_form form, longest_piece_size form j g bytes) else p) (found_token_is_same_without_sign fs i j f g bytes h)
 
 -- What is found does not ask for what stands left, unless `#` or `%` begins the bytes.
-pub found_apart : (fs : List Form) (known : Left) (before : List LineUnit) (bytes : List ℕ) → begins_sign bytes ≡ false → found fs known.item (known.begun == 0) bytes ≡ found_behind fs before bytes
-found_apart fs known before bytes h = found_alike fs known.item (begins_item before) (known.begun == 0) (is_empty (begun before)) bytes h
+pub any_units_find_token_without_sign : (fs : List TokenForm) (known : LeftContext) (before : List LineUnit) (bytes : List ℕ) → has_leading_hash_or_percent bytes ≡ false → kind_and_size_of_token fs known.item (known.begun == 0) bytes ≡ kind_and_size_after_units fs before bytes
+any_units_find_token_without_sign fs known before bytes h = found_token_is_same_without_sign fs known.item (is_id_position_after_units before) (known.begun == 0) (is_empty (bytes_after_leading_gap before)) bytes h
 
 -- what is found by what is known is found by the units
-pub found_known : (fs : List Form) (line bytes : List ℕ) (at : ℕ) (known : Left) (before : List LineUnit) → Knows line at known before → found fs known.item (known.begun == 0) bytes ≡ found_behind fs before bytes
-found_known fs line bytes at known before knows =
-    let first : (known.begun == 0) ≡ is_empty (begun before) = ap (λ (n : ℕ). n == 0) (sym knows.size) ∙ sym (is_empty-length (begun before)) in
-    ap (λ (t : Bool). found fs t (known.begun == 0) bytes) knows.item ∙ ap (λ (t : Bool). found fs (begins_item before) t bytes) first
+pub context_finds_token_found_by_units : (fs : List TokenForm) (line bytes : List ℕ) (at : ℕ) (known : LeftContext) (before : List LineUnit) → LeftDescribesUnits line at known before → kind_and_size_of_token fs known.item (known.begun == 0) bytes ≡ kind_and_size_after_units fs before bytes
+context_finds_token_found_by_units fs line bytes at known before knows =
+    let first : (known.begun == 0) ≡ is_empty (bytes_after_leading_gap before) = ap (λ (n : ℕ). n == 0) (sym knows.size) ∙ sym (emptiness_test_is_zero_length_test (bytes_after_leading_gap before)) in
+    ap (λ (t : Bool). kind_and_size_of_token fs t (known.begun == 0) bytes) knows.item ∙ ap (λ (t : Bool). kind_and_size_of_token fs (is_id_position_after_units before) t bytes) first

@@ -4,27 +4,27 @@ use Rattle.std.specs.Prelude.{codes}
 use Rattle.sudoers_text.specs.declared.token.TokenKind.TheVariants.{Punct, Word}
 use Rattle.sudoers_text.specs.declared.token.Token.{Token}
 use Rattle.sudoers_text.specs.declared.token.Mode.TheVariants.{Commands}
-use Rattle.sudoers_text.specs.Part.{run_size, between_quotes, whole_size, broken_size}
-use Rattle.sudoers_text.specs.Piece.{operator_size, first_word_size, quoted_rest_size}
-use Rattle.sudoers_text.specs.Token.{bad_size, HasTokens}
-use Rattle.sudoers_text.specs.Found.{hash_number_size, colon_number_size, number_size, colon_word_size, group_size, comment_at, include_at, command_path_size, argument_size, tokens_from, tokens_of}
-use Rattle.sudoers_text.proofs.TokenExamples.{token}
-use Rattle.sudoers_text.proofs.TokenLists.{tokens_are}
-use Rattle.sudoers_text.proofs.Renamed.{renamed_tokens}
+use Rattle.sudoers_text.specs.Part.{leading_run_size, quoted_run_size, argument_units_size, quote_before_separator_size}
+use Rattle.sudoers_text.specs.Piece.{plus_or_minus_equals_size, leading_keyword_size, quoted_argument_rest_size}
+use Rattle.sudoers_text.specs.Token.{bad_token_size, HasTokens}
+use Rattle.sudoers_text.specs.Found.{hash_id_size, optional_colon_id_size, numeric_id_size, colon_and_word_size, non_unix_group_size, comment_size_at, hash_include_size_at, command_path_size, argument_size, tokens_from_offset, tokens_of_line}
+use Rattle.sudoers_text.proofs.TokenExamples.{token_of_kind_and_places}
+use Rattle.sudoers_text.proofs.TokenLists.{computed_tokens_are_tokens_of_line}
+use Rattle.sudoers_text.proofs.Renamed.{renamed_line_has_moved_tokens}
 
-abbrev shells : List ℕ
-shells = codes "bob SH = SH, LS" ++ 10 ∷ []
+abbrev shell_alias_line : List ℕ
+shell_alias_line = codes "bob SH = SH, LS" ++ 10 ∷ []
 
-shells_read : tokens_of Commands shells
-    ≡ token Word 0 3 ∷ token Word 4 6 ∷ token Punct 7 8 ∷ token Word 9 11 ∷ token Punct 11 12 ∷ token Word 13 15 ∷ []
-unfolding tokens_of tokens_from run_size between_quotes whole_size broken_size operator_size first_word_size quoted_rest_size bad_size hash_number_size colon_number_size number_size colon_word_size group_size comment_at include_at command_path_size argument_size
-shells_read = refl
+tokens_of_shell_alias_line_are_read : tokens_of_line Commands shell_alias_line
+    ≡ token_of_kind_and_places Word 0 3 ∷ token_of_kind_and_places Word 4 6 ∷ token_of_kind_and_places Punct 7 8 ∷ token_of_kind_and_places Word 9 11 ∷ token_of_kind_and_places Punct 11 12 ∷ token_of_kind_and_places Word 13 15 ∷ []
+unfolding tokens_of_line tokens_from_offset leading_run_size quoted_run_size argument_units_size quote_before_separator_size plus_or_minus_equals_size leading_keyword_size quoted_argument_rest_size bad_token_size hash_id_size optional_colon_id_size numeric_id_size colon_and_word_size non_unix_group_size comment_size_at hash_include_size_at command_path_size argument_size
+tokens_of_shell_alias_line_are_read = refl
 
 -- The command is named otherwise, the host is not: the tokens behind the new name are moved by four bytes.
-command_renamed : HasTokens Commands (codes "bob SH = SHELLS, LS" ++ 10 ∷ [])
-    (token Word 0 3 ∷ token Word 4 6 ∷ token Punct 7 8 ∷ token Word 9 15 ∷ token Punct 15 16 ∷ token Word 17 19 ∷ [])
-command_renamed =
-    let before : List Token = token Word 0 3 ∷ token Word 4 6 ∷ token Punct 7 8 ∷ [] in
-    let behind : List Token = token Punct 11 12 ∷ token Word 13 15 ∷ [] in
-    renamed_tokens Commands (codes "bob SH = ") (codes "SH") (codes "SHELLS") (codes ", LS" ++ 10 ∷ []) before behind (refl, refl) (refl, refl)
-    (subst (HasTokens Commands shells) shells_read (tokens_are Commands shells))
+tokens_of_line_with_renamed_command : HasTokens Commands (codes "bob SH = SHELLS, LS" ++ 10 ∷ [])
+    (token_of_kind_and_places Word 0 3 ∷ token_of_kind_and_places Word 4 6 ∷ token_of_kind_and_places Punct 7 8 ∷ token_of_kind_and_places Word 9 15 ∷ token_of_kind_and_places Punct 15 16 ∷ token_of_kind_and_places Word 17 19 ∷ [])
+tokens_of_line_with_renamed_command =
+    let before : List Token = token_of_kind_and_places Word 0 3 ∷ token_of_kind_and_places Word 4 6 ∷ token_of_kind_and_places Punct 7 8 ∷ [] in
+    let behind : List Token = token_of_kind_and_places Punct 11 12 ∷ token_of_kind_and_places Word 13 15 ∷ [] in
+    renamed_line_has_moved_tokens Commands (codes "bob SH = ") (codes "SH") (codes "SHELLS") (codes ", LS" ++ 10 ∷ []) before behind (refl, refl) (refl, refl)
+    (subst (HasTokens Commands shell_alias_line) tokens_of_shell_alias_line_are_read (computed_tokens_are_tokens_of_line Commands shell_alias_line))

@@ -5,35 +5,35 @@ use Rattle.sudoers_text.specs.declared.token.TokenKind.{TokenKind}
 use Rattle.sudoers_text.specs.declared.token.TokenKind.TheVariants.{Punct, Id, Word, Comment, Path, Arg, Name, Value, Bad}
 use Rattle.sudoers_text.specs.declared.token.Token.{Token}
 use Rattle.sudoers_text.specs.declared.token.Mode.TheVariants.{Commands, Parameters}
-use Rattle.sudoers_text.specs.Part.{run_size, between_quotes, whole_size, broken_size}
-use Rattle.sudoers_text.specs.Piece.{operator_size, first_word_size, quoted_rest_size}
-use Rattle.sudoers_text.specs.Token.{bad_size}
-use Rattle.sudoers_text.specs.Found.{hash_number_size, colon_number_size, number_size, colon_word_size, group_size, comment_at, include_at, command_path_size, argument_size, tokens_from, tokens_of}
-use Rattle.sudoers_text.specs.Value.{value_of}
+use Rattle.sudoers_text.specs.Part.{leading_run_size, quoted_run_size, argument_units_size, quote_before_separator_size}
+use Rattle.sudoers_text.specs.Piece.{plus_or_minus_equals_size, leading_keyword_size, quoted_argument_rest_size}
+use Rattle.sudoers_text.specs.Token.{bad_token_size}
+use Rattle.sudoers_text.specs.Found.{hash_id_size, optional_colon_id_size, numeric_id_size, colon_and_word_size, non_unix_group_size, comment_size_at, hash_include_size_at, command_path_size, argument_size, tokens_from_offset, tokens_of_line}
+use Rattle.sudoers_text.specs.Value.{value_of_word}
 
-abbrev pub token : TokenKind → ℕ → ℕ → Token
-token kind start stop = record { kind = kind; start = start; stop = stop }
+abbrev pub token_of_kind_and_places : TokenKind → ℕ → ℕ → Token
+token_of_kind_and_places kind start stop = record { kind = kind; start = start; stop = stop }
 
 -- A number behind a command is a comment.
-with_comment : tokens_of Commands (codes "bob ALL=ALL #1 rule") ≡ token Word 0 3 ∷ token Word 4 7 ∷ token Punct 7 8 ∷ token Word 8 11 ∷ token Comment 12 19 ∷ []
-unfolding tokens_of tokens_from run_size between_quotes whole_size broken_size operator_size first_word_size quoted_rest_size bad_size hash_number_size colon_number_size number_size colon_word_size group_size comment_at include_at command_path_size argument_size
-with_comment = refl
+number_after_command_is_comment : tokens_of_line Commands (codes "bob ALL=ALL #1 rule") ≡ token_of_kind_and_places Word 0 3 ∷ token_of_kind_and_places Word 4 7 ∷ token_of_kind_and_places Punct 7 8 ∷ token_of_kind_and_places Word 8 11 ∷ token_of_kind_and_places Comment 12 19 ∷ []
+unfolding tokens_of_line tokens_from_offset leading_run_size quoted_run_size argument_units_size quote_before_separator_size plus_or_minus_equals_size leading_keyword_size quoted_argument_rest_size bad_token_size hash_id_size optional_colon_id_size numeric_id_size colon_and_word_size non_unix_group_size comment_size_at hash_include_size_at command_path_size argument_size
+number_after_command_is_comment = refl
 
 -- A number is an ID where a user may stand.
-with_id : tokens_of Commands (codes "#501 ALL=ALL" ++ 10 ∷ []) ≡ token Id 0 4 ∷ token Word 5 8 ∷ token Punct 8 9 ∷ token Word 9 12 ∷ []
-unfolding tokens_of tokens_from run_size between_quotes whole_size broken_size operator_size first_word_size quoted_rest_size bad_size hash_number_size colon_number_size number_size colon_word_size group_size comment_at include_at command_path_size argument_size
-with_id = refl
+number_in_place_of_user_is_id : tokens_of_line Commands (codes "#501 ALL=ALL" ++ 10 ∷ []) ≡ token_of_kind_and_places Id 0 4 ∷ token_of_kind_and_places Word 5 8 ∷ token_of_kind_and_places Punct 8 9 ∷ token_of_kind_and_places Word 9 12 ∷ []
+unfolding tokens_of_line tokens_from_offset leading_run_size quoted_run_size argument_units_size quote_before_separator_size plus_or_minus_equals_size leading_keyword_size quoted_argument_rest_size bad_token_size hash_id_size optional_colon_id_size numeric_id_size colon_and_word_size non_unix_group_size comment_size_at hash_include_size_at command_path_size argument_size
+number_in_place_of_user_is_id = refl
 
 -- A comma in a quoted part of an argument is Bad.
-with_comma : tokens_of Commands (codes "b A=/b " ++ 34 ∷ codes "x,y" ++ 34 ∷ []) ≡ token Word 0 1 ∷ token Word 2 3 ∷ token Punct 3 4 ∷ token Path 4 6 ∷ token Arg 7 9 ∷ token Bad 9 10 ∷ token Arg 10 12 ∷ []
-unfolding tokens_of tokens_from run_size between_quotes whole_size broken_size operator_size first_word_size quoted_rest_size bad_size hash_number_size colon_number_size number_size colon_word_size group_size comment_at include_at command_path_size argument_size
-with_comma = refl
+comma_in_quoted_argument_is_bad_token : tokens_of_line Commands (codes "b A=/b " ++ 34 ∷ codes "x,y" ++ 34 ∷ []) ≡ token_of_kind_and_places Word 0 1 ∷ token_of_kind_and_places Word 2 3 ∷ token_of_kind_and_places Punct 3 4 ∷ token_of_kind_and_places Path 4 6 ∷ token_of_kind_and_places Arg 7 9 ∷ token_of_kind_and_places Bad 9 10 ∷ token_of_kind_and_places Arg 10 12 ∷ []
+unfolding tokens_of_line tokens_from_offset leading_run_size quoted_run_size argument_units_size quote_before_separator_size plus_or_minus_equals_size leading_keyword_size quoted_argument_rest_size bad_token_size hash_id_size optional_colon_id_size numeric_id_size colon_and_word_size non_unix_group_size comment_size_at hash_include_size_at command_path_size argument_size
+comma_in_quoted_argument_is_bad_token = refl
 
 -- A parameter's value may begin with a sign.
-with_value : tokens_of Parameters (codes "Defaults x==") ≡ token Word 0 8 ∷ token Name 9 10 ∷ token Punct 10 11 ∷ token Value 11 12 ∷ []
-unfolding tokens_of tokens_from run_size between_quotes whole_size broken_size operator_size first_word_size quoted_rest_size bad_size hash_number_size colon_number_size number_size colon_word_size group_size comment_at include_at command_path_size argument_size
-with_value = refl
+parameter_value_begins_with_sign : tokens_of_line Parameters (codes "Defaults x==") ≡ token_of_kind_and_places Word 0 8 ∷ token_of_kind_and_places Name 9 10 ∷ token_of_kind_and_places Punct 10 11 ∷ token_of_kind_and_places Value 11 12 ∷ []
+unfolding tokens_of_line tokens_from_offset leading_run_size quoted_run_size argument_units_size quote_before_separator_size plus_or_minus_equals_size leading_keyword_size quoted_argument_rest_size bad_token_size hash_id_size optional_colon_id_size numeric_id_size colon_and_word_size non_unix_group_size comment_size_at hash_include_size_at command_path_size argument_size
+parameter_value_begins_with_sign = refl
 
-escaped_blank : value_of (codes "domain" ++ 92 ∷ codes "x20users") ≡ codes "domain users"
-unfolding value_of
-escaped_blank = refl
+hex_escape_of_blank_is_blank : value_of_word (codes "domain" ++ 92 ∷ codes "x20users") ≡ codes "domain users"
+unfolding value_of_word
+hex_escape_of_blank_is_blank = refl

@@ -2,120 +2,120 @@
 use Rattle.std.proofs.Common.{◌≡◌, ℕ, ◌+◌, ◌<◌, ◌≤◌, true, List, [], ◌∷◌, ◌++◌, length, refl, sym, ap, subst, ◌∙◌, arith, drop, Some, None, inl, inr, append-nil}
 use Rattle.std.proofs.lemmas.List.{length-append, append_assoc, append_cancel_left, drop_all}
 use Rattle.std.proofs.lemmas.Bool.{cases_lt, cases_eq}
-use Rattle.sudoers_text.specs.Unit.{LineUnit, text_of, spelled, AreUnits, unit_at, line_end_size}
-use Rattle.sudoers_text.specs.Line.{IsLine, IsOpen, Ends, by_lf, by_crlf, at_end, is_open, join, AreLines, Cuts}
+use Rattle.sudoers_text.specs.Unit.{LineUnit, bytes_of_unit, bytes_of_reversed_units, AreUnitsBefore, unit_at, line_end_size}
+use Rattle.sudoers_text.specs.Line.{IsLogicalLineBefore, IsUnfinishedLine, HasLineEnding, by_lf, by_crlf, at_end, has_open_last_unit, join, AreLogicalLines, AreLinesOfText}
 use Rattle.std.specs.Prelude.{slice_range}
-use Rattle.sudoers_text.specs.declared.unit.Left.{Left}
-use Rattle.sudoers_text.proofs.Reading.{Reading, unit_size, end_here, text_by_end, behind_end, all_read}
+use Rattle.sudoers_text.specs.declared.text_units.LeftContext.{LeftContext}
+use Rattle.sudoers_text.proofs.Reading.{HasReadUnitsFromStart, unit_size_is_positive, no_unit_within_text_implies_line_end, slice_to_ending_is_units_and_ending, text_after_line_end_is_rest, slice_read_to_text_end_is_units}
 
 -- as many units that spell one text are the same
-same_units : (us vs : List LineUnit) (a b : List ℕ) → length us ≡ length vs → AreUnits us a → AreUnits vs b → spelled us ++ a ≡ spelled vs ++ b → (us ≡ vs) × (a ≡ b)
-same_units [] [] a b n x y e = (refl, e)
-same_units [] (v ∷ vs) a b n x y e = absurd (omega arith)
-same_units (u ∷ us) [] a b n x y e = absurd (omega arith)
-same_units (u ∷ us) (v ∷ vs) a b n x y e =
-    let below = same_units us vs (text_of u ++ a) (text_of v ++ b) (omega arith) x.1 y.1
-    (sym (append_assoc (spelled us) (text_of u) a) ∙ e ∙ append_assoc (spelled vs) (text_of v) b) in
-    let here : unit_at us (text_of u ++ a) ≡ unit_at vs (text_of v ++ b) =
-    ap (λ (ws : List LineUnit). unit_at ws (text_of u ++ a)) below.0 ∙ ap (λ (xs : List ℕ). unit_at vs xs) below.1 in
+equally_many_units_of_text_are_equal : (us vs : List LineUnit) (a b : List ℕ) → length us ≡ length vs → AreUnitsBefore us a → AreUnitsBefore vs b → bytes_of_reversed_units us ++ a ≡ bytes_of_reversed_units vs ++ b → (us ≡ vs) × (a ≡ b)
+equally_many_units_of_text_are_equal [] [] a b n x y e = (refl, e)
+equally_many_units_of_text_are_equal [] (v ∷ vs) a b n x y e = absurd (omega arith)
+equally_many_units_of_text_are_equal (u ∷ us) [] a b n x y e = absurd (omega arith)
+equally_many_units_of_text_are_equal (u ∷ us) (v ∷ vs) a b n x y e =
+    let below = equally_many_units_of_text_are_equal us vs (bytes_of_unit u ++ a) (bytes_of_unit v ++ b) (omega arith) x.1 y.1
+    (sym (append_assoc (bytes_of_reversed_units us) (bytes_of_unit u) a) ∙ e ∙ append_assoc (bytes_of_reversed_units vs) (bytes_of_unit v) b) in
+    let here : unit_at us (bytes_of_unit u ++ a) ≡ unit_at vs (bytes_of_unit v ++ b) =
+    ap (λ (ws : List LineUnit). unit_at ws (bytes_of_unit u ++ a)) below.0 ∙ ap (λ (xs : List ℕ). unit_at vs xs) below.1 in
     let found : Some u ≡ Some v = sym x.0 ∙ here ∙ y.0 in
     let same : u ≡ v = cc in (
       ap (λ (w : LineUnit). w ∷ us) same ∙ ap (λ (ws : List LineUnit). v ∷ ws) below.0,
-      append_cancel_left (text_of u) a b (below.1 ∙ ap (λ (w : LineUnit). text_of w ++ b) (sym same)),
+      append_cancel_left (bytes_of_unit u) a b (below.1 ∙ ap (λ (w : LineUnit). bytes_of_unit w ++ b) (sym same)),
     )
 
 -- units behind which none begins are no fewer than others that spell the text
-not_longer : (us vs : List LineUnit) (a b : List ℕ) → length us < length vs → AreUnits us a → AreUnits vs b → spelled us ++ a ≡ spelled vs ++ b → unit_at us a ≡ None → ⊥
-not_longer us [] a b lt x y e none = omega arith
-not_longer us (v ∷ vs) a b lt x y e none =
-    let whole : spelled us ++ a ≡ spelled vs ++ (text_of v ++ b) = e ∙ append_assoc (spelled vs) (text_of v) b in
+stopped_units_are_no_fewer_than_others : (us vs : List LineUnit) (a b : List ℕ) → length us < length vs → AreUnitsBefore us a → AreUnitsBefore vs b → bytes_of_reversed_units us ++ a ≡ bytes_of_reversed_units vs ++ b → unit_at us a ≡ None → ⊥
+stopped_units_are_no_fewer_than_others us [] a b lt x y e none = omega arith
+stopped_units_are_no_fewer_than_others us (v ∷ vs) a b lt x y e none =
+    let whole : bytes_of_reversed_units us ++ a ≡ bytes_of_reversed_units vs ++ (bytes_of_unit v ++ b) = e ∙ append_assoc (bytes_of_reversed_units vs) (bytes_of_unit v) b in
     elim (cases_eq (length us) (length vs)) [
       | inl n ↦
-          let same = same_units us vs a (text_of v ++ b) n x y.1 whole in
+          let same = equally_many_units_of_text_are_equal us vs a (bytes_of_unit v ++ b) n x y.1 whole in
           let found : None ≡ Some v = sym none ∙ ap (λ (ws : List LineUnit). unit_at ws a) same.0 ∙ ap (λ (xs : List ℕ). unit_at vs xs) same.1 ∙ y.0 in
           cc
-      | inr ne ↦ not_longer us vs a (text_of v ++ b) (omega arith) x y.1 whole none
+      | inr ne ↦ stopped_units_are_no_fewer_than_others us vs a (bytes_of_unit v ++ b) (omega arith) x y.1 whole none
     ]
 
 -- units behind which none begins are the same
-pub same_stop : (us vs : List LineUnit) (a b : List ℕ) → AreUnits us a → AreUnits vs b → spelled us ++ a ≡ spelled vs ++ b → unit_at us a ≡ None → unit_at vs b ≡ None → (us ≡ vs) × (a ≡ b)
-same_stop us vs a b x y e none none2 =
+pub stopped_units_of_text_are_equal : (us vs : List LineUnit) (a b : List ℕ) → AreUnitsBefore us a → AreUnitsBefore vs b → bytes_of_reversed_units us ++ a ≡ bytes_of_reversed_units vs ++ b → unit_at us a ≡ None → unit_at vs b ≡ None → (us ≡ vs) × (a ≡ b)
+stopped_units_of_text_are_equal us vs a b x y e none none2 =
     elim (cases_eq (length us) (length vs)) [
-      | inl n ↦ same_units us vs a b n x y e
+      | inl n ↦ equally_many_units_of_text_are_equal us vs a b n x y e
       | inr ne ↦
-          let more : length us < length vs → ⊥ = λ lt. not_longer us vs a b lt x y e none in
-          let less : length vs < length us → ⊥ = λ lt. not_longer vs us b a lt y x (sym e) none2 in
+          let more : length us < length vs → ⊥ = λ lt. stopped_units_are_no_fewer_than_others us vs a b lt x y e none in
+          let less : length vs < length us → ⊥ = λ lt. stopped_units_are_no_fewer_than_others vs us b a lt y x (sym e) none2 in
           absurd (elim (cases_lt (length us) (length vs)) [
             | inl lt ↦ more lt
             | inr ge ↦ less (omega arith)
           ])
     ]
 
-ends_none : {us : List LineUnit} {ending rest : List ℕ} → Ends us ending rest → unit_at us (ending ++ rest) ≡ None
-ends_none by_lf = refl
-ends_none by_crlf = refl
-ends_none at_end = refl
+no_unit_begins_at_line_ending : {us : List LineUnit} {ending rest : List ℕ} → HasLineEnding us ending rest → unit_at us (ending ++ rest) ≡ None
+no_unit_begins_at_line_ending by_lf = refl
+no_unit_begins_at_line_ending by_crlf = refl
+no_unit_begins_at_line_ending at_end = refl
 
-same_ending : {us : List LineUnit} {ending rest ending2 rest2 : List ℕ} → Ends us ending rest → Ends us ending2 rest2 → ending ++ rest ≡ ending2 ++ rest2 → (ending ≡ ending2) × (rest ≡ rest2)
-same_ending by_lf by_lf e = (refl, cc)
-same_ending by_lf by_crlf e = absurd (cc)
-same_ending by_lf at_end e = absurd (cc)
-same_ending by_crlf by_lf e = absurd (cc)
-same_ending by_crlf by_crlf e = (refl, cc)
-same_ending by_crlf at_end e = absurd (cc)
-same_ending at_end by_lf e = absurd (cc)
-same_ending at_end by_crlf e = absurd (cc)
-same_ending at_end at_end e = (refl, refl)
+line_ending_and_rest_are_unique : {us : List LineUnit} {ending rest ending2 rest2 : List ℕ} → HasLineEnding us ending rest → HasLineEnding us ending2 rest2 → ending ++ rest ≡ ending2 ++ rest2 → (ending ≡ ending2) × (rest ≡ rest2)
+line_ending_and_rest_are_unique by_lf by_lf e = (refl, cc)
+line_ending_and_rest_are_unique by_lf by_crlf e = absurd (cc)
+line_ending_and_rest_are_unique by_lf at_end e = absurd (cc)
+line_ending_and_rest_are_unique by_crlf by_lf e = absurd (cc)
+line_ending_and_rest_are_unique by_crlf by_crlf e = (refl, cc)
+line_ending_and_rest_are_unique by_crlf at_end e = absurd (cc)
+line_ending_and_rest_are_unique at_end by_lf e = absurd (cc)
+line_ending_and_rest_are_unique at_end by_crlf e = absurd (cc)
+line_ending_and_rest_are_unique at_end at_end e = (refl, refl)
 
 -- No logical line begins another.
-pub same_line : (l r m s : List ℕ) → IsLine l r → IsLine m s → l ++ r ≡ m ++ s → (l ≡ m) × (r ≡ s)
-same_line l r m s x y e =
-    let front : spelled x.units ++ (x.ending ++ r) ≡ l ++ r = sym (append_assoc (spelled x.units) x.ending r) ∙ ap (λ (t : List ℕ). t ++ r) (sym x.text) in
-    let front2 : spelled y.units ++ (y.ending ++ s) ≡ m ++ s = sym (append_assoc (spelled y.units) y.ending s) ∙ ap (λ (t : List ℕ). t ++ s) (sym y.text) in
-    let same = same_stop x.units y.units (x.ending ++ r) (y.ending ++ s) x.each y.each (front ∙ e ∙ sym front2) (ends_none x.ends) (ends_none y.ends) in
-    let ends2 : Ends x.units y.ending s = subst (λ (us : List LineUnit). Ends us y.ending s) (sym same.0) y.ends in
-    let ending = same_ending x.ends ends2 same.1 in
-    (x.text ∙ ap (λ (us : List LineUnit). spelled us ++ x.ending) same.0 ∙ ap (λ (t : List ℕ). spelled y.units ++ t) ending.0 ∙ sym y.text, ending.1)
+pub logical_line_at_text_start_is_unique : (l r m s : List ℕ) → IsLogicalLineBefore l r → IsLogicalLineBefore m s → l ++ r ≡ m ++ s → (l ≡ m) × (r ≡ s)
+logical_line_at_text_start_is_unique l r m s x y e =
+    let front : bytes_of_reversed_units x.units ++ (x.ending ++ r) ≡ l ++ r = sym (append_assoc (bytes_of_reversed_units x.units) x.ending r) ∙ ap (λ (t : List ℕ). t ++ r) (sym x.text) in
+    let front2 : bytes_of_reversed_units y.units ++ (y.ending ++ s) ≡ m ++ s = sym (append_assoc (bytes_of_reversed_units y.units) y.ending s) ∙ ap (λ (t : List ℕ). t ++ s) (sym y.text) in
+    let same = stopped_units_of_text_are_equal x.units y.units (x.ending ++ r) (y.ending ++ s) x.each y.each (front ∙ e ∙ sym front2) (no_unit_begins_at_line_ending x.ends) (no_unit_begins_at_line_ending y.ends) in
+    let ends2 : HasLineEnding x.units y.ending s = subst (λ (us : List LineUnit). HasLineEnding us y.ending s) (sym same.0) y.ends in
+    let ending = line_ending_and_rest_are_unique x.ends ends2 same.1 in
+    (x.text ∙ ap (λ (us : List LineUnit). bytes_of_reversed_units us ++ x.ending) same.0 ∙ ap (λ (t : List ℕ). bytes_of_reversed_units y.units ++ t) ending.0 ∙ sym y.text, ending.1)
 
-some_ending : {us : List LineUnit} {ending rest : List ℕ} → Ends us ending rest → 0 < length (spelled us ++ ending)
-some_ending {us} by_lf = omega (arith, length-append (spelled us) (10 ∷ []))
-some_ending {us} by_crlf = omega (arith, length-append (spelled us) (13 ∷ 10 ∷ []))
-some_ending (at_end {u} {units}) = omega (arith, length-append (spelled units ++ text_of u) [], length-append (spelled units) (text_of u), unit_size u)
+line_with_ending_is_not_empty : {us : List LineUnit} {ending rest : List ℕ} → HasLineEnding us ending rest → 0 < length (bytes_of_reversed_units us ++ ending)
+line_with_ending_is_not_empty {us} by_lf = omega (arith, length-append (bytes_of_reversed_units us) (10 ∷ []))
+line_with_ending_is_not_empty {us} by_crlf = omega (arith, length-append (bytes_of_reversed_units us) (13 ∷ 10 ∷ []))
+line_with_ending_is_not_empty (at_end {u} {units}) = omega (arith, length-append (bytes_of_reversed_units units ++ bytes_of_unit u) [], length-append (bytes_of_reversed_units units) (bytes_of_unit u), unit_size_is_positive u)
 
 -- a line is not empty
-pub line_size : (l r : List ℕ) → IsLine l r → 0 < length l
-line_size l r x = omega (arith, ap length x.text, some_ending x.ends)
+pub logical_line_has_positive_size : (l r : List ℕ) → IsLogicalLineBefore l r → 0 < length l
+logical_line_has_positive_size l r x = omega (arith, ap length x.text, line_with_ending_is_not_empty x.ends)
 
-same_lines : (ls ms : List (List ℕ)) → AreLines ls → AreLines ms → join ls ≡ join ms → ls ≡ ms
-same_lines [] [] x y e = refl
-same_lines [] (m ∷ ms) x y e = absurd (omega (arith, ap length e, length-append m (join ms), line_size m (join ms) y.0))
-same_lines (l ∷ ls) [] x y e = absurd (omega (arith, ap length e, length-append l (join ls), line_size l (join ls) x.0))
-same_lines (l ∷ ls) (m ∷ ms) x y e =
-    let same = same_line l (join ls) m (join ms) x.0 y.0 e in
-    ap (λ (t : List ℕ). t ∷ ls) same.0 ∙ ap (λ (ts : List (List ℕ)). m ∷ ts) (same_lines ls ms x.1 y.1 same.1)
+logical_lines_of_join_are_unique : (ls ms : List (List ℕ)) → AreLogicalLines ls → AreLogicalLines ms → join ls ≡ join ms → ls ≡ ms
+logical_lines_of_join_are_unique [] [] x y e = refl
+logical_lines_of_join_are_unique [] (m ∷ ms) x y e = absurd (omega (arith, ap length e, length-append m (join ms), logical_line_has_positive_size m (join ms) y.0))
+logical_lines_of_join_are_unique (l ∷ ls) [] x y e = absurd (omega (arith, ap length e, length-append l (join ls), logical_line_has_positive_size l (join ls) x.0))
+logical_lines_of_join_are_unique (l ∷ ls) (m ∷ ms) x y e =
+    let same = logical_line_at_text_start_is_unique l (join ls) m (join ms) x.0 y.0 e in
+    ap (λ (t : List ℕ). t ∷ ls) same.0 ∙ ap (λ (ts : List (List ℕ)). m ∷ ts) (logical_lines_of_join_are_unique ls ms x.1 y.1 same.1)
 
 -- A text has one list of logical lines.
-pub one_cut : (text : List ℕ) (ls ms : List (List ℕ)) → Cuts text ls → Cuts text ms → ls ≡ ms
-one_cut text ls ms x y = same_lines ls ms x.each y.each (x.joined ∙ sym y.joined)
+pub lines_of_text_are_unique : (text : List ℕ) (ls ms : List (List ℕ)) → AreLinesOfText text ls → AreLinesOfText text ms → ls ≡ ms
+lines_of_text_are_unique text ls ms x y = logical_lines_of_join_are_unique ls ms x.each y.each (x.joined ∙ sym y.joined)
 
 -- A line that ends in a line end is not open.
-pub not_open_by_end : (text : List ℕ) (start at : ℕ) (left : Left) (reading : Reading text start at left) → at < length text → unit_at reading.before (drop at text) ≡ None → at + line_end_size (drop at text) ≡ length text → IsOpen (slice_range text start (at + line_end_size (drop at text))) → ⊥
-not_open_by_end text start at left reading inside none all unfinished =
-    let here = end_here text at reading.before inside none in
-    let done : here.rest ≡ [] = sym (behind_end text at here) ∙ drop_all (at + line_end_size (drop at text)) text (omega arith) in
+pub line_with_line_end_is_not_unfinished : (text : List ℕ) (start at : ℕ) (left : LeftContext) (reading : HasReadUnitsFromStart text start at left) → at < length text → unit_at reading.before (drop at text) ≡ None → at + line_end_size (drop at text) ≡ length text → IsUnfinishedLine (slice_range text start (at + line_end_size (drop at text))) → ⊥
+line_with_line_end_is_not_unfinished text start at left reading inside none all unfinished =
+    let here = no_unit_within_text_implies_line_end text at reading.before inside none in
+    let done : here.rest ≡ [] = sym (text_after_line_end_is_rest text at here) ∙ drop_all (at + line_end_size (drop at text)) text (omega arith) in
     let last : drop at text ≡ here.ending = here.whole ∙ ap (λ (t : List ℕ). here.ending ++ t) done ∙ append-nil here.ending in
-    let whole : spelled unfinished.units ++ [] ≡ spelled reading.before ++ here.ending =
-    append-nil (spelled unfinished.units) ∙ sym unfinished.text ∙ text_by_end text start at left reading here in
-    let each : AreUnits reading.before here.ending = subst (λ (t : List ℕ). AreUnits reading.before t) last reading.each in
+    let whole : bytes_of_reversed_units unfinished.units ++ [] ≡ bytes_of_reversed_units reading.before ++ here.ending =
+    append-nil (bytes_of_reversed_units unfinished.units) ∙ sym unfinished.text ∙ slice_to_ending_is_units_and_ending text start at left reading here in
+    let each : AreUnitsBefore reading.before here.ending = subst (λ (t : List ℕ). AreUnitsBefore reading.before t) last reading.each in
     let stops : unit_at reading.before here.ending ≡ None = subst (λ (t : List ℕ). unit_at reading.before t ≡ None) last none in
-    let same = same_stop unfinished.units reading.before [] here.ending unfinished.each each whole refl stops in
+    let same = stopped_units_of_text_are_equal unfinished.units reading.before [] here.ending unfinished.each each whole refl stops in
     absurd (omega (arith, here.some, here.size, ap length same.1))
 
-pub open_then_continues : (text : List ℕ) (start at : ℕ) (left : Left) (reading : Reading text start at left) → length text ≤ at → IsOpen (slice_range text start at) → left.continues ≡ true
-open_then_continues text start at left reading past unfinished =
+pub unfinished_line_read_to_end_continues : (text : List ℕ) (start at : ℕ) (left : LeftContext) (reading : HasReadUnitsFromStart text start at left) → length text ≤ at → IsUnfinishedLine (slice_range text start at) → left.continues ≡ true
+unfinished_line_read_to_end_continues text start at left reading past unfinished =
     let done : drop at text ≡ [] = drop_all at text past in
-    let each : AreUnits reading.before [] = subst (λ (t : List ℕ). AreUnits reading.before t) done reading.each in
-    let whole : spelled unfinished.units ++ [] ≡ spelled reading.before ++ [] =
-    append-nil (spelled unfinished.units) ∙ sym unfinished.text ∙ all_read text start at left reading past ∙ sym (append-nil (spelled reading.before)) in
-    let same = same_stop unfinished.units reading.before [] [] unfinished.each each whole refl refl in
-    reading.knows.continues (omega (arith, reading.to)) ∙ ap (λ (us : List LineUnit). is_open us) (sym same.0) ∙ unfinished.last
+    let each : AreUnitsBefore reading.before [] = subst (λ (t : List ℕ). AreUnitsBefore reading.before t) done reading.each in
+    let whole : bytes_of_reversed_units unfinished.units ++ [] ≡ bytes_of_reversed_units reading.before ++ [] =
+    append-nil (bytes_of_reversed_units unfinished.units) ∙ sym unfinished.text ∙ slice_read_to_text_end_is_units text start at left reading past ∙ sym (append-nil (bytes_of_reversed_units reading.before)) in
+    let same = stopped_units_of_text_are_equal unfinished.units reading.before [] [] unfinished.each each whole refl refl in
+    reading.knows.continues (omega (arith, reading.to)) ∙ ap (λ (us : List LineUnit). has_open_last_unit us) (sym same.0) ∙ unfinished.last

@@ -2,37 +2,37 @@
 use Rattle.std.proofs.Common.{◌≡◌, ℕ, zero, suc, ◌+◌, ◌-◌, ◌<◌, ◌≤◌, Bool, true, ◌||◌, List, [], ◌∷◌, ◌++◌, length, take, drop, get_or, refl, sym, ap, ◌∙◌, append_assoc, arith}
 use Rattle.std.specs.Prelude.{◌==◌}
 use Rattle.std.proofs.lemmas.List.{drop-drop, drop_more, take_rest}
-use Rattle.sudoers_text.proofs.Units.{neither}
-use Rattle.sudoers_text.specs.Value.{escape_taken, escape_value, value_from}
+use Rattle.sudoers_text.proofs.Units.{untrue_disjunction_has_false_parts}
+use Rattle.sudoers_text.specs.Value.{escape_tail_size, unescaped_bytes_of_escape, value_of_remaining_bytes}
 
 -- behind what is passed over, the rest is read as if it stood alone
-value_behind : (k : ℕ) (quoted : Bool) (bytes : List ℕ) → value_from k quoted bytes ≡ value_from 0 quoted (drop k bytes)
-value_behind zero quoted bytes = refl
-value_behind (suc k) quoted [] = refl
-value_behind (suc k) quoted (b ∷ bytes) = value_behind k quoted bytes
+value_past_bytes_is_value_of_rest : (k : ℕ) (quoted : Bool) (bytes : List ℕ) → value_of_remaining_bytes k quoted bytes ≡ value_of_remaining_bytes 0 quoted (drop k bytes)
+value_past_bytes_is_value_of_rest zero quoted bytes = refl
+value_past_bytes_is_value_of_rest (suc k) quoted [] = refl
+value_past_bytes_is_value_of_rest (suc k) quoted (b ∷ bytes) = value_past_bytes_is_value_of_rest k quoted bytes
 
 -- a backslash at a place, what it takes, and what is left behind that
-value_escape : (quoted : Bool) (word : List ℕ) (at : ℕ) → at < length word → get_or word at 0 ≡ 92 → value_from 0 quoted (drop at word) ≡ escape_value quoted (drop (at + 1) word) ++ value_from 0 quoted (drop (at + 1 + escape_taken (drop (at + 1) word)) word)
-value_escape quoted word at inside is =
+value_at_backslash_is_escape_and_rest : (quoted : Bool) (word : List ℕ) (at : ℕ) → at < length word → get_or word at 0 ≡ 92 → value_of_remaining_bytes 0 quoted (drop at word) ≡ unescaped_bytes_of_escape quoted (drop (at + 1) word) ++ value_of_remaining_bytes 0 quoted (drop (at + 1 + escape_tail_size (drop (at + 1) word)) word)
+value_at_backslash_is_escape_and_rest quoted word at inside is =
     let rest : List ℕ = drop (at + 1) word in
-    ap (value_from 0 quoted) (drop_more word at 0 inside ∙ ap (λ (b : ℕ). b ∷ rest) is)
-    ∙ ap (λ (ys : List ℕ). escape_value quoted rest ++ ys)
-    (value_behind (escape_taken rest) quoted rest ∙ ap (value_from 0 quoted) (drop-drop (escape_taken rest) (at + 1) word))
+    ap (value_of_remaining_bytes 0 quoted) (drop_more word at 0 inside ∙ ap (λ (b : ℕ). b ∷ rest) is)
+    ∙ ap (λ (ys : List ℕ). unescaped_bytes_of_escape quoted rest ++ ys)
+    (value_past_bytes_is_value_of_rest (escape_tail_size rest) quoted rest ∙ ap (value_of_remaining_bytes 0 quoted) (drop-drop (escape_tail_size rest) (at + 1) word))
 
 -- Once what an escape stands for is appended, the whole stands for the same.
-pub value_more : (quoted : Bool) (word out more : List ℕ) (at taken : ℕ) → at < length word → get_or word at 0 ≡ 92 → more ≡ out ++ escape_value quoted (take (length word - (at + 1)) (drop (at + 1) word)) → taken ≡ escape_taken (take (length word - (at + 1)) (drop (at + 1) word)) → more ++ value_from 0 quoted (drop (at + 1 + taken) word) ≡ out ++ value_from 0 quoted (drop at word)
-value_more quoted word out more at taken inside is appended size =
+pub value_with_escape_appended_is_same : (quoted : Bool) (word out more : List ℕ) (at taken : ℕ) → at < length word → get_or word at 0 ≡ 92 → more ≡ out ++ unescaped_bytes_of_escape quoted (take (length word - (at + 1)) (drop (at + 1) word)) → taken ≡ escape_tail_size (take (length word - (at + 1)) (drop (at + 1) word)) → more ++ value_of_remaining_bytes 0 quoted (drop (at + 1 + taken) word) ≡ out ++ value_of_remaining_bytes 0 quoted (drop at word)
+value_with_escape_appended_is_same quoted word out more at taken inside is appended size =
     let rest : List ℕ = drop (at + 1) word in
     let whole = take_rest word (at + 1) in
-    let front : more ≡ out ++ escape_value quoted rest = appended ∙ ap (λ (bytes : List ℕ). out ++ escape_value quoted bytes) whole in
-    let same : taken ≡ escape_taken rest = size ∙ ap escape_taken whole in
-    rw (front, same) (append_assoc out (escape_value quoted rest) _ ∙ sym (ap (λ (ys : List ℕ). out ++ ys) (value_escape quoted word at inside is)))
+    let front : more ≡ out ++ unescaped_bytes_of_escape quoted rest = appended ∙ ap (λ (bytes : List ℕ). out ++ unescaped_bytes_of_escape quoted bytes) whole in
+    let same : taken ≡ escape_tail_size rest = size ∙ ap escape_tail_size whole in
+    rw (front, same) (append_assoc out (unescaped_bytes_of_escape quoted rest) _ ∙ sym (ap (λ (ys : List ℕ). out ++ ys) (value_at_backslash_is_escape_and_rest quoted word at inside is)))
 
 -- Bytes before the first quote and the first backslash stand for themselves.
-pub value_plain : (quoted : Bool) (word : List ℕ) (at : ℕ) → at ≤ length word → ((k : ℕ) → k < at → (get_or word k 0 == 34 || get_or word k 0 == 92) ≡ true → ⊥) → take at word ++ value_from 0 quoted (drop at word) ≡ value_from 0 quoted word
-value_plain quoted word zero within none = refl
-value_plain quoted [] (suc at) within none = absurd (omega arith)
-value_plain quoted (b ∷ word) (suc at) within none =
-    let here = neither (b == 34) (b == 92) (none 0 (omega arith)) in
-    let later = value_plain quoted word at (omega arith) (λ k below. none (suc k) (omega arith)) in
+pub unquoted_bytes_are_their_own_value : (quoted : Bool) (word : List ℕ) (at : ℕ) → at ≤ length word → ((k : ℕ) → k < at → (get_or word k 0 == 34 || get_or word k 0 == 92) ≡ true → ⊥) → take at word ++ value_of_remaining_bytes 0 quoted (drop at word) ≡ value_of_remaining_bytes 0 quoted word
+unquoted_bytes_are_their_own_value quoted word zero within none = refl
+unquoted_bytes_are_their_own_value quoted [] (suc at) within none = absurd (omega arith)
+unquoted_bytes_are_their_own_value quoted (b ∷ word) (suc at) within none =
+    let here = untrue_disjunction_has_false_parts (b == 34) (b == 92) (none 0 (omega arith)) in
+    let later = unquoted_bytes_are_their_own_value quoted word at (omega arith) (λ k below. none (suc k) (omega arith)) in
     rw (here.0, here.1) (ap (λ (t : List ℕ). b ∷ t) later)

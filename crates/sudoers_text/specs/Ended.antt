@@ -8,7 +8,7 @@ ends_in_lf (b ∷ []) = b == 10
 ends_in_lf (b ∷ c ∷ bytes) = ends_in_lf (c ∷ bytes)
 
 -- some line without LF stands before another
-abbrev pub has_unended_inside : List (List ℕ) → Bool
-has_unended_inside [] = false
-has_unended_inside (line ∷ []) = false
-has_unended_inside (line ∷ next ∷ lines) = not (ends_in_lf line) || has_unended_inside (next ∷ lines)
+abbrev pub has_inner_line_without_lf : List (List ℕ) → Bool
+has_inner_line_without_lf [] = false
+has_inner_line_without_lf (line ∷ []) = false
+has_inner_line_without_lf (line ∷ next ∷ lines) = not (ends_in_lf line) || has_inner_line_without_lf (next ∷ lines)

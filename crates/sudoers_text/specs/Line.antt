@@ -1,55 +1,55 @@
 -- Logical lines.
 use Rattle.std.specs.Prelude.{◌≡◌, ℕ, Bool, true, false, ◌==◌, ◌||◌, List, [], ◌∷◌, ◌++◌}
 use Rattle.sudoers_text.specs.Ended.{ends_in_lf}
-use Rattle.sudoers_text.specs.Unit.{LineUnit, Continuation, Pair, Quoted, Comment, Byte, spelled, AreUnits}
+use Rattle.sudoers_text.specs.Unit.{LineUnit, Continuation, Pair, Quoted, Comment, Byte, bytes_of_reversed_units, AreUnitsBefore}
 
 -- How a line of these units ends before this text: by LF or CR LF, or, at the text's end, behind one or more units.
-pub data Ends : List LineUnit → List ℕ → List ℕ → Type 0 where
-  by_lf : {units : List LineUnit} {rest : List ℕ} → Ends units (10 ∷ []) rest
-  by_crlf : {units : List LineUnit} {rest : List ℕ} → Ends units (13 ∷ 10 ∷ []) rest
-  at_end : {u : LineUnit} {units : List LineUnit} → Ends (u ∷ units) [] []
+pub data HasLineEnding : List LineUnit → List ℕ → List ℕ → Type 0 where
+  by_lf : {units : List LineUnit} {rest : List ℕ} → HasLineEnding units (10 ∷ []) rest
+  by_crlf : {units : List LineUnit} {rest : List ℕ} → HasLineEnding units (13 ∷ 10 ∷ []) rest
+  at_end : {u : LineUnit} {units : List LineUnit} → HasLineEnding (u ∷ units) [] []
 
 -- line is a logical line, where rest is what follows it
-pub record IsLine (line rest : List ℕ) : Type 0 where
+pub record IsLogicalLineBefore (line rest : List ℕ) : Type 0 where
   pub units : List LineUnit
   pub ending : List ℕ
-  pub text : line ≡ spelled units ++ ending
-  pub each : AreUnits units (ending ++ rest)
-  pub ends : Ends units ending rest
+  pub text : line ≡ bytes_of_reversed_units units ++ ending
+  pub each : AreUnitsBefore units (ending ++ rest)
+  pub ends : HasLineEnding units ending rest
 
 abbrev pub join : List (List ℕ) → List ℕ
 join [] = []
 join (line ∷ lines) = line ++ join lines
 
 -- each of the lines is a logical line before the next ones
-abbrev pub AreLines : List (List ℕ) → Type 0
-AreLines [] = Unit {0}
-AreLines (line ∷ lines) = IsLine line (join lines) × AreLines lines
+abbrev pub AreLogicalLines : List (List ℕ) → Type 0
+AreLogicalLines [] = Unit {0}
+AreLogicalLines (line ∷ lines) = IsLogicalLineBefore line (join lines) × AreLogicalLines lines
 
 -- The lines are the logical lines of the text.
-pub record Cuts (text : List ℕ) (lines : List (List ℕ)) : Type 0 where
+pub record AreLinesOfText (text : List ℕ) (lines : List (List ℕ)) : Type 0 where
   pub joined : join lines ≡ text
-  pub each : AreLines lines
+  pub each : AreLogicalLines lines
 
 -- the last byte is a backslash that is in no pair
-abbrev pub ends_behind_backslash : Bool → List ℕ → Bool
-ends_behind_backslash behind_backslash [] = behind_backslash
-ends_behind_backslash true (b ∷ rest) = ends_behind_backslash false rest
-ends_behind_backslash false (b ∷ rest) = ends_behind_backslash (b == 92) rest
+abbrev pub ends_in_unpaired_backslash : Bool → List ℕ → Bool
+ends_in_unpaired_backslash behind_backslash [] = behind_backslash
+ends_in_unpaired_backslash true (b ∷ rest) = ends_in_unpaired_backslash false rest
+ends_in_unpaired_backslash false (b ∷ rest) = ends_in_unpaired_backslash (b == 92) rest
 
 -- the last unit is a continuation, or a backslash alone, or a quoted part that ends in one of these, where a last LF is
 -- that of a continuation
-abbrev pub is_open : List LineUnit → Bool
-is_open [] = false
-is_open (Continuation _ ∷ _) = true
-is_open (Pair _ ∷ _) = false
-is_open (Quoted bytes ∷ _) = ends_in_lf bytes || ends_behind_backslash false bytes
-is_open (Comment _ ∷ _) = false
-is_open (Byte b ∷ _) = b == 92
+abbrev pub has_open_last_unit : List LineUnit → Bool
+has_open_last_unit [] = false
+has_open_last_unit (Continuation _ ∷ _) = true
+has_open_last_unit (Pair _ ∷ _) = false
+has_open_last_unit (Quoted bytes ∷ _) = ends_in_lf bytes || ends_in_unpaired_backslash false bytes
+has_open_last_unit (Comment _ ∷ _) = false
+has_open_last_unit (Byte b ∷ _) = b == 92
 
 -- a line without line end, that ends in a continuation or in a lone backslash
-pub record IsOpen (line : List ℕ) : Type 0 where
+pub record IsUnfinishedLine (line : List ℕ) : Type 0 where
   pub units : List LineUnit
-  pub text : line ≡ spelled units
-  pub each : AreUnits units []
-  pub last : is_open units ≡ true
+  pub text : line ≡ bytes_of_reversed_units units
+  pub each : AreUnitsBefore units []
+  pub last : has_open_last_unit units ≡ true

@@ -11,16 +11,16 @@ is_among [] word = false
 is_among (one ∷ words) word = bytes_eq word one || is_among words word
 
 -- the tags of commands
-abbrev pub tags : List (List ℕ)
-tags =
+abbrev pub command_tag_words : List (List ℕ)
+command_tag_words =
     codes "EXEC" ∷ codes "NOEXEC" ∷ codes "FOLLOW" ∷ codes "NOFOLLOW"
     ∷ codes "INTERCEPT" ∷ codes "NOINTERCEPT" ∷ codes "LOG_INPUT" ∷ codes "NOLOG_INPUT"
     ∷ codes "LOG_OUTPUT" ∷ codes "NOLOG_OUTPUT" ∷ codes "MAIL" ∷ codes "NOMAIL"
     ∷ codes "PASSWD" ∷ codes "NOPASSWD" ∷ codes "SETENV" ∷ codes "NOSETENV" ∷ []
 
 -- the names of the options of commands
-abbrev pub option_names : List (List ℕ)
-option_names =
+abbrev pub command_option_words : List (List ℕ)
+command_option_words =
     codes "ROLE" ∷ codes "TYPE" ∷ codes "APPARMOR_PROFILE" ∷ codes "PRIVS"
     ∷ codes "LIMITPRIVS" ∷ codes "NOTBEFORE" ∷ codes "NOTAFTER" ∷ codes "TIMEOUT"
     ∷ codes "CWD" ∷ codes "CHROOT" ∷ []
@@ -30,17 +30,17 @@ abbrev pub digest_kinds : List (List ℕ)
 digest_kinds = codes "sha224" ∷ codes "sha256" ∷ codes "sha384" ∷ codes "sha512" ∷ []
 
 -- the words with which an include begins
-abbrev pub at_includes : List (List ℕ)
-at_includes = codes "@include" ∷ codes "@includedir" ∷ []
+abbrev pub at_include_words : List (List ℕ)
+at_include_words = codes "@include" ∷ codes "@includedir" ∷ []
 
 abbrev pub include_words : List (List ℕ)
-include_words = codes "#include" ∷ codes "#includedir" ∷ at_includes
+include_words = codes "#include" ∷ codes "#includedir" ∷ at_include_words
 
 abbrev pub is_tag : List ℕ → Bool
-is_tag word = is_among tags word
+is_tag word = is_among command_tag_words word
 
 abbrev pub is_option_name : List ℕ → Bool
-is_option_name word = is_among option_names word
+is_option_name word = is_among command_option_words word
 
 -- No alias may be defined by the word: it is `ALL`, a tag or an option's name.
 abbrev pub is_reserved : List ℕ → Bool

@@ -2,17 +2,17 @@
 
 ghost use Rattle.std.specs.Prelude.{◌≡◌, ◌≤◌, List, length};
 ghost use Rattle.sudoers_text.specs.Unit.{LineUnit};
-ghost use Rattle.sudoers_text.specs.internal.Left.{Agrees};
-ghost use Rattle.sudoers_text.specs.Context.{is_scope_sign, is_parameter_mark, word_forms, command_forms, parameter_forms, first_forms, scope_forms, forms, is_mark, is_word, behind_mark, behind_word, behind_command, behind_option_value, behind_argument, behind_quoted_argument, behind_parameter, is_member, begins, behind_first, behind};
+ghost use Rattle.sudoers_text.specs.internal.Left.{LeftAgreesWithUnits};
+ghost use Rattle.sudoers_text.specs.Context.{is_scope_sign, is_parameter_mark, token_forms_in_word_lists, token_forms_in_command_lists, token_forms_of_parameters, forms_of_first_token, token_forms_in_scope, token_forms_in_context, is_given_punct_token, is_word_kind, context_after_command_mark, context_after_command_word, context_after_command_token, context_after_option_value, context_after_argument, context_after_quoted_argument, context_after_parameter_token, is_kind_of_list_member, context_after_include_path, context_after_first_token, context_after_token};
 
-use crate::part::{Rule, begins_with, is_whole_argument, run_len};
-use crate::piece::begins_scope;
+use crate::part::{ByteRunKind, begins_with_given_byte, is_whole_argument, leading_run_len};
 use crate::token::{Mode, TokenKind};
+use crate::token_lengths::begins_host_or_runas_sign;
 use crate::word::{is_digest_kind, is_include_word, is_option_name, is_tag};
 
 /// What the members of a `Defaults` scope are.
 #[derive(Clone, Copy)]
-pub enum ScopeList {
+pub enum ScopeMemberKind {
     /// Users, runas users or hosts.
     Names,
     Commands,
@@ -20,7 +20,7 @@ pub enum ScopeList {
 
 /// What may stand at a place of a line.
 #[derive(Clone, Copy)]
-pub enum Context {
+pub enum TokenContext {
     /// The first token of the line.
     First(Mode),
     /// The path of an include.
@@ -44,109 +44,127 @@ pub enum Context {
     /// Inside a quoted part of an argument, behind a `,`, `:` or `=`.
     QuotedArgument,
     ScopeSign,
-    Scope(ScopeList),
+    Scope(ScopeMemberKind),
     /// Behind a member of a scope.
-    BehindMember(ScopeList),
+    BehindMember(ScopeMemberKind),
     Parameter,
     ParameterValue,
 }
 
 /// Whether the token is this mark.
 #[inline(always)]
-fn is_mark(mark: u8, kind: TokenKind, text: &[u8]) -> bool
-    ensures { result ≡ is_mark mark kind text.now }
+fn is_token_of_mark(mark: u8, kind: TokenKind, text: &[u8]) -> bool
+    ensures { result ≡ is_given_punct_token mark kind text.now }
 {
     matches!(kind, TokenKind::Punct) && text == [mark].as_slice()
 }
 
 /// Returns the context behind a mark that stands among commands.
 #[inline(always)]
-fn behind_mark(colon: Context, equals: Context, text: &[u8]) -> Context
-    ensures { result ≡ behind_mark colon equals text.now }
+fn find_context_after_command_mark(
+    colon: TokenContext,
+    equals: TokenContext,
+    text: &[u8],
+) -> TokenContext
+    ensures { result ≡ context_after_command_mark colon equals text.now }
 {
     match text {
-        [b'('] => Context::Parentheses,
+        [b'('] => TokenContext::Parentheses,
         [b':'] => colon,
         [b'='] => equals,
-        _ => Context::Commands,
+        _ => TokenContext::Commands,
     }
 }
 
 /// Behind a word where commands stand.
-fn behind_word(text: &[u8]) -> Context
-    ensures { result ≡ behind_word text.now }
+fn find_context_after_command_word(text: &[u8]) -> TokenContext
+    ensures { result ≡ context_after_command_word text.now }
 {
     if text == b"sudoedit".as_slice() {
-        Context::Arguments
+        TokenContext::Arguments
     } else if is_option_name(text) {
-        Context::BehindOption
+        TokenContext::BehindOption
     } else if is_tag(text) {
-        Context::BehindTag
+        TokenContext::BehindTag
     } else if is_digest_kind(text) {
-        Context::BehindDigestKind
+        TokenContext::BehindDigestKind
     } else {
-        Context::Commands
+        TokenContext::Commands
     }
 }
 
 /// Behind a token where commands stand.
-fn behind_command(colon: Context, equals: Context, kind: TokenKind, text: &[u8]) -> Context
-    ensures { result ≡ behind_command colon equals kind text.now }
+fn find_context_after_command_token(
+    colon: TokenContext,
+    equals: TokenContext,
+    kind: TokenKind,
+    text: &[u8],
+) -> TokenContext
+    ensures { result ≡ context_after_command_token colon equals kind text.now }
 {
     match kind {
-        TokenKind::Punct => behind_mark(colon, equals, text),
-        TokenKind::Word => behind_word(text),
-        TokenKind::Path => Context::Arguments,
-        _ => Context::Commands,
+        TokenKind::Punct => find_context_after_command_mark(colon, equals, text),
+        TokenKind::Word => find_context_after_command_word(text),
+        TokenKind::Path => TokenContext::Arguments,
+        _ => TokenContext::Commands,
     }
 }
 
 /// Behind what stands in an option's value's place.
-fn behind_option_value(kind: TokenKind, text: &[u8]) -> Context
-    ensures { result ≡ behind_option_value kind text.now }
+fn find_context_after_option_value(kind: TokenKind, text: &[u8]) -> TokenContext
+    ensures { result ≡ context_after_option_value kind text.now }
 {
     match kind {
-        TokenKind::Punct => behind_mark(Context::Hosts, Context::Commands, text),
-        _ => Context::Commands,
+        TokenKind::Punct => find_context_after_command_mark(
+            TokenContext::Hosts,
+            TokenContext::Commands,
+            text,
+        ),
+        _ => TokenContext::Commands,
     }
 }
 
 /// Behind a token among arguments.
-fn behind_argument(kind: TokenKind, text: &[u8]) -> Context
-    ensures { result ≡ behind_argument kind text.now }
+fn find_context_after_argument(kind: TokenKind, text: &[u8]) -> TokenContext
+    ensures { result ≡ context_after_argument kind text.now }
 {
     match kind {
-        TokenKind::Punct => behind_mark(Context::Hosts, Context::Commands, text),
-        TokenKind::Arg if !is_whole_argument(text) => Context::QuotedArgument,
-        _ => Context::Arguments,
+        TokenKind::Punct => find_context_after_command_mark(
+            TokenContext::Hosts,
+            TokenContext::Commands,
+            text,
+        ),
+        TokenKind::Arg if !is_whole_argument(text) => TokenContext::QuotedArgument,
+        _ => TokenContext::Arguments,
     }
 }
 
 /// Behind a token inside a quoted part of an argument.
-fn behind_quoted_argument(kind: TokenKind, text: &[u8]) -> Context
-    ensures { result ≡ behind_quoted_argument kind text.now }
+fn find_context_in_quoted_argument(kind: TokenKind, text: &[u8]) -> TokenContext
+    ensures { result ≡ context_after_quoted_argument kind text.now }
 {
     match kind {
-        TokenKind::Arg if run_len(Rule::Clean, text) != text.len() => Context::Arguments,
-        _ => Context::QuotedArgument,
+        TokenKind::Arg if leading_run_len(ByteRunKind::Clean, text) != text.len() =>
+            TokenContext::Arguments,
+        _ => TokenContext::QuotedArgument,
     }
 }
 
 /// Behind a token among parameters.
-fn behind_parameter(kind: TokenKind, text: &[u8]) -> Context
-    ensures { result ≡ behind_parameter kind text.now }
+fn find_context_after_parameter(kind: TokenKind, text: &[u8]) -> TokenContext
+    ensures { result ≡ context_after_parameter_token kind text.now }
 {
     match (kind, text) {
-        (TokenKind::Punct, [b'!'] | [b',']) => Context::Parameter,
-        (TokenKind::Punct, _) => Context::ParameterValue,
-        _ => Context::Parameter,
+        (TokenKind::Punct, [b'!'] | [b',']) => TokenContext::Parameter,
+        (TokenKind::Punct, _) => TokenContext::ParameterValue,
+        _ => TokenContext::Parameter,
     }
 }
 
 /// Whether a token is a member of a list.
 #[inline(always)]
-fn is_member(kind: TokenKind) -> bool
-    ensures { result ≡ is_member kind }
+fn is_member_token_kind(kind: TokenKind) -> bool
+    ensures { result ≡ is_kind_of_list_member kind }
 {
     matches!(
         kind,
@@ -155,71 +173,103 @@ fn is_member(kind: TokenKind) -> bool
 }
 
 /// What a line goes on with behind an include's path.
-fn begins(mode: Mode) -> Context
-    ensures { result ≡ begins mode }
+fn find_context_after_include_path(mode: Mode) -> TokenContext
+    ensures { result ≡ context_after_include_path mode }
 {
     match mode {
-        Mode::Words => Context::Words,
-        Mode::Commands => Context::Hosts,
-        Mode::Parameters => Context::Parameter,
+        Mode::Words => TokenContext::Words,
+        Mode::Commands => TokenContext::Hosts,
+        Mode::Parameters => TokenContext::Parameter,
     }
 }
 
 /// Behind the first token of a line, which begins no include.
-fn behind_first(mode: Mode, kind: TokenKind, text: &[u8], rest: &[u8]) -> Context
-    ensures { result ≡ behind_first mode kind text.now rest.now }
+fn find_context_after_first_token(
+    mode: Mode,
+    kind: TokenKind,
+    text: &[u8],
+    rest: &[u8],
+) -> TokenContext
+    ensures { result ≡ context_after_first_token mode kind text.now rest.now }
 {
     match (mode, kind) {
-        (Mode::Words, _) => Context::Words,
-        (Mode::Commands, _) if is_mark(b'=', kind, text) => Context::Commands,
-        (Mode::Commands, _) => Context::Hosts,
+        (Mode::Words, _) => TokenContext::Words,
+        (Mode::Commands, _) if is_token_of_mark(b'=', kind, text) => TokenContext::Commands,
+        (Mode::Commands, _) => TokenContext::Hosts,
         (Mode::Parameters, TokenKind::Word)
-            if begins_scope(rest) || begins_with(b':', rest) || begins_with(b'!', rest) => {
-            Context::ScopeSign
-        }
-        (Mode::Parameters, TokenKind::Word) => Context::Parameter,
-        (Mode::Parameters, _) => behind_parameter(kind, text),
+            if begins_host_or_runas_sign(rest)
+                || begins_with_given_byte(b':', rest)
+                || begins_with_given_byte(b'!', rest) => { TokenContext::ScopeSign }
+        (Mode::Parameters, TokenKind::Word) => TokenContext::Parameter,
+        (Mode::Parameters, _) => find_context_after_parameter(kind, text),
     }
 }
 
-impl Context {
+impl TokenContext {
     /// What may stand behind a token of this kind and text, and before this rest.
-    pub fn behind(self, kind: TokenKind, text: &[u8], rest: &[u8]) -> Context
-        ensures { result ≡ behind self kind text.now rest.now }
+    pub fn find_context_after_token(self, kind: TokenKind, text: &[u8], rest: &[u8]) -> TokenContext
+        ensures { result ≡ context_after_token self kind text.now rest.now }
     {
         match self {
-            Context::First(mode) if matches!(kind, TokenKind::Word) && is_include_word(text) => {
-                Context::IncludePath(mode)
+            TokenContext::First(mode) if matches!(kind, TokenKind::Word) && is_include_word(text) =>
+                { TokenContext::IncludePath(mode) }
+            TokenContext::First(mode) => find_context_after_first_token(mode, kind, text, rest),
+            TokenContext::IncludePath(mode) => find_context_after_include_path(mode),
+            TokenContext::Words => TokenContext::Words,
+            TokenContext::Hosts if is_token_of_mark(b'=', kind, text) => TokenContext::Commands,
+            TokenContext::Hosts => TokenContext::Hosts,
+            TokenContext::Commands | TokenContext::Digest => {
+                find_context_after_command_token(
+                    TokenContext::Hosts,
+                    TokenContext::Commands,
+                    kind,
+                    text,
+                )
             }
-            Context::First(mode) => behind_first(mode, kind, text, rest),
-            Context::IncludePath(mode) => begins(mode),
-            Context::Words => Context::Words,
-            Context::Hosts if is_mark(b'=', kind, text) => Context::Commands,
-            Context::Hosts => Context::Hosts,
-            Context::Commands | Context::Digest => {
-                behind_command(Context::Hosts, Context::Commands, kind, text)
+            TokenContext::BehindOption => {
+                find_context_after_command_token(
+                    TokenContext::Hosts,
+                    TokenContext::OptionValue,
+                    kind,
+                    text,
+                )
             }
-            Context::BehindOption => {
-                behind_command(Context::Hosts, Context::OptionValue, kind, text)
+            TokenContext::OptionValue => find_context_after_option_value(kind, text),
+            TokenContext::BehindTag => {
+                find_context_after_command_token(
+                    TokenContext::Commands,
+                    TokenContext::Commands,
+                    kind,
+                    text,
+                )
             }
-            Context::OptionValue => behind_option_value(kind, text),
-            Context::BehindTag => {
-                behind_command(Context::Commands, Context::Commands, kind, text)
+            TokenContext::BehindDigestKind => {
+                find_context_after_command_token(
+                    TokenContext::Digest,
+                    TokenContext::Commands,
+                    kind,
+                    text,
+                )
             }
-            Context::BehindDigestKind => {
-                behind_command(Context::Digest, Context::Commands, kind, text)
-            }
-            Context::Parentheses if is_mark(b')', kind, text) => Context::Commands,
-            Context::Parentheses => Context::Parentheses,
-            Context::Arguments => behind_argument(kind, text),
-            Context::QuotedArgument => behind_quoted_argument(kind, text),
-            Context::ScopeSign if is_mark(b'!', kind, text) => Context::Scope(ScopeList::Commands),
-            Context::ScopeSign => Context::Scope(ScopeList::Names),
-            Context::Scope(list) if is_member(kind) => Context::BehindMember(list),
-            Context::Scope(list) => Context::Scope(list),
-            Context::BehindMember(list) if is_mark(b',', kind, text) => Context::Scope(list),
-            Context::BehindMember(_) | Context::Parameter => behind_parameter(kind, text),
-            Context::ParameterValue => Context::Parameter,
+            TokenContext::Parentheses if is_token_of_mark(b')', kind, text) =>
+                TokenContext::Commands,
+            TokenContext::Parentheses => TokenContext::Parentheses,
+            TokenContext::Arguments => find_context_after_argument(kind, text),
+            TokenContext::QuotedArgument => find_context_in_quoted_argument(kind, text),
+            TokenContext::ScopeSign if is_token_of_mark(b'!', kind, text) => TokenContext::Scope(
+                ScopeMemberKind::Commands,
+            ),
+            TokenContext::ScopeSign => TokenContext::Scope(ScopeMemberKind::Names),
+            TokenContext::Scope(list) if is_member_token_kind(kind) => TokenContext::BehindMember(
+                list,
+            ),
+            TokenContext::Scope(list) => TokenContext::Scope(list),
+            TokenContext::BehindMember(list) if is_token_of_mark(b',', kind, text) =>
+                TokenContext::Scope(list),
+            TokenContext::BehindMember(_) | TokenContext::Parameter => find_context_after_parameter(
+                kind, text,
+            ),
+            TokenContext::ParameterValue => TokenContext::Parameter,
         }
     }
 }

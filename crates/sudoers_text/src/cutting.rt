@@ -1,12 +1,12 @@
 //! How a text is cut: its lines, whatever is wrong with it, and then its first fault.
 
 ghost use Rattle.std.specs.Prelude.{◌≡◌, ◌<◌, ◌≤◌, ◌+◌, ◌==◌, ℕ, List, [], ◌∷◌, ◌++◌, length, drop, take, slice_range, slice_get, IsTrue, ◌↔◌, ◌≢◌, IfOk, IfSome, IfNone, IfErr, Some};
-ghost use Rattle.sudoers_text.specs.Line.{IsLine, IsOpen, Cuts};
-ghost use Rattle.sudoers_text.specs.Span.{texts, Follow};
-ghost use Rattle.sudoers_text.specs.Fault.{EndsOpen, IsFirstFault, StandsIn, lf_count};
+ghost use Rattle.sudoers_text.specs.Line.{IsLogicalLineBefore, IsUnfinishedLine, AreLinesOfText};
+ghost use Rattle.sudoers_text.specs.Span.{texts_of_spans, AreContiguousSpans};
+ghost use Rattle.sudoers_text.specs.Fault.{LastLineIsUnfinished, IsFirstFaultOfLines, HasFaultAt, lf_count};
 
 use crate::fault::TextFault;
-use crate::unit::{Left, line_end_len, unit_at};
+use crate::text_units::{LeftContext, line_end_len, unit_at};
 use memchr::{memchr, memchr2};
 use std::alloc::{AllocError, Global};
 
@@ -18,14 +18,14 @@ pub const LINE_LIMIT: usize = 65_536;
 
 /// A part of a text.
 #[derive(Clone, Copy)]
-pub struct Span {
+pub struct LineSpan {
     pub start: usize,
     pub stop: usize,
 }
 
 /// Where a line ends.
 #[derive(Clone, Copy)]
-pub struct LineEnd {
+pub struct LogicalLineEnd {
     /// The place behind the line end.
     pub stop: usize,
     /// The text ends there in a continuation or in a lone backslash.
@@ -34,43 +34,43 @@ pub struct LineEnd {
 
 /// The lines of a text, whatever is wrong with it.
 #[derive(Drop)]
-pub struct Pieces {
-    pub spans: Vec<Span>,
+pub struct UncheckedLineSpans {
+    pub spans: Vec<LineSpan>,
     /// The text ends in a continuation or in a lone backslash.
     pub continues: bool,
 }
 
 /// The lines of a text, whatever is wrong with it.
-pub fn pieces_of(alloc: Global, text: &[u8]) -> Result<Pieces, AllocError>
-    ensures cuts { IfOk result (λ pieces. Cuts text.now (texts text.now pieces.spans.items)) }
-    ensures follow { IfOk result (λ pieces. Follow 0 pieces.spans.items (length text.now)) }
-    ensures continues { IfOk result (λ pieces. IsTrue pieces.continues ↔ EndsOpen (texts text.now pieces.spans.items)) }
+pub fn split_into_line_spans(alloc: Global, text: &[u8]) -> Result<UncheckedLineSpans, AllocError>
+    ensures cuts { IfOk result (λ pieces. AreLinesOfText text.now (texts_of_spans text.now pieces.spans.items)) }
+    ensures follow { IfOk result (λ pieces. AreContiguousSpans 0 pieces.spans.items (length text.now)) }
+    ensures continues { IfOk result (λ pieces. IsTrue pieces.continues ↔ LastLineIsUnfinished (texts_of_spans text.now pieces.spans.items)) }
 {
     let mut spans = Vec::new(alloc);
     let mut start = 0;
     let mut continues = false;
     while start < text.len() {
-        let end = line_end(text, start);
-        spans.push(Span {
+        let end = find_logical_line_end(text, start);
+        spans.push(LineSpan {
             start,
             stop: end.stop,
         })?;
         continues = end.continues;
         start = end.stop;
     }
-    Ok(Pieces { spans, continues })
+    Ok(UncheckedLineSpans { spans, continues })
 }
 
 /// The first fault of a text of these lines.
-pub fn first_fault(text: &[u8], spans: &[Span], continues: bool) -> Option<TextFault>
-    requires cuts { Cuts text.now (texts text.now spans.now) }
-    requires follow { Follow 0 spans.now (length text.now) }
-    requires continues { IsTrue continues ↔ EndsOpen (texts text.now spans.now) }
+pub fn find_first_fault(text: &[u8], spans: &[LineSpan], continues: bool) -> Option<TextFault>
+    requires cuts { AreLinesOfText text.now (texts_of_spans text.now spans.now) }
+    requires follow { AreContiguousSpans 0 spans.now (length text.now) }
+    requires continues { IsTrue continues ↔ LastLineIsUnfinished (texts_of_spans text.now spans.now) }
     ensures none { IfNone result ((fault : TextFault) (at : ℕ)
-        → StandsIn (texts text.now spans.now) fault at → ⊥) }
-    ensures some { IfSome result (λ fault. IsFirstFault (texts text.now spans.now) fault) }
+        → HasFaultAt (texts_of_spans text.now spans.now) fault at → ⊥) }
+    ensures some { IfSome result (λ fault. IsFirstFaultOfLines (texts_of_spans text.now spans.now) fault) }
 {
-    let nul = first_nul(text);
+    let nul = find_first_nul(text);
     for span in spans {
         let long = span.stop - span.start > LINE_LIMIT;
         let reach = if long {
@@ -83,7 +83,7 @@ pub fn first_fault(text: &[u8], spans: &[Span], continues: bool) -> Option<TextF
         }
         if long {
             return Some(TextFault::LineTooLong {
-                line: physical_line(text, span.start),
+                line: physical_line_number_at(text, span.start),
             });
         }
     }
@@ -95,7 +95,7 @@ pub fn first_fault(text: &[u8], spans: &[Span], continues: bool) -> Option<TextF
 }
 
 /// The place of the first NUL, or the text's end.
-pub fn first_nul(text: &[u8]) -> usize
+pub fn find_first_nul(text: &[u8]) -> usize
     ensures inside { result ≤ length text.now }
     ensures before { (k : ℕ) → k < result → slice_get text.now k ≢ Some 0 }
     ensures found { result < length text.now → slice_get text.now result ≡ Some 0 }
@@ -104,7 +104,7 @@ pub fn first_nul(text: &[u8]) -> usize
 }
 
 /// The number of the physical line at a place, from 1.
-fn physical_line(text: &[u8], at: usize) -> usize
+fn physical_line_number_at(text: &[u8], at: usize) -> usize
     requires { at < length text.now }
     ensures { result ≡ lf_count (take at text.now) + 1 }
 {
@@ -112,49 +112,49 @@ fn physical_line(text: &[u8], at: usize) -> usize
 }
 
 /// Returns the end of the line that begins at a place.
-pub fn line_end(text: &[u8], start: usize) -> LineEnd
+pub fn find_logical_line_end(text: &[u8], start: usize) -> LogicalLineEnd
     requires { start < length text.now }
     ensures later { start < result.stop }
     ensures inside { result.stop ≤ length text.now }
-    ensures line { IsLine (slice_range text.now start result.stop) (drop result.stop text.now) }
+    ensures line { IsLogicalLineBefore (slice_range text.now start result.stop) (drop result.stop text.now) }
     ensures open_text { result.stop ≡ length text.now
-        → (IsTrue result.continues ↔ IsOpen (slice_range text.now start result.stop)) }
+        → (IsTrue result.continues ↔ IsUnfinishedLine (slice_range text.now start result.stop)) }
 {
     let rest = &text[start..];
     match memchr2(b'\n', b'\\', rest) {
-        Some(lf) if rest[lf] == b'\n' => LineEnd {
+        Some(lf) if rest[lf] == b'\n' => LogicalLineEnd {
             stop: start + lf + 1,
             continues: false,
         },
-        _ => end_by_units(text, start),
+        _ => find_line_end_by_units(text, start),
     }
 }
 
 /// Returns the end of the line that begins at a place. It is read unit by unit.
-fn end_by_units(text: &[u8], start: usize) -> LineEnd
+fn find_line_end_by_units(text: &[u8], start: usize) -> LogicalLineEnd
     requires { start < length text.now }
     ensures later { start < result.stop }
     ensures inside { result.stop ≤ length text.now }
-    ensures line { IsLine (slice_range text.now start result.stop) (drop result.stop text.now) }
+    ensures line { IsLogicalLineBefore (slice_range text.now start result.stop) (drop result.stop text.now) }
     ensures open_text { result.stop ≡ length text.now
-        → (IsTrue result.continues ↔ IsOpen (slice_range text.now start result.stop)) }
+        → (IsTrue result.continues ↔ IsUnfinishedLine (slice_range text.now start result.stop)) }
 {
     let mut at = start;
-    let mut left = Left::nothing();
+    let mut left = LeftContext::left_of_line_start();
     while let Some(unit) = unit_at(left, &text[at..]) {
-        left = left.after(text, at, &unit);
+        left = left.pass_unit(text, at, &unit);
         at += unit.len();
-        let run = left.run(&text[at..]);
-        left = left.after_run(run);
+        let run = left.take_plain_run(&text[at..]);
+        left = left.pass_plain_run(run);
         at += run.len();
     }
     if at < text.len() {
-        LineEnd {
+        LogicalLineEnd {
             stop: at + line_end_len(&text[at..]),
             continues: false,
         }
     } else {
-        LineEnd {
+        LogicalLineEnd {
             stop: at,
             continues: left.continues,
         }

@@ -2,11 +2,11 @@
 
 ghost use Rattle.std.specs.Prelude.{◌≡◌, ◌<◌, ◌≤◌, ◌⊎◌, ◌==◌, ℕ, List, length, slice_get, slice_range, IfOk, IfErr, Option};
 ghost use Rattle.std.specs.Option.{option_copied};
-ghost use Rattle.sudoers_text.specs.Span.{texts, Follow};
-ghost use Rattle.sudoers_text.specs.Fault.{IsCut, IsFaultOf};
-ghost use Rattle.sudoers_text.specs.Cut.{cut_of, CutGives};
+ghost use Rattle.sudoers_text.specs.Span.{texts_of_spans, AreContiguousSpans};
+ghost use Rattle.sudoers_text.specs.Fault.{IsFaultlessCut, IsFaultOfText};
+ghost use Rattle.sudoers_text.specs.Cut.{cut_outcome_of_text, IsOutcomeUnlessNoMemory};
 
-use crate::cutting::{Span, TEXT_LIMIT, first_fault, pieces_of};
+use crate::cutting::{LineSpan, TEXT_LIMIT, find_first_fault, split_into_line_spans};
 use crate::fault::TextFault;
 use std::alloc::Global;
 use std::marker::Model;
@@ -15,15 +15,15 @@ use std::marker::Model;
 #[derive(Drop)]
 pub struct Lines<'a> {
     text: &'a [u8],
-    spans: Vec<Span>,
+    spans: Vec<LineSpan>,
 }
 
 impl<'a> Model for Lines<'a> {
     ghost Value = { List (List ℕ) };
 
-    ghost view = { λ lines. texts lines.text.now lines.spans.items };
+    ghost view = { λ lines. texts_of_spans lines.text.now lines.spans.items };
 
-    ghost invariant = { λ lines. Follow 0 lines.spans.items (length lines.text.now) };
+    ghost invariant = { λ lines. AreContiguousSpans 0 lines.spans.items (length lines.text.now) };
 }
 
 impl<'a> Lines<'a> {
@@ -46,7 +46,7 @@ impl<'a> Lines<'a> {
         ensures { option_copied result ≡ slice_get self.now i }
     {
         let span = self.spans.get(i)?;
-        Some(part(self.text, *span))
+        Some(slice_of_span(self.text, *span))
     }
 }
 
@@ -61,17 +61,17 @@ impl<'a> Lines<'a> {
 /// stands at its 65,537th byte, before a NUL there, and an open continuation at the end.
 pub fn cut(alloc: Global, text: &[u8]) -> Result<Lines<'_>, TextFault>
     // The lines are the definition's, and nothing is wrong with the text.
-    ensures lines { IfOk result (λ lines. IsCut text.now lines) }
+    ensures lines { IfOk result (λ lines. IsFaultlessCut text.now lines) }
     // The fault is the first that the text has, or memory ran out.
-    ensures fault { IfErr result (λ fault. (fault ≡ TextFault.NoMemory) ⊎ IsFaultOf text.now fault) }
+    ensures fault { IfErr result (λ fault. (fault ≡ TextFault.NoMemory) ⊎ IsFaultOfText text.now fault) }
     // In one word: the text's outcome, of which there is exactly one.
-    ensures outcome { CutGives result (cut_of text.now) }
+    ensures outcome { IsOutcomeUnlessNoMemory result (cut_outcome_of_text text.now) }
 {
     if text.len() > TEXT_LIMIT {
         return Err(TextFault::TooLarge);
     }
-    let pieces = pieces_of(alloc, text)?;
-    match first_fault(text, &pieces.spans, pieces.continues) {
+    let pieces = split_into_line_spans(alloc, text)?;
+    match find_first_fault(text, &pieces.spans, pieces.continues) {
         Some(fault) => Err(fault),
         None => Ok(Lines {
             text,
@@ -81,7 +81,7 @@ pub fn cut(alloc: Global, text: &[u8]) -> Result<Lines<'_>, TextFault>
 }
 
 /// The part of a text that a span names.
-fn part(text: &[u8], span: Span) -> &[u8]
+fn slice_of_span(text: &[u8], span: LineSpan) -> &[u8]
     requires below { span.start ≤ span.stop }
     requires inside { span.stop ≤ length text.now }
     ensures { result.now ≡ slice_range text.now span.start span.stop }

@@ -10,7 +10,11 @@ use std::alloc::{AllocError, Global};
 /// # Errors
 ///
 /// Memory ran out.
-pub fn append_number(alloc: Global, out: &mut Vec<u8>, number: usize) -> Result<(), AllocError>
+pub fn append_decimal_number(
+    alloc: Global,
+    out: &mut Vec<u8>,
+    number: usize,
+) -> Result<(), AllocError>
     ensures appended { OnOk result (out.new.items ≡ out.old.items ++ decimal number) }
     ensures kept { OnErr result (out.new.items ≡ out.old.items) }
 {

@@ -1,14 +1,14 @@
 //! What pieces of a line are made of.
 
 ghost use Rattle.std.specs.Prelude.{◌≡◌, ◌≤◌, length};
-ghost use Rattle.sudoers_text.specs.declared.part.Rule.TheVariants as rules;
-ghost use Rattle.sudoers_text.specs.Part.{is_punct, is_include_byte, is_word_byte, is_path_byte, is_value_byte, is_quoted_byte, is_clean_byte, is_upper, is_alphanumeric, is_name_byte, is_digest_byte, pair_in, continuation_in, escape_in, by_backslash, open_size, unit_size, reach, run_size, begins_with, between_quotes, argument_unit, whole_size, is_whole_argument, broken_size};
+ghost use Rattle.sudoers_text.specs.declared.part.ByteRunKind.TheVariants as rules;
+ghost use Rattle.sudoers_text.specs.Part.{is_punct, is_byte_of_include_path, is_word_byte, is_path_byte, is_value_byte, is_quoted_byte, is_quoted_byte_but_separator, is_upper, is_alphanumeric, is_byte_of_parameter_name, is_digest_byte, pair_size_of_unit, continuation_size_of_unit, escape_size_of_unit, backslash_unit_size_by, unclosed_quote_unit_size, run_unit_size, reach_of_units, leading_run_size, has_given_first_byte, quoted_run_size, argument_unit_size, argument_units_size, is_whole_argument, quote_before_separator_size};
 
-use crate::unit::{Unit, begins_line_end, escaped, is_blank, is_separator};
+use crate::text_units::{TextUnit, begins_line_end, is_blank, is_separator, unit_of_backslash};
 
 /// What a run is made of.
 #[derive(Clone, Copy)]
-pub enum Rule {
+pub enum ByteRunKind {
     /// Blanks and continuations.
     Gap,
     Digits,
@@ -40,8 +40,8 @@ pub fn is_punct(byte: u8) -> bool
 
 /// Whether it stands for itself in the path of an include.
 #[inline(always)]
-fn is_include_byte(byte: u8) -> bool
-    ensures { result ≡ is_include_byte byte }
+fn is_include_path_byte(byte: u8) -> bool
+    ensures { result ≡ is_byte_of_include_path byte }
 {
     !matches!(byte, 0 | b'\n' | b'\r' | b' ' | b'\t' | b'"' | b'#' | b'\\')
 }
@@ -51,7 +51,7 @@ fn is_include_byte(byte: u8) -> bool
 fn is_word_byte(byte: u8) -> bool
     ensures { result ≡ is_word_byte byte }
 {
-    is_include_byte(byte) && !is_punct(byte)
+    is_include_path_byte(byte) && !is_punct(byte)
 }
 
 /// Whether it stands for itself in a command's path, and in an argument.
@@ -59,7 +59,7 @@ fn is_word_byte(byte: u8) -> bool
 fn is_path_byte(byte: u8) -> bool
     ensures { result ≡ is_path_byte byte }
 {
-    is_include_byte(byte) && !is_separator(byte)
+    is_include_path_byte(byte) && !is_separator(byte)
 }
 
 /// Whether it stands for itself in a parameter's value.
@@ -67,7 +67,7 @@ fn is_path_byte(byte: u8) -> bool
 fn is_value_byte(byte: u8) -> bool
     ensures { result ≡ is_value_byte byte }
 {
-    is_include_byte(byte) && byte != b','
+    is_include_path_byte(byte) && byte != b','
 }
 
 /// Whether it stands for itself in a quoted part.
@@ -80,8 +80,8 @@ fn is_quoted_byte(byte: u8) -> bool
 
 /// The same, but for `,`, `:` and `=`.
 #[inline(always)]
-fn is_clean_byte(byte: u8) -> bool
-    ensures { result ≡ is_clean_byte byte }
+fn is_quoted_non_separator_byte(byte: u8) -> bool
+    ensures { result ≡ is_quoted_byte_but_separator byte }
 {
     is_quoted_byte(byte) && !is_separator(byte)
 }
@@ -104,8 +104,8 @@ fn is_alphanumeric(byte: u8) -> bool
 
 /// Whether it may stand in a parameter's name.
 #[inline(always)]
-fn is_name_byte(byte: u8) -> bool
-    ensures { result ≡ is_name_byte byte }
+fn is_parameter_name_byte(byte: u8) -> bool
+    ensures { result ≡ is_byte_of_parameter_name byte }
 {
     is_alphanumeric(byte) || byte == b'_'
 }
@@ -119,12 +119,12 @@ fn is_digest_byte(byte: u8) -> bool
 }
 
 /// How many bytes the pair has that begins the bytes, or none.
-fn pair_len(bytes: &[u8]) -> usize
-    ensures { result ≡ by_backslash pair_in bytes.now }
+fn backslash_pair_len(bytes: &[u8]) -> usize
+    ensures { result ≡ backslash_unit_size_by pair_size_of_unit bytes.now }
 {
     match bytes {
-        [b'\\', rest @ ..] => match escaped(rest) {
-            Unit::Pair(byte) if byte != b'\r' => 2,
+        [b'\\', rest @ ..] => match unit_of_backslash(rest) {
+            TextUnit::Pair(byte) if byte != b'\r' => 2,
             _ => 0,
         },
         _ => 0,
@@ -133,11 +133,11 @@ fn pair_len(bytes: &[u8]) -> usize
 
 /// How many bytes the continuation has that begins the bytes, or none.
 fn continuation_len(bytes: &[u8]) -> usize
-    ensures { result ≡ by_backslash continuation_in bytes.now }
+    ensures { result ≡ backslash_unit_size_by continuation_size_of_unit bytes.now }
 {
     match bytes {
-        [b'\\', rest @ ..] => match escaped(rest) {
-            Unit::Continuation(crlf) => 2 + usize::from(crlf),
+        [b'\\', rest @ ..] => match unit_of_backslash(rest) {
+            TextUnit::Continuation(crlf) => 2 + usize::from(crlf),
             _ => 0,
         },
         _ => 0,
@@ -146,12 +146,12 @@ fn continuation_len(bytes: &[u8]) -> usize
 
 /// How many bytes the pair or continuation has that begins the bytes, or none.
 fn escape_len(bytes: &[u8]) -> usize
-    ensures { result ≡ by_backslash escape_in bytes.now }
+    ensures { result ≡ backslash_unit_size_by escape_size_of_unit bytes.now }
 {
     match bytes {
-        [b'\\', rest @ ..] => match escaped(rest) {
-            Unit::Continuation(crlf) => 2 + usize::from(crlf),
-            Unit::Pair(byte) if byte != b'\r' => 2,
+        [b'\\', rest @ ..] => match unit_of_backslash(rest) {
+            TextUnit::Continuation(crlf) => 2 + usize::from(crlf),
+            TextUnit::Pair(byte) if byte != b'\r' => 2,
             _ => 0,
         },
         _ => 0,
@@ -159,56 +159,59 @@ fn escape_len(bytes: &[u8]) -> usize
 }
 
 /// How many bytes the unit has that begins the bytes behind a `"` that is never closed, or none.
-#[tactic(auto, using(crate::proofs::Reach::open_within))]
-fn open_unit(bytes: &[u8]) -> usize
-    ensures value { result ≡ open_size bytes.now }
+#[tactic(auto, using(crate::proofs::Reach::unclosed_quote_size_is_within_bytes))]
+fn unclosed_quote_unit_len(bytes: &[u8]) -> usize
+    ensures value { result ≡ unclosed_quote_unit_size bytes.now }
     ensures within { result ≤ length bytes.now }
 {
     if begins_line_end(bytes) {
         return 0;
     }
     match bytes {
-        [b'\\', rest @ ..] => escaped(rest).len(),
+        [b'\\', rest @ ..] => unit_of_backslash(rest).len(),
         [_, ..] => 1,
         [] => 0,
     }
 }
 
 /// How many bytes the unit has that begins the bytes, or none.
-#[tactic(auto, using(crate::proofs::Reach::unit_within))]
+#[tactic(auto, using(crate::proofs::Reach::run_unit_size_is_within_bytes))]
 #[inline(always)]
-fn unit_len(rule: Rule, bytes: &[u8]) -> usize
-    ensures value { result ≡ unit_size rule bytes.now }
+fn run_unit_len(rule: ByteRunKind, bytes: &[u8]) -> usize
+    ensures value { result ≡ run_unit_size rule bytes.now }
     ensures within { result ≤ length bytes.now }
 {
     match (rule, bytes) {
         (_, []) => 0,
-        (Rule::Gap, [byte, ..]) if is_blank(*byte) => 1,
-        (Rule::Gap, _) => continuation_len(bytes),
-        (Rule::Digits, [byte, ..]) => usize::from(byte.is_ascii_digit()),
-        (Rule::Name, [byte, ..]) => usize::from(is_name_byte(*byte)),
-        (Rule::Digest, [byte, ..]) => usize::from(is_digest_byte(*byte)),
-        (Rule::Word, [byte, ..]) if is_word_byte(*byte) => 1,
-        (Rule::IncludePath, [byte, ..]) if is_include_byte(*byte) => 1,
-        (Rule::Path, [byte, ..]) if is_path_byte(*byte) => 1,
-        (Rule::Value, [byte, ..]) if is_value_byte(*byte) => 1,
-        (Rule::Word | Rule::IncludePath | Rule::Path | Rule::Value, _) => pair_len(bytes),
-        (Rule::Quote, [byte, ..]) if is_quoted_byte(*byte) => 1,
-        (Rule::Clean, [byte, ..]) if is_clean_byte(*byte) => 1,
-        (Rule::Quote | Rule::Clean, _) => escape_len(bytes),
+        (ByteRunKind::Gap, [byte, ..]) if is_blank(*byte) => 1,
+        (ByteRunKind::Gap, _) => continuation_len(bytes),
+        (ByteRunKind::Digits, [byte, ..]) => usize::from(byte.is_ascii_digit()),
+        (ByteRunKind::Name, [byte, ..]) => usize::from(is_parameter_name_byte(*byte)),
+        (ByteRunKind::Digest, [byte, ..]) => usize::from(is_digest_byte(*byte)),
+        (ByteRunKind::Word, [byte, ..]) if is_word_byte(*byte) => 1,
+        (ByteRunKind::IncludePath, [byte, ..]) if is_include_path_byte(*byte) => 1,
+        (ByteRunKind::Path, [byte, ..]) if is_path_byte(*byte) => 1,
+        (ByteRunKind::Value, [byte, ..]) if is_value_byte(*byte) => 1,
+        (
+            ByteRunKind::Word | ByteRunKind::IncludePath | ByteRunKind::Path | ByteRunKind::Value,
+            _,
+        ) => backslash_pair_len(bytes),
+        (ByteRunKind::Quote, [byte, ..]) if is_quoted_byte(*byte) => 1,
+        (ByteRunKind::Clean, [byte, ..]) if is_quoted_non_separator_byte(*byte) => 1,
+        (ByteRunKind::Quote | ByteRunKind::Clean, _) => escape_len(bytes),
     }
 }
 
 /// How many bytes the units have that begin the bytes, one after another.
-#[tactic(auto, unfolding(crate::specs::Part::run_size))]
+#[tactic(auto, unfolding(crate::specs::Part::leading_run_size))]
 #[inline(always)]
-pub fn run_len(rule: Rule, bytes: &[u8]) -> usize
-    ensures value { result ≡ run_size rule bytes.now }
+pub fn leading_run_len(rule: ByteRunKind, bytes: &[u8]) -> usize
+    ensures value { result ≡ leading_run_size rule bytes.now }
     ensures within { result ≤ length bytes.now }
 {
     let mut len = 0;
     while len < bytes.len() {
-        let unit = unit_len(rule, &bytes[len..]);
+        let unit = run_unit_len(rule, &bytes[len..]);
         if unit == 0 {
             break;
         }
@@ -218,13 +221,13 @@ pub fn run_len(rule: Rule, bytes: &[u8]) -> usize
 }
 
 /// How many bytes a line has behind a `"` that is never closed, without its line end.
-pub fn open_len(bytes: &[u8]) -> usize
-    ensures value { result ≡ reach open_size 0 bytes.now }
+pub fn unclosed_quote_len(bytes: &[u8]) -> usize
+    ensures value { result ≡ reach_of_units unclosed_quote_unit_size 0 bytes.now }
     ensures within { result ≤ length bytes.now }
 {
     let mut len = 0;
     while len < bytes.len() {
-        let unit = open_unit(&bytes[len..]);
+        let unit = unclosed_quote_unit_len(&bytes[len..]);
         if unit == 0 {
             break;
         }
@@ -234,8 +237,8 @@ pub fn open_len(bytes: &[u8]) -> usize
 }
 
 /// Whether the byte begins the bytes.
-pub fn begins_with(byte: u8, bytes: &[u8]) -> bool
-    ensures { result ≡ begins_with byte bytes.now }
+pub fn begins_with_given_byte(byte: u8, bytes: &[u8]) -> bool
+    ensures { result ≡ has_given_first_byte byte bytes.now }
 {
     match bytes {
         [first, ..] => *first == byte,
@@ -244,15 +247,15 @@ pub fn begins_with(byte: u8, bytes: &[u8]) -> bool
 }
 
 /// How many bytes have the quotes that begin the bytes and a run between them, or none.
-#[tactic(auto, unfolding(crate::specs::Part::between_quotes))]
-fn between_quotes(rule: Rule, bytes: &[u8]) -> usize
-    ensures value { result ≡ between_quotes rule bytes.now }
+#[tactic(auto, unfolding(crate::specs::Part::quoted_run_size))]
+fn quoted_run_len(rule: ByteRunKind, bytes: &[u8]) -> usize
+    ensures value { result ≡ quoted_run_size rule bytes.now }
     ensures within { result ≤ length bytes.now }
 {
     match bytes {
         [b'"', rest @ ..] => {
-            let len = run_len(rule, rest);
-            if begins_with(b'"', &rest[len..]) {
+            let len = leading_run_len(rule, rest);
+            if begins_with_given_byte(b'"', &rest[len..]) {
                 len + 2
             } else {
                 0
@@ -263,34 +266,34 @@ fn between_quotes(rule: Rule, bytes: &[u8]) -> usize
 }
 
 /// How many bytes the closed quoted part has that begins the bytes, or none.
-pub fn quoted_len(bytes: &[u8]) -> usize
-    ensures value { result ≡ between_quotes rules.Quote bytes.now }
+pub fn closed_quote_len(bytes: &[u8]) -> usize
+    ensures value { result ≡ quoted_run_size rules.Quote bytes.now }
     ensures within { result ≤ length bytes.now }
 {
-    between_quotes(Rule::Quote, bytes)
+    quoted_run_len(ByteRunKind::Quote, bytes)
 }
 
 /// How many bytes the unit of an argument has that begins the bytes, or none.
 #[inline(always)]
-fn argument_unit(bytes: &[u8]) -> usize
-    ensures value { result ≡ argument_unit bytes.now }
+fn argument_unit_len(bytes: &[u8]) -> usize
+    ensures value { result ≡ argument_unit_size bytes.now }
     ensures within { result ≤ length bytes.now }
 {
-    match unit_len(Rule::Path, bytes) {
-        0 => between_quotes(Rule::Clean, bytes),
+    match run_unit_len(ByteRunKind::Path, bytes) {
+        0 => quoted_run_len(ByteRunKind::Clean, bytes),
         len => len,
     }
 }
 
 /// How many bytes the units of an argument have that begin the bytes, one after another.
-#[tactic(auto, unfolding(crate::specs::Part::whole_size))]
-pub fn whole_len(bytes: &[u8]) -> usize
-    ensures value { result ≡ whole_size bytes.now }
+#[tactic(auto, unfolding(crate::specs::Part::argument_units_size))]
+pub fn argument_units_len(bytes: &[u8]) -> usize
+    ensures value { result ≡ argument_units_size bytes.now }
     ensures within { result ≤ length bytes.now }
 {
     let mut len = 0;
     while len < bytes.len() {
-        let unit = argument_unit(&bytes[len..]);
+        let unit = argument_unit_len(&bytes[len..]);
         if unit == 0 {
             break;
         }
@@ -303,18 +306,19 @@ pub fn whole_len(bytes: &[u8]) -> usize
 pub fn is_whole_argument(text: &[u8]) -> bool
     ensures { result ≡ is_whole_argument text.now }
 {
-    whole_len(text) == text.len()
+    argument_units_len(text) == text.len()
 }
 
 /// How many bytes the quoted part that begins the bytes has up to a `,`, `:` or `=` in it, or none.
-#[tactic(auto, unfolding(crate::specs::Part::broken_size))]
-pub fn broken_len(bytes: &[u8]) -> usize
-    ensures value { result ≡ broken_size bytes.now }
+#[tactic(auto, unfolding(crate::specs::Part::quote_before_separator_size))]
+pub fn quote_before_separator_len(bytes: &[u8]) -> usize
+    ensures value { result ≡ quote_before_separator_size bytes.now }
     ensures within { result ≤ length bytes.now }
 {
     match bytes {
-        [_, rest @ ..] if between_quotes(Rule::Clean, bytes) == 0 && quoted_len(bytes) != 0 => {
-            run_len(Rule::Clean, rest) + 1
+        [_, rest @ ..]
+            if quoted_run_len(ByteRunKind::Clean, bytes) == 0 && closed_quote_len(bytes) != 0 => {
+            leading_run_len(ByteRunKind::Clean, rest) + 1
         }
         _ => 0,
     }

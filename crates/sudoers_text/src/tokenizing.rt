@@ -3,72 +3,72 @@
 ghost use Rattle.std.specs.Prelude.{◌≡◌, ◌≤◌, ◌<◌, ◌+◌, ◌∷◌, ◌-◌, ◌==◌, ◌||◌, not, ℕ, List, [], length, drop, take, slice_range, true, false, IfOk, IfErr, IfSome, IfNone, All};
 ghost use Rattle.sudoers_text.specs.declared.token.Token.{Token as TokenOf};
 ghost use Rattle.sudoers_text.specs.Unit.{LineUnit, line_end_size};
-ghost use Rattle.sudoers_text.specs.internal.Left.{Knows, unit_of, ends_apart, begins_sign};
-ghost use Rattle.sudoers_text.specs.internal.Reached.{Reaches};
-ghost use Rattle.sudoers_text.specs.Piece.{Form};
-ghost use Rattle.sudoers_text.specs.Token.{plain_unit, passed, units_left, next_start, is_end, HasTokens, IsWithin};
-ghost use Rattle.sudoers_text.specs.Found.{found, found_behind, tokens_of};
+ghost use Rattle.sudoers_text.specs.internal.Left.{LeftDescribesUnits, model_of_unit, ends_without_backslash_or_cr, has_leading_hash_or_percent};
+ghost use Rattle.sudoers_text.specs.internal.Reached.{DescribesLeftAtOffset};
+ghost use Rattle.sudoers_text.specs.Piece.{TokenForm};
+ghost use Rattle.sudoers_text.specs.Token.{byte_or_escape_unit, units_with_those_of_bytes, units_left_of_place, next_token_start, is_line_end_or_empty, HasTokens, IsTokenWithinLine};
+ghost use Rattle.sudoers_text.specs.Found.{kind_and_size_of_token, kind_and_size_after_units, tokens_of_line};
 
-use crate::context::Context;
+use crate::context::TokenContext;
 use crate::fault::TextFault;
-use crate::part::{Rule, run_len};
+use crate::part::{ByteRunKind, leading_run_len};
+use crate::text_units::{LeftContext, TextUnit, line_end_len, unit_of_backslash};
 use crate::token::{Mode, Token};
-use crate::unit::{Left, Unit, escaped, line_end_len};
 use std::alloc::Global;
 
 /// The unit that begins the bytes, where a quoted part and a comment are no units but their bytes.
 #[inline(always)]
-fn plain_unit(bytes: &[u8]) -> Unit<'_>
+fn read_byte_or_escape_unit(bytes: &[u8]) -> TextUnit<'_>
     requires { 0 < length bytes.now }
-    ensures { (b : ℕ) (rest : List ℕ) → bytes.now ≡ b ∷ rest → unit_of result ≡ plain_unit b rest }
+    ensures { (b : ℕ) (rest : List ℕ) → bytes.now ≡ b ∷ rest → model_of_unit result ≡ byte_or_escape_unit b rest }
 {
     match bytes {
-        [b'\\', rest @ ..] => escaped(rest),
-        _ => Unit::Byte(bytes[0]),
+        [b'\\', rest @ ..] => unit_of_backslash(rest),
+        _ => TextUnit::Byte(bytes[0]),
     }
 }
 
 /// Whether nothing is left, or a line end alone.
 #[inline(always)]
-fn is_end(bytes: &[u8]) -> bool
-    ensures { result ≡ is_end bytes.now }
+fn is_at_line_end(bytes: &[u8]) -> bool
+    ensures { result ≡ is_line_end_or_empty bytes.now }
 {
     line_end_len(bytes) == bytes.len()
 }
 
 /// Where the next token begins. None does where only blanks, continuations and the line end are left.
 #[inline(always)]
-fn token_start(line: &[u8], at: usize) -> Option<usize>
+fn find_next_token_start(line: &[u8], at: usize) -> Option<usize>
     requires { at ≤ length line.now }
-    ensures some { IfSome result (λ start. (start ≡ next_start line.now at) × (is_end (drop start line.now) ≡ false)) }
-    ensures none { IfNone result (is_end (drop (next_start line.now at) line.now) ≡ true) }
+    ensures some { IfSome result (λ start. (start ≡ next_token_start line.now at) × (is_line_end_or_empty (drop start line.now) ≡ false)) }
+    ensures none { IfNone result (is_line_end_or_empty (drop (next_token_start line.now at) line.now) ≡ true) }
 {
-    let start = at + run_len(Rule::Gap, &line[at..]);
-    if is_end(&line[start..]) {
+    let start = at + leading_run_len(ByteRunKind::Gap, &line[at..]);
+    if is_at_line_end(&line[start..]) {
         None
     } else {
         Some(start)
     }
 }
 
-impl Left {
+impl LeftContext {
     /// What stands left of a place, by what stands left of one before it.
-    fn past(self, text: &[u8], from: usize, to: usize) -> Left
+    fn advance_over_slice(self, text: &[u8], from: usize, to: usize) -> LeftContext
         requires below { from ≤ to }
         requires inside { to ≤ length text.now }
-        requires known { (before : List LineUnit) × Knows text.now from self before }
-        ensures { (before : List LineUnit) → Knows text.now from self before
-            → Knows text.now to result (passed before (slice_range text.now from to)) }
+        requires known { (before : List LineUnit) × LeftDescribesUnits text.now from self before }
+        ensures { (before : List LineUnit) → LeftDescribesUnits text.now from self before
+            → LeftDescribesUnits text.now to result (units_with_those_of_bytes before (slice_range text.now from to)) }
     {
         let mut left = self;
         let mut at = from;
         while at < to {
-            let run = left.run(&text[at..to]);
-            left = left.after_run(run);
+            let run = left.take_plain_run(&text[at..to]);
+            left = left.pass_plain_run(run);
             at += run.len();
             if at < to {
-                let unit = plain_unit(&text[at..to]);
-                left = left.after(text, at, &unit);
+                let unit = read_byte_or_escape_unit(&text[at..to]);
+                left = left.pass_unit(text, at, &unit);
                 at += unit.len();
             }
         }
@@ -78,23 +78,23 @@ impl Left {
 
 /// Whether it is neither a backslash nor a CR.
 #[inline(always)]
-fn is_apart(byte: u8) -> bool
+fn is_no_backslash_or_cr(byte: u8) -> bool
     ensures { result ≡ not (byte == 92 || byte == 13) }
 {
     !matches!(byte, b'\\' | b'\r')
 }
 
 /// The last place behind no backslash and no CR, from one such place up to another place.
-fn apart_before(line: &[u8], from: usize, at: usize) -> usize
+fn last_unescaped_offset_before(line: &[u8], from: usize, at: usize) -> usize
     requires below { from ≤ at }
     requires inside { at ≤ length line.now }
-    requires apart { ends_apart (take from line.now) ≡ true }
+    requires apart { ends_without_backslash_or_cr (take from line.now) ≡ true }
     ensures not_before { from ≤ result }
     ensures not_behind { result ≤ at }
-    ensures apart { ends_apart (take result line.now) ≡ true }
+    ensures apart { ends_without_backslash_or_cr (take result line.now) ≡ true }
 {
     let mut place = at;
-    while from < place && !is_apart(line[place - 1]) {
+    while from < place && !is_no_backslash_or_cr(line[place - 1]) {
         place -= 1;
     }
     place
@@ -102,60 +102,60 @@ fn apart_before(line: &[u8], from: usize, at: usize) -> usize
 
 /// Whether `#` or `%` begins the bytes.
 #[inline(always)]
-fn begins_sign(bytes: &[u8]) -> bool
-    ensures { result ≡ begins_sign bytes.now }
+fn begins_hash_or_percent(bytes: &[u8]) -> bool
+    ensures { result ≡ has_leading_hash_or_percent bytes.now }
 {
     matches!(bytes, [b'#' | b'%', ..])
 }
 
 /// What stands left of a place of a line, behind no backslash and no CR: what stands left of a later place goes on from there.
 #[derive(Clone, Copy)]
-struct Reached {
-    left: Left,
+struct LeftContextAtOffset {
+    left: LeftContext,
     at: usize,
 }
 
-impl Reached {
+impl LeftContextAtOffset {
     /// Nothing stands left of a line's beginning.
-    fn beginning() -> Self
+    fn start_of_line() -> Self
         ensures place { result.at ≡ 0 }
-        ensures knows { (line : List ℕ) → Reaches line result }
+        ensures knows { (line : List ℕ) → DescribesLeftAtOffset line result }
     {
-        Reached {
-            left: Left::nothing(),
+        LeftContextAtOffset {
+            left: LeftContext::left_of_line_start(),
             at: 0,
         }
     }
 
     /// What stands left of the last such place up to a later place.
-    fn to(self, line: &[u8], at: usize) -> Self
+    fn advance_to_offset(self, line: &[u8], at: usize) -> Self
         requires below { self.at ≤ at }
         requires inside { at ≤ length line.now }
-        requires knows { Reaches line.now self }
+        requires knows { DescribesLeftAtOffset line.now self }
         ensures place { result.at ≤ at }
-        ensures knows { Reaches line.now result }
+        ensures knows { DescribesLeftAtOffset line.now result }
     {
-        let place = apart_before(line, self.at, at);
-        Reached {
-            left: self.left.past(line, self.at, place),
+        let place = last_unescaped_offset_before(line, self.at, at);
+        LeftContextAtOffset {
+            left: self.left.advance_over_slice(line, self.at, place),
             at: place,
         }
     }
 
     /// What is known left of a token, and what it tells of the token. Nothing has to be known, unless `#` or `%` begins it.
     #[inline(always)]
-    fn for_token(self, line: &[u8], start: usize) -> (Self, Left)
+    fn advance_to_token(self, line: &[u8], start: usize) -> (Self, LeftContext)
         requires below { self.at ≤ start }
         requires inside { start ≤ length line.now }
-        requires knows { Reaches line.now self }
+        requires knows { DescribesLeftAtOffset line.now self }
         ensures place { result.0.at ≤ start }
-        ensures knows { Reaches line.now result.0 }
-        ensures found { (fs : List Form) → found fs result.1.item (result.1.begun == 0) (drop start line.now)
-            ≡ found_behind fs (units_left line.now start) (drop start line.now) }
+        ensures knows { DescribesLeftAtOffset line.now result.0 }
+        ensures found { (fs : List TokenForm) → kind_and_size_of_token fs result.1.item (result.1.begun == 0) (drop start line.now)
+            ≡ kind_and_size_after_units fs (units_left_of_place line.now start) (drop start line.now) }
     {
-        if begins_sign(&line[start..]) {
-            let here = self.to(line, start);
-            (here, here.left.past(line, here.at, start))
+        if begins_hash_or_percent(&line[start..]) {
+            let here = self.advance_to_offset(line, start);
+            (here, here.left.advance_over_slice(line, here.at, start))
         } else {
             (self, self.left)
         }
@@ -172,27 +172,27 @@ pub fn tokens(alloc: Global, line: &[u8], mode: Mode) -> Result<Vec<Token>, Text
     // They are the line's tokens.
     ensures exact { IfOk result (λ tokens. HasTokens mode line.now tokens.items) }
     // In one word: the tokens that are computed, of which there is one list.
-    ensures outcome { IfOk result (λ tokens. tokens.items ≡ tokens_of mode line.now) }
+    ensures outcome { IfOk result (λ tokens. tokens.items ≡ tokens_of_line mode line.now) }
     // Each is a part of the line, and not empty.
-    ensures within { IfOk result (λ tokens. All (IsWithin (length line.now)) tokens.items) }
+    ensures within { IfOk result (λ tokens. All (IsTokenWithinLine (length line.now)) tokens.items) }
     // Nothing but want of memory is refused.
     ensures only_memory { IfErr result (λ fault. fault ≡ TextFault.NoMemory) }
 {
     let mut tokens = Vec::with_capacity(alloc, line.len() / 4)?;
-    let mut here = Context::First(mode);
-    let mut reached = Reached::beginning();
+    let mut here = TokenContext::First(mode);
+    let mut reached = LeftContextAtOffset::start_of_line();
     let mut at = 0;
-    while let Some(start) = token_start(line, at) {
-        let (next, left) = reached.for_token(line, start);
+    while let Some(start) = find_next_token_start(line, at) {
+        let (next, left) = reached.advance_to_token(line, start);
         reached = next;
-        let piece = here.piece(left, &line[start..]);
+        let piece = here.find_token_in_context(left, &line[start..]);
         at = start + piece.len;
         tokens.push(Token {
             kind: piece.kind,
             start,
             stop: at,
         })?;
-        here = here.behind(piece.kind, &line[start..at], &line[at..]);
+        here = here.find_context_after_token(piece.kind, &line[start..at], &line[at..]);
     }
     Ok(tokens)
 }

@@ -3,7 +3,7 @@
 ghost use Rattle.std.specs.Prelude.{◌≡◌, ◌||◌, codes};
 ghost use Rattle.std.specs.List.{list_all};
 ghost use Rattle.std.specs.Str.{bytes_eq};
-ghost use Rattle.sudoers_text.specs.Word.{is_among, is_tag, is_option_name, is_reserved, is_alias_byte, is_name, digest_kinds, at_includes, include_words};
+ghost use Rattle.sudoers_text.specs.Word.{is_among, is_tag, is_option_name, is_reserved, is_alias_byte, is_name, digest_kinds, at_include_words, include_words};
 
 use crate::part::is_upper;
 
@@ -56,8 +56,8 @@ pub fn is_digest_kind(word: &[u8]) -> bool
 }
 
 /// Whether the word is `@include` or `@includedir`.
-pub fn is_at_include(word: &[u8]) -> bool
-    ensures { result ≡ is_among at_includes word.now }
+pub fn is_at_sign_include_word(word: &[u8]) -> bool
+    ensures { result ≡ is_among at_include_words word.now }
 {
     word == b"@include".as_slice() || word == b"@includedir".as_slice()
 }
@@ -66,7 +66,9 @@ pub fn is_at_include(word: &[u8]) -> bool
 pub fn is_include_word(word: &[u8]) -> bool
     ensures { result ≡ is_among include_words word.now }
 {
-    word == b"#include".as_slice() || word == b"#includedir".as_slice() || is_at_include(word)
+    word == b"#include".as_slice()
+        || word == b"#includedir".as_slice()
+        || is_at_sign_include_word(word)
 }
 
 /// Whether the word is reserved: `ALL`, a tag (as `NOPASSWD`) or the name of an option (as `CWD`), by which no alias may be

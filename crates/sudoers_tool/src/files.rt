@@ -5,7 +5,7 @@ use std::alloc::{AllocError, Global};
 use std::io::Stdin;
 use std::{fs, io};
 use sudoers_files::FilesOnDisk;
-use sudoers_line::Items;
+use sudoers_grammar::Items;
 use sudoers_run::ToolFault;
 
 /// The name of the standard input as a file.
@@ -18,22 +18,26 @@ pub const STDIN_NUMBER: i32 = 0;
 pub type Disk = FilesOnDisk<HostRuntime, Stdin>;
 
 /// Returns the files of the disk for the policy `root`: those below the folder that `words` name, if they name one.
-pub fn disk(rt: &HostRuntime, words: &ArgMatches<'_>, root: &str) -> Result<Disk, ToolFault> {
+pub fn open_disk_files(
+    rt: &HostRuntime,
+    words: &ArgMatches<'_>,
+    root: &str,
+) -> Result<Disk, ToolFault> {
     let top = match words.get_str("DIR") {
         Some(dir) => Some(String::from_str(rt.alloc(), dir)?),
         None => None,
     };
-    let root = name_of(rt.alloc(), root)?;
+    let root = file_name_of_text(rt.alloc(), root)?;
     Ok(FilesOnDisk::new(rt.alloc(), rt.clone()?, top, root, rt.stdin()))
 }
 
 /// Returns `name` as the name of a file.
-pub fn name_of(alloc: Global, name: &str) -> Result<Items<u8>, AllocError> {
+pub fn file_name_of_text(alloc: Global, name: &str) -> Result<Items<u8>, AllocError> {
     Items::from_slice(alloc, name.as_bytes())
 }
 
 /// Opens a file. A file that cannot be opened is the error `Read`.
-pub fn open(rt: &HostRuntime, file: &str) -> Result<fs::File, ToolFault> {
+pub fn open_named_file(rt: &HostRuntime, file: &str) -> Result<fs::File, ToolFault> {
     match fs::open(rt, file) {
         Ok(opened) => Ok(opened),
         Err(error) if error.kind() == io::ErrorKind::OutOfMemory => Err(ToolFault::from(

@@ -1,19 +1,21 @@
 //! A tool for sudoers policies whose promises are proved.
 #![tactic(auto)]
 
-mod also;
-mod budget;
-mod editing;
+mod also_option;
+mod edit_command;
+mod file_trouble;
 mod files;
-mod listing;
+mod list_command;
+mod read_budget;
 mod terminal;
-mod trouble;
 
-use crate::editing::{EDIT, edit_policy, edit_stream, edit_words, wrong_edit_words};
-use crate::files::{STDIN, disk, is_folder};
-use crate::listing::{list_file, list_words};
-use crate::terminal::{errors, output, print_line};
-use crate::trouble::Trouble;
+use crate::edit_command::{
+    EDIT, edit_policy_or_stdin, edit_standard_input, find_edit_usage_error, make_edit_command,
+};
+use crate::file_trouble::FileTrouble;
+use crate::files::{STDIN, is_folder, open_disk_files};
+use crate::list_command::{make_list_command, run_list_command};
+use crate::terminal::{open_standard_error, open_standard_output, print_error_line};
 use clap::error::ErrorKind;
 use clap::{Arg, ArgAction, ArgMatches, Command, Error};
 use std::alloc::{AllocError, Global};
@@ -21,7 +23,7 @@ use std::io;
 use std::io::Write;
 use std::process::ExitCode;
 use sudoers_run::{
-    CheckWords, ConvertWords, Counted, Form, ToolFault, run_check, run_convert, run_show,
+    CheckWords, ConvertWords, Counted, OutputForm, ToolFault, run_check, run_convert, run_show,
 };
 
 /// The forms in which `convert` prints.
@@ -37,16 +39,16 @@ const EXIT_STATUS: &str =
 /// Returns the exit status: 0 for success, 1 for an error, a policy that `check` does not pass or a command that is not allowed, 2 for a
 /// wrong command line.
 fn main(rt: HostRuntime) -> ExitCode {
-    match run(&rt) {
+    match run_command_line(&rt) {
         Ok(code) => code,
-        Err(fault) => report_fault(&rt, &Trouble::from(fault)),
+        Err(fault) => report_fault(&rt, &FileTrouble::from(fault)),
     }
 }
 
 /// Reads the command line and runs the command that it names.
-fn run(rt: &HostRuntime) -> Result<ExitCode, ToolFault> {
-    let mut command = command_words(rt.alloc())?;
-    let words = match words(rt) {
+fn run_command_line(rt: &HostRuntime) -> Result<ExitCode, ToolFault> {
+    let mut command = make_top_command(rt.alloc())?;
+    let words = match collect_argument_words(rt) {
         Ok(words) => words,
         Err(error) if error.kind() == io::ErrorKind::OutOfMemory => return Err(ToolFault::from(
             AllocError,
@@ -58,22 +60,25 @@ fn run(rt: &HostRuntime) -> Result<ExitCode, ToolFault> {
         }
     };
     match command.try_get_matches_from(words.as_slice()) {
-        Ok(matches) => match wrong_words(rt, &matches)? {
+        Ok(matches) => match find_usage_error(rt, &matches)? {
             Some(message) => {
-                let mut command = named_command(rt.alloc(), &matches)?;
+                let mut command = make_command_for_usage(rt.alloc(), &matches)?;
                 show_usage(
                     rt,
                     &command.error(ErrorKind::InvalidValue, message.as_str())?,
                 )
             }
-            None => Ok(run_command(rt, &matches)),
+            None => Ok(run_matched_command(rt, &matches)),
         },
         Err(error) => show_usage(rt, &error),
     }
 }
 
 /// Returns what is wrong with a command line that has the right form: it names a folder that is none, or too many files.
-fn wrong_words(rt: &HostRuntime, matches: &ArgMatches<'_>) -> Result<Option<String>, ToolFault> {
+fn find_usage_error(
+    rt: &HostRuntime,
+    matches: &ArgMatches<'_>,
+) -> Result<Option<String>, ToolFault> {
     let Some((name, words)) = matches.subcommand() else {
         return Ok(None);
     };
@@ -88,57 +93,63 @@ fn wrong_words(rt: &HostRuntime, matches: &ArgMatches<'_>) -> Result<Option<Stri
     if name != EDIT {
         return Ok(None);
     }
-    match wrong_edit_words(words) {
+    match find_edit_usage_error(words) {
         Some(message) => Ok(Some(String::from_str(rt.alloc(), message)?)),
         None => Ok(None),
     }
 }
 
 /// Returns the command line whose usage an error of `matches` shows.
-fn named_command<'a>(alloc: Global, matches: &ArgMatches<'_>) -> Result<Command<'a>, AllocError> {
+fn make_command_for_usage<'a>(
+    alloc: Global,
+    matches: &ArgMatches<'_>,
+) -> Result<Command<'a>, AllocError> {
     match matches.subcommand() {
-        Some((EDIT, _)) => edit_words(alloc, top_word(alloc)),
-        _ => command_words(alloc),
+        Some((EDIT, _)) => make_edit_command(alloc, make_root_folder_option(alloc)),
+        _ => make_top_command(alloc),
     }
 }
 
 /// Runs the command of a command line that was understood, and prints its error.
-fn run_command(rt: &HostRuntime, matches: &ArgMatches<'_>) -> ExitCode {
+fn run_matched_command(rt: &HostRuntime, matches: &ArgMatches<'_>) -> ExitCode {
     match matches.subcommand() {
         Some((name, words)) if name != EDIT => {
             let file = words.get_str("FILE").unwrap_or(STDIN);
-            exit_code_of(rt, without_file(run_on_file(rt, name, file, words)))
+            exit_code_of_outcome(
+                rt,
+                make_trouble_without_file(run_on_policy_file(rt, name, file, words)),
+            )
         }
-        Some((_, words)) => exit_code_of(rt, edit_policy(rt, words)),
-        None => exit_code_of(rt, without_file(edit_stream(rt, 0, 0))),
+        Some((_, words)) => exit_code_of_outcome(rt, edit_policy_or_stdin(rt, words)),
+        None => exit_code_of_outcome(rt, make_trouble_without_file(edit_standard_input(rt, 0, 0))),
     }
 }
 
 /// Returns the outcome of a command whose errors are printed without the name of a file before them.
-fn without_file(outcome: Result<u8, ToolFault>) -> Result<u8, Trouble> {
+fn make_trouble_without_file(outcome: Result<u8, ToolFault>) -> Result<u8, FileTrouble> {
     match outcome {
         Ok(status) => Ok(status),
-        Err(fault) => Err(Trouble::from(fault)),
+        Err(fault) => Err(FileTrouble::from(fault)),
     }
 }
 
 /// Runs the command `name`, which reads a policy file.
-fn run_on_file(
+fn run_on_policy_file(
     rt: &HostRuntime,
     name: &str,
     file: &str,
     words: &ArgMatches<'_>,
 ) -> Result<u8, ToolFault> {
     match name {
-        "check" => check_file(rt, file, words),
-        "convert" => convert_file(rt, file, words),
-        "list" => list_file(rt, file, words),
-        _ => show_file(rt, file, words),
+        "check" => run_check_command(rt, file, words),
+        "convert" => run_convert_command(rt, file, words),
+        "list" => run_list_command(rt, file, words),
+        _ => run_show_command(rt, file, words),
     }
 }
 
 /// Returns the exit status of a command that ended so, and prints its error.
-fn exit_code_of(rt: &HostRuntime, outcome: Result<u8, Trouble>) -> ExitCode {
+fn exit_code_of_outcome(rt: &HostRuntime, outcome: Result<u8, FileTrouble>) -> ExitCode {
     match outcome {
         Ok(status) => ExitCode::from(status),
         Err(trouble) => report_fault(rt, &trouble),
@@ -146,30 +157,34 @@ fn exit_code_of(rt: &HostRuntime, outcome: Result<u8, Trouble>) -> ExitCode {
 }
 
 /// Returns the command line of `show`.
-fn show_words<'a>(alloc: Global) -> Result<Command<'a>, AllocError> {
+fn make_show_command<'a>(alloc: Global) -> Result<Command<'a>, AllocError> {
     Command::new(alloc, "show")
         .about("Print the logical lines of a policy and its alias definitions, with their numbers")
-        .arg(top_word(alloc))?
-        .arg(file_word(alloc))
+        .arg(make_root_folder_option(alloc))?
+        .arg(make_file_argument(alloc))
 }
 
 /// Returns the command line that is understood.
-fn command_words<'a>(alloc: Global) -> Result<Command<'a>, AllocError> {
+fn make_top_command<'a>(alloc: Global) -> Result<Command<'a>, AllocError> {
     Command::new(alloc, "sudoers_tool")
         .version(VERSION)
         .about(
             "Check, show, edit, convert and list sudoers policies. Without a command, do what `edit` does",
         )
         .after_help(EXIT_STATUS)
-        .subcommand(check_words(alloc)?)?
-        .subcommand(convert_words(alloc)?)?
-        .subcommand(edit_words(alloc, top_word(alloc))?)?
-        .subcommand(list_words(alloc, top_word(alloc), file_word(alloc))?)?
-        .subcommand(show_words(alloc)?)
+        .subcommand(make_check_command(alloc)?)?
+        .subcommand(make_convert_command(alloc)?)?
+        .subcommand(make_edit_command(alloc, make_root_folder_option(alloc))?)?
+        .subcommand(make_list_command(
+            alloc,
+            make_root_folder_option(alloc),
+            make_file_argument(alloc),
+        )?)?
+        .subcommand(make_show_command(alloc)?)
 }
 
 /// Returns the command line of `check`.
-fn check_words<'a>(alloc: Global) -> Result<Command<'a>, AllocError> {
+fn make_check_command<'a>(alloc: Global) -> Result<Command<'a>, AllocError> {
     let quiet = Arg::new(alloc, "quiet")
         .short('q')
         .action(ArgAction::SetTrue)
@@ -191,12 +206,12 @@ fn check_words<'a>(alloc: Global) -> Result<Command<'a>, AllocError> {
         .arg(quiet)?
         .arg(strict)?
         .arg(skipped)?
-        .arg(top_word(alloc))?
-        .arg(file_word(alloc))
+        .arg(make_root_folder_option(alloc))?
+        .arg(make_file_argument(alloc))
 }
 
 /// Returns the command line of `convert`.
-fn convert_words<'a>(alloc: Global) -> Result<Command<'a>, AllocError> {
+fn make_convert_command<'a>(alloc: Global) -> Result<Command<'a>, AllocError> {
     let form = Arg::new(alloc, "FORM")
         .short('f')
         .long("form")
@@ -215,21 +230,21 @@ fn convert_words<'a>(alloc: Global) -> Result<Command<'a>, AllocError> {
         )
         .arg(form)?
         .arg(expand)?
-        .arg(filter_word(alloc))?
-        .arg(prune_word(alloc))?
-        .arg(top_word(alloc))?
-        .arg(file_word(alloc))
+        .arg(make_filter_option(alloc))?
+        .arg(make_prune_flag(alloc))?
+        .arg(make_root_folder_option(alloc))?
+        .arg(make_file_argument(alloc))
 }
 
 /// Returns the option with the text of a filter.
-fn filter_word<'a>(alloc: Global) -> Arg<'a> {
+fn make_filter_option<'a>(alloc: Global) -> Arg<'a> {
     Arg::new(alloc, "FILTER").short('m').long("match").help(
         "Print only rules for users, groups and hosts of these names, as user=bob,group=adm,host=www1; for review only",
     )
 }
 
 /// Returns the option that prunes lists.
-fn prune_word<'a>(alloc: Global) -> Arg<'a> {
+fn make_prune_flag<'a>(alloc: Global) -> Arg<'a> {
     Arg::new(alloc, "prune")
         .short('p')
         .long("prune-matches")
@@ -238,21 +253,21 @@ fn prune_word<'a>(alloc: Global) -> Arg<'a> {
 }
 
 /// Returns the option with the folder below which absolute names are read.
-fn top_word<'a>(alloc: Global) -> Arg<'a> {
+fn make_root_folder_option<'a>(alloc: Global) -> Arg<'a> {
     Arg::new(alloc, "DIR").long("root").help(
         "Read FILE and included files as a system does whose root is this folder, as an image; messages name them without it",
     )
 }
 
 /// Returns the argument that names a policy file.
-fn file_word<'a>(alloc: Global) -> Arg<'a> {
+fn make_file_argument<'a>(alloc: Global) -> Arg<'a> {
     Arg::new(alloc, "FILE")
         .required(true)
         .help("Policy file, or `-` for standard input")
 }
 
 /// Returns the words of the command line.
-fn words(rt: &HostRuntime) -> io::Result<Vec<String>> {
+fn collect_argument_words(rt: &HostRuntime) -> io::Result<Vec<String>> {
     let words: Vec<String> = std::env::args(rt)?.collect(rt.alloc())?;
     Ok(words)
 }
@@ -264,34 +279,39 @@ fn show_usage(rt: &HostRuntime, error: &Error) -> Result<ExitCode, ToolFault> {
     }
     let text = error.to_string(rt.alloc())?;
     if error.use_stderr() {
-        let _ = errors(rt).write_all(text.as_bytes());
+        let _ = open_standard_error(rt).write_all(text.as_bytes());
         return Ok(ExitCode::from(2));
     }
-    match output(rt).write_all(text.as_bytes()) {
+    match open_standard_output(rt).write_all(text.as_bytes()) {
         Ok(()) => Ok(ExitCode::from(0)),
         Err(_) => Err(ToolFault::Write),
     }
 }
 
 /// Shows a policy, or standard input.
-fn show_file(rt: &HostRuntime, file: &str, words: &ArgMatches<'_>) -> Result<u8, ToolFault> {
-    let mut writer = Counted::new(output(rt));
+fn run_show_command(rt: &HostRuntime, file: &str, words: &ArgMatches<'_>) -> Result<u8, ToolFault> {
+    let mut writer = Counted::new(open_standard_output(rt));
     let root = file.as_bytes();
-    run_show(rt.alloc(), &mut disk(rt, words, file)?, root, &mut writer)
+    run_show(
+        rt.alloc(),
+        &mut open_disk_files(rt, words, file)?,
+        root,
+        &mut writer,
+    )
 }
 
 /// Returns the form that the words of `convert` name.
-fn form_of(words: &ArgMatches<'_>) -> Form {
+fn form_of_convert_words(words: &ArgMatches<'_>) -> OutputForm {
     match words.get_str("FORM") {
-        Some("json") => Form::Json,
-        _ => Form::Sudoers,
+        Some("json") => OutputForm::Json,
+        _ => OutputForm::Sudoers,
     }
 }
 
 /// Returns what the words of `convert` ask for.
-fn asked_of<'a>(words: &ArgMatches<'a>) -> ConvertWords<'a> {
+fn convert_words_of_matches<'a>(words: &ArgMatches<'a>) -> ConvertWords<'a> {
     ConvertWords {
-        form: form_of(words),
+        form: form_of_convert_words(words),
         filter: match words.get_str("FILTER") {
             Some(text) => Some(text.as_bytes()),
             None => None,
@@ -302,13 +322,17 @@ fn asked_of<'a>(words: &ArgMatches<'a>) -> ConvertWords<'a> {
 }
 
 /// Converts a policy, or standard input.
-fn convert_file(rt: &HostRuntime, file: &str, words: &ArgMatches<'_>) -> Result<u8, ToolFault> {
-    let mut writer = Counted::new(output(rt));
-    let asked = asked_of(words);
+fn run_convert_command(
+    rt: &HostRuntime,
+    file: &str,
+    words: &ArgMatches<'_>,
+) -> Result<u8, ToolFault> {
+    let mut writer = Counted::new(open_standard_output(rt));
+    let asked = convert_words_of_matches(words);
     let root = file.as_bytes();
     run_convert(
         rt.alloc(),
-        &mut disk(rt, words, file)?,
+        &mut open_disk_files(rt, words, file)?,
         root,
         &asked,
         &mut writer,
@@ -316,8 +340,12 @@ fn convert_file(rt: &HostRuntime, file: &str, words: &ArgMatches<'_>) -> Result<
 }
 
 /// Checks a policy, or standard input.
-fn check_file(rt: &HostRuntime, file: &str, words: &ArgMatches<'_>) -> Result<u8, ToolFault> {
-    let mut writer = Counted::new(output(rt));
+fn run_check_command(
+    rt: &HostRuntime,
+    file: &str,
+    words: &ArgMatches<'_>,
+) -> Result<u8, ToolFault> {
+    let mut writer = Counted::new(open_standard_output(rt));
     let root = file.as_bytes();
     let asked = CheckWords {
         quiet: words.get_flag("quiet"),
@@ -326,7 +354,7 @@ fn check_file(rt: &HostRuntime, file: &str, words: &ArgMatches<'_>) -> Result<u8
     };
     run_check(
         rt.alloc(),
-        &mut disk(rt, words, file)?,
+        &mut open_disk_files(rt, words, file)?,
         root,
         &asked,
         &mut writer,
@@ -334,9 +362,9 @@ fn check_file(rt: &HostRuntime, file: &str, words: &ArgMatches<'_>) -> Result<u8
 }
 
 /// Prints an error, and returns exit status 1. Prints nothing if memory runs out.
-fn report_fault(rt: &HostRuntime, trouble: &Trouble) -> ExitCode {
+fn report_fault(rt: &HostRuntime, trouble: &FileTrouble) -> ExitCode {
     if let Ok(text) = trouble.text(rt.alloc()) {
-        let _ = print_line(rt, &[text.as_slice()]);
+        let _ = print_error_line(rt, &[text.as_slice()]);
     }
     ExitCode::from(1)
 }

@@ -7,26 +7,26 @@ use std::io::{IsTerminal, Stderr, Stdout, Write};
 /// A writer that shows a terminal no control bytes: those below 32 but LF and tab, and 127, are spelled `\xHH`. A file and a pipe get the
 /// bytes as they are.
 #[derive(Drop)]
-pub struct Shown<W> {
+pub struct TerminalSafeWriter<W> {
     writer: W,
     is_terminal: bool,
 }
 
 /// Returns the standard output.
-pub fn output(rt: &HostRuntime) -> Shown<Stdout> {
+pub fn open_standard_output(rt: &HostRuntime) -> TerminalSafeWriter<Stdout> {
     let writer = rt.stdout();
     let is_terminal = writer.is_terminal();
-    Shown {
+    TerminalSafeWriter {
         writer,
         is_terminal,
     }
 }
 
 /// Returns the standard error.
-pub fn errors(rt: &HostRuntime) -> Shown<Stderr> {
+pub fn open_standard_error(rt: &HostRuntime) -> TerminalSafeWriter<Stderr> {
     let writer = rt.stderr();
     let is_terminal = writer.is_terminal();
-    Shown {
+    TerminalSafeWriter {
         writer,
         is_terminal,
     }
@@ -37,20 +37,20 @@ pub fn errors(rt: &HostRuntime) -> Shown<Stderr> {
 /// # Errors
 ///
 /// Memory ran out.
-pub fn print_line(rt: &HostRuntime, parts: &[&[u8]]) -> Result<(), AllocError> {
+pub fn print_error_line(rt: &HostRuntime, parts: &[&[u8]]) -> Result<(), AllocError> {
     let mut message = Vec::from_slice(rt.alloc(), b"sudoers_tool: ")?;
     for part in parts {
         message.extend_from_slice(part)?;
     }
     message.push(b'\n')?;
-    let _ = errors(rt).write_all(message.as_slice());
+    let _ = open_standard_error(rt).write_all(message.as_slice());
     Ok(())
 }
 
-impl<W: Write> Write for Shown<W> {
+impl<W: Write> Write for TerminalSafeWriter<W> {
     fn write(&mut self, buf: &[u8]) -> io::Result<usize> {
         let size = if self.is_terminal {
-            plain_len(buf)
+            printable_prefix_len(buf)
         } else {
             buf.len()
         };
@@ -59,7 +59,7 @@ impl<W: Write> Write for Shown<W> {
         }
         match buf.first() {
             Some(byte) => {
-                self.writer.write_all(&spelled(*byte))?;
+                self.writer.write_all(&escape_of_control_byte(*byte))?;
                 Ok(1)
             }
             None => self.writer.write(buf),
@@ -72,25 +72,30 @@ impl<W: Write> Write for Shown<W> {
 }
 
 /// Returns whether `byte` is a control byte that is spelled.
-fn is_spelled(byte: u8) -> bool {
+fn is_control_byte_spelled(byte: u8) -> bool {
     (byte < 32 && byte != b'\n' && byte != b'\t') || byte == 127
 }
 
 /// Returns how many bytes stand in `bytes` before the first that is spelled.
-fn plain_len(bytes: &[u8]) -> usize {
-    match bytes.iter().position(|byte| is_spelled(*byte)) {
+fn printable_prefix_len(bytes: &[u8]) -> usize {
+    match bytes.iter().position(|byte| is_control_byte_spelled(*byte)) {
         Some(at) => at,
         None => bytes.len(),
     }
 }
 
 /// Returns the spelling of `byte`.
-fn spelled(byte: u8) -> [u8; 4] {
-    [b'\\', b'x', hex_digit(byte / 16), hex_digit(byte % 16)]
+fn escape_of_control_byte(byte: u8) -> [u8; 4] {
+    [
+        b'\\',
+        b'x',
+        hex_digit_of_nibble(byte / 16),
+        hex_digit_of_nibble(byte % 16),
+    ]
 }
 
 /// Returns the hexadecimal digit `value`, which is below 16.
-fn hex_digit(value: u8) -> u8 {
+fn hex_digit_of_nibble(value: u8) -> u8 {
     if value < 10 {
         b'0' + value % 10
     } else {

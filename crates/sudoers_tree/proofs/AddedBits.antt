@@ -1,88 +1,85 @@
 -- The bits of names one after another, and of the names of aliases in a line.
-use Rattle.std.proofs.Common.{◌≡◌, ◌<◌, ◌+◌, ℕ, length, drop, get_or, drop-cons, add-one, suc, List, [], ◌∷◌, ◌++◌, Option, None, Some, map, refl, ap, ap₂, sym, ◌∙◌}
+use Rattle.sudoers_tree.proofs.Common.{AliasMember, CmdSpec, Cmnd, Def, Host, HostGroup, Kind, List, ListedMember, Member, None, Option, Runas, RunasSpec, Scope, Some, User, [], add-one, alias_member_of_atom}
+use Rattle.sudoers_tree.proofs.Common.{alias_names_in_atom, alias_names_in_command, alias_names_in_host_group, alias_names_in_members, alias_names_in_runas, alias_names_in_scope, aliases_among_listed, ap, ap₂}
+use Rattle.sudoers_tree.proofs.Common.{bits_of_name, bits_with_names_added, drop, drop-cons, get_or, length, listed_members_of_command, listed_members_of_host_group, listed_members_of_runas, listed_members_of_scope}
+use Rattle.sudoers_tree.proofs.Common.{map, map-append, members_listed_as_kind, refl, suc, sym, ℕ, ◌++◌, ◌+◌, ◌<◌, ◌∙◌, ◌∷◌, ◌≡◌}
 use Rattle.std.proofs.lemmas.Grind.{flat_map-append}
-use Rattle.std.proofs.lemmas.List.{append-nil, map-append}
+use Rattle.std.proofs.lemmas.List.{append-nil}
 use Rattle.std.specs.Int.Bits.{bit_or}
 use Rattle.std.specs.List.{flat_map}
-use Rattle.sudoers_line.specs.declared.node.Atom.{Atom}
-use Rattle.sudoers_line.specs.declared.node.Atom.TheVariants as atom
-use Rattle.sudoers_line.specs.declared.node.Kind.{Kind}
-use Rattle.sudoers_line.specs.declared.node.Kind.TheVariants.{User, Runas, Host, Cmnd}
-use Rattle.sudoers_line.specs.Listed.{AliasMember, Listed, alias_of, aliases_among, listed_as, listed_command, listed_group, listed_runas, listed_scope}
-use Rattle.sudoers_line.specs.Node.{CmdSpec, Def, HostGroup, Member, RunasSpec, Scope}
-use Rattle.sudoers_tree.specs.NameBits.{bits_of}
-use Rattle.sudoers_tree.specs.internal.LineBits.{atom_names, command_names, group_names, with_bits, names_of, runas_names, scope_names}
+use Rattle.sudoers_grammar.specs.declared.node.Atom.{Atom}
+use Rattle.sudoers_grammar.specs.declared.node.Atom.TheVariants as atom
 
-pub with_bits_append : (bits : ℕ) (xs ys : List (List ℕ)) → with_bits bits (xs ++ ys) ≡ with_bits (with_bits bits xs) ys
-with_bits_append bits [] ys = refl
-with_bits_append bits (x ∷ xs) ys = with_bits_append (bit_or bits (bits_of x)) xs ys
+pub bits_of_appended_names_are_added_in_turn : (bits : ℕ) (xs ys : List (List ℕ)) → bits_with_names_added bits (xs ++ ys) ≡ bits_with_names_added (bits_with_names_added bits xs) ys
+bits_of_appended_names_are_added_in_turn bits [] ys = refl
+bits_of_appended_names_are_added_in_turn bits (x ∷ xs) ys = bits_of_appended_names_are_added_in_turn (bit_or bits (bits_of_name x)) xs ys
 
 -- A loop over rows, which adds the bits of the names of one row.
-pub row_with_bits : {Row X : Type 0} (f : X → List (List ℕ)) (view : Row → X) (rows : List Row) (i : ℕ) (d : Row) (x : X) (before after start : ℕ)
-    → i < length rows → x ≡ view (get_or rows i d) → after ≡ with_bits before (f x)
-    → with_bits before (flat_map f (map view (drop i rows))) ≡ start → with_bits after (flat_map f (map view (drop (i + 1) rows))) ≡ start
-row_with_bits {Row = Row} {X = X} f view rows i d x before after start within is adds so_far =
+pub bits_go_on_after_row : {Row X : Type 0} (f : X → List (List ℕ)) (view : Row → X) (rows : List Row) (i : ℕ) (d : Row) (x : X) (before after start : ℕ)
+    → i < length rows → x ≡ view (get_or rows i d) → after ≡ bits_with_names_added before (f x)
+    → bits_with_names_added before (flat_map f (map view (drop i rows))) ≡ start → bits_with_names_added after (flat_map f (map view (drop (i + 1) rows))) ≡ start
+bits_go_on_after_row {Row = Row} {X = X} f view rows i d x before after start within is adds so_far =
     let rest : List (List ℕ) = flat_map f (map view (drop (suc i) rows)) in
     rw add-one
-    (ap (λ (m : ℕ). with_bits m rest) (adds ∙ ap (λ (y : X). with_bits before (f y)) is)
-    ∙ sym (with_bits_append before (f (view (get_or rows i d))) rest)
-    ∙ sym (ap (λ (ls : List Row). with_bits before (flat_map f (map view ls))) (drop-cons rows i d within))
+    (ap (λ (m : ℕ). bits_with_names_added m rest) (adds ∙ ap (λ (y : X). bits_with_names_added before (f y)) is)
+    ∙ sym (bits_of_appended_names_are_added_in_turn before (f (view (get_or rows i d))) rest)
+    ∙ sym (ap (λ (ls : List Row). bits_with_names_added before (flat_map f (map view ls))) (drop-cons rows i d within))
     ∙ so_far)
 
 -- ---- the names of the aliases among members of lists
 
-abbrev pub alias_names : List Listed → List (List ℕ)
-alias_names ls = map (λ (a : AliasMember). a.name) (aliases_among ls)
+abbrev pub alias_names_among_listed_members : List ListedMember → List (List ℕ)
+alias_names_among_listed_members ls = map (λ (a : AliasMember). a.name) (aliases_among_listed ls)
 
-both : (xs ys : List Listed) {ms ns : List (List ℕ)} → alias_names xs ≡ ms → alias_names ys ≡ ns → alias_names (xs ++ ys) ≡ ms ++ ns
-both xs ys a b =
-    ap (map (λ (a : AliasMember). a.name)) (flat_map-append (λ (l : Listed). alias_of l.0 l.1 l.1.atom) xs ys)
-    ∙ map-append (λ (a : AliasMember). a.name) (aliases_among xs) (aliases_among ys)
+alias_names_of_appended_members_are_appended : (xs ys : List ListedMember) {ms ns : List (List ℕ)} → alias_names_among_listed_members xs ≡ ms → alias_names_among_listed_members ys ≡ ns → alias_names_among_listed_members (xs ++ ys) ≡ ms ++ ns
+alias_names_of_appended_members_are_appended xs ys a b =
+    ap (map (λ (a : AliasMember). a.name)) (flat_map-append (λ (l : ListedMember). alias_member_of_atom l.0 l.1 l.1.atom) xs ys)
+    ∙ map-append (λ (a : AliasMember). a.name) (aliases_among_listed xs) (aliases_among_listed ys)
     ∙ ap₂ (λ (x y : List (List ℕ)). x ++ y) a b
 
-each : {X : Type 0} (f : X → List Listed) (g : X → List (List ℕ)) → ((x : X) → alias_names (f x) ≡ g x) → (xs : List X)
-    → alias_names (flat_map f xs) ≡ flat_map g xs
-each f g one [] = refl
-each f g one (x ∷ xs) = both (f x) (flat_map f xs) (one x) (each f g one xs)
+alias_names_of_flat_map_are_flat_map : {X : Type 0} (f : X → List ListedMember) (g : X → List (List ℕ)) → ((x : X) → alias_names_among_listed_members (f x) ≡ g x) → (xs : List X)
+    → alias_names_among_listed_members (flat_map f xs) ≡ flat_map g xs
+alias_names_of_flat_map_are_flat_map f g one [] = refl
+alias_names_of_flat_map_are_flat_map f g one (x ∷ xs) = alias_names_of_appended_members_are_appended (f x) (flat_map f xs) (one x) (alias_names_of_flat_map_are_flat_map f g one xs)
 
-of_one : (k : Kind) (m : Member) (a : Atom) → map (λ (a : AliasMember). a.name) (alias_of k m a) ≡ atom_names a
-of_one k m (atom.Alias name) = refl
-of_one k m a = refl
+alias_name_of_member_is_that_of_atom : (k : Kind) (m : Member) (a : Atom) → map (λ (a : AliasMember). a.name) (alias_member_of_atom k m a) ≡ alias_names_in_atom a
+alias_name_of_member_is_that_of_atom k m (atom.Alias name) = refl
+alias_name_of_member_is_that_of_atom k m a = refl
 
-one_more : (k : Kind) (m : Member) (ls : List Listed) {ns : List (List ℕ)} → alias_names ls ≡ ns → alias_names ((k, m) ∷ ls) ≡ atom_names m.atom ++ ns
-one_more k m ls is =
-    map-append (λ (a : AliasMember). a.name) (alias_of k m m.atom) (aliases_among ls)
-    ∙ ap₂ (λ (x y : List (List ℕ)). x ++ y) (of_one k m m.atom) is
+alias_names_of_first_member_and_rest : (k : Kind) (m : Member) (ls : List ListedMember) {ns : List (List ℕ)} → alias_names_among_listed_members ls ≡ ns → alias_names_among_listed_members ((k, m) ∷ ls) ≡ alias_names_in_atom m.atom ++ ns
+alias_names_of_first_member_and_rest k m ls is =
+    map-append (λ (a : AliasMember). a.name) (alias_member_of_atom k m m.atom) (aliases_among_listed ls)
+    ∙ ap₂ (λ (x y : List (List ℕ)). x ++ y) (alias_name_of_member_is_that_of_atom k m m.atom) is
 
-of_list : (k : Kind) (ms : List Member) → alias_names (listed_as k ms) ≡ names_of ms
-of_list k [] = refl
-of_list k (m ∷ ms) = one_more k m (listed_as k ms) (of_list k ms)
+alias_names_of_members_listed_as_kind : (k : Kind) (ms : List Member) → alias_names_among_listed_members (members_listed_as_kind k ms) ≡ alias_names_in_members ms
+alias_names_of_members_listed_as_kind k [] = refl
+alias_names_of_members_listed_as_kind k (m ∷ ms) = alias_names_of_first_member_and_rest k m (members_listed_as_kind k ms) (alias_names_of_members_listed_as_kind k ms)
 
-of_member : (k : Kind) (m : Member) → alias_names ((k, m) ∷ []) ≡ atom_names m.atom
-of_member k m = one_more k m [] refl ∙ append-nil (atom_names m.atom)
+alias_names_of_single_member : (k : Kind) (m : Member) → alias_names_among_listed_members ((k, m) ∷ []) ≡ alias_names_in_atom m.atom
+alias_names_of_single_member k m = alias_names_of_first_member_and_rest k m [] refl ∙ append-nil (alias_names_in_atom m.atom)
 
-of_runas : (r : Option RunasSpec) → alias_names (listed_runas r) ≡ runas_names r
-of_runas None = refl
-of_runas (Some r) = both (listed_as Runas r.users) (listed_as Runas r.groups) (of_list Runas r.users) (of_list Runas r.groups)
+alias_names_of_runas_members : (r : Option RunasSpec) → alias_names_among_listed_members (listed_members_of_runas r) ≡ alias_names_in_runas r
+alias_names_of_runas_members None = refl
+alias_names_of_runas_members (Some r) = alias_names_of_appended_members_are_appended (members_listed_as_kind Runas r.users) (members_listed_as_kind Runas r.groups) (alias_names_of_members_listed_as_kind Runas r.users) (alias_names_of_members_listed_as_kind Runas r.groups)
 
-of_command : (c : CmdSpec) → alias_names (listed_command c) ≡ command_names c
-of_command c = both (listed_runas c.runas) ((Cmnd, c.member) ∷ []) (of_runas c.runas) (of_member Cmnd c.member)
+alias_names_of_command_members : (c : CmdSpec) → alias_names_among_listed_members (listed_members_of_command c) ≡ alias_names_in_command c
+alias_names_of_command_members c = alias_names_of_appended_members_are_appended (listed_members_of_runas c.runas) ((Cmnd, c.member) ∷ []) (alias_names_of_runas_members c.runas) (alias_names_of_single_member Cmnd c.member)
 
-of_group : (g : HostGroup) → alias_names (listed_group g) ≡ group_names g
-of_group g =
-    both (listed_as Host g.hosts) (flat_map listed_command g.commands) (of_list Host g.hosts) (each listed_command command_names of_command g.commands)
+alias_names_of_host_group_members : (g : HostGroup) → alias_names_among_listed_members (listed_members_of_host_group g) ≡ alias_names_in_host_group g
+alias_names_of_host_group_members g =
+    alias_names_of_appended_members_are_appended (members_listed_as_kind Host g.hosts) (flat_map listed_members_of_command g.commands) (alias_names_of_members_listed_as_kind Host g.hosts) (alias_names_of_flat_map_are_flat_map listed_members_of_command alias_names_in_command alias_names_of_command_members g.commands)
 
 -- ---- those of a line, by what it says
 
-pub names_of_scope : (s : Option Scope) → alias_names (listed_scope s) ≡ scope_names s
-names_of_scope None = refl
-names_of_scope (Some s) = of_list s.kind s.members
+pub alias_names_of_scope_members : (s : Option Scope) → alias_names_among_listed_members (listed_members_of_scope s) ≡ alias_names_in_scope s
+alias_names_of_scope_members None = refl
+alias_names_of_scope_members (Some s) = alias_names_of_members_listed_as_kind s.kind s.members
 
-pub names_of_defs : (k : Kind) (defs : List Def)
-    → alias_names (flat_map (λ (d : Def). listed_as k d.members) defs) ≡ flat_map (λ (d : Def). names_of d.members) defs
-names_of_defs k defs = each (λ (d : Def). listed_as k d.members) (λ (d : Def). names_of d.members) (λ d. of_list k d.members) defs
+pub alias_names_of_definition_members : (k : Kind) (defs : List Def)
+    → alias_names_among_listed_members (flat_map (λ (d : Def). members_listed_as_kind k d.members) defs) ≡ flat_map (λ (d : Def). alias_names_in_members d.members) defs
+alias_names_of_definition_members k defs = alias_names_of_flat_map_are_flat_map (λ (d : Def). members_listed_as_kind k d.members) (λ (d : Def). alias_names_in_members d.members) (λ d. alias_names_of_members_listed_as_kind k d.members) defs
 
-pub names_of_spec : (users : List Member) (groups : List HostGroup)
-    → alias_names (listed_as User users ++ flat_map listed_group groups) ≡ names_of users ++ flat_map group_names groups
-names_of_spec users groups =
-    both (listed_as User users) (flat_map listed_group groups) (of_list User users) (each listed_group group_names of_group groups)
+pub alias_names_of_user_spec_members : (users : List Member) (groups : List HostGroup)
+    → alias_names_among_listed_members (members_listed_as_kind User users ++ flat_map listed_members_of_host_group groups) ≡ alias_names_in_members users ++ flat_map alias_names_in_host_group groups
+alias_names_of_user_spec_members users groups =
+    alias_names_of_appended_members_are_appended (members_listed_as_kind User users) (flat_map listed_members_of_host_group groups) (alias_names_of_members_listed_as_kind User users) (alias_names_of_flat_map_are_flat_map listed_members_of_host_group alias_names_in_host_group alias_names_of_host_group_members groups)

@@ -1,45 +1,40 @@
 -- Loading files of which lines are changed.
-use Rattle.std.proofs.Common.{◌≡◌, ◌∙◌, ℕ, ◌+◌, nat_lt, Bool, true, false, if◌then◌else◌, List, [], ◌∷◌, ◌++◌, length, map, suc, Option, Some, None, Ok, Err, refl, ap}
-use Rattle.sudoers_tree.specs.declared.line_change.LineChange.{LineChange}
-use Rattle.sudoers_tree.specs.declared.load.NamedFile.{NamedFile}
-use Rattle.sudoers_tree.specs.declared.load_fault.LoadFault.TheVariants.{TooManyFiles}
-use Rattle.sudoers_tree.specs.ChangedFiles.{files_changed, files_changed_from}
-use Rattle.sudoers_tree.specs.Files.{FileReading}
-use Rattle.sudoers_tree.specs.Load.{Loaded, file_limit, file_of, files_of, first_repeated, is_among, load_of, loaded_over, readings, unless_same}
-use Rattle.sudoers_tree.specs.Walk.{and_then}
-use Rattle.sudoers_tree.proofs.Loads.{loads_as}
+use Rattle.sudoers_tree.proofs.Common.{Bool, Err, LineChange, List, LoadedPolicy, NamedFile, None, Ok, Option, ParsedFile, Some, TooManyFiles, [], ap, changed_files_from_number, false, file_limit}
+use Rattle.sudoers_tree.proofs.Common.{files_after_changes, first_repeated_file_name, if◌then◌else◌, is_name_among, length, load_result_and_then, map, named_file_of_parsed, named_files_of_policy, nat_lt}
+use Rattle.sudoers_tree.proofs.Common.{parsed_files_or_cut_fault, policy_of_parsed_files, policy_or_load_fault, refl, result_unless_repeated_name, suc, true, ℕ, ◌++◌, ◌+◌, ◌∙◌, ◌∷◌, ◌≡◌}
+use Rattle.sudoers_tree.proofs.Loads.{accepted_files_load_by_their_parsed_files}
 
 -- Files that are loaded are not too many, and no two have one name.
-pub record AreFew (files : List NamedFile) : Type 0 where
+pub record AreFewFilesWithDistinctNames (files : List NamedFile) : Type 0 where
   pub few : nat_lt file_limit (length files) ≡ false
-  pub once : first_repeated [] files ≡ None
+  pub once : first_repeated_file_name [] files ≡ None
 
-pub are_few : (files : List NamedFile) (policy : Loaded) → load_of files ≡ Ok policy → AreFew files
-unfolding load_of
-are_few files policy is = by (nat_lt file_limit (length files)) (first_repeated [] files) refl refl is
+pub loaded_files_are_few_with_distinct_names : (files : List NamedFile) (policy : LoadedPolicy) → policy_or_load_fault files ≡ Ok policy → AreFewFilesWithDistinctNames files
+unfolding policy_or_load_fault
+loaded_files_are_few_with_distinct_names files policy is = by (nat_lt file_limit (length files)) (first_repeated_file_name [] files) refl refl is
   where
-    by : (t : Bool) (o : Option (List ℕ)) → nat_lt file_limit (length files) ≡ t → first_repeated [] files ≡ o
-        → (if t then Err TooManyFiles else unless_same o (and_then (readings [] files) loaded_over)) ≡ Ok policy → AreFew files
+    by : (t : Bool) (o : Option (List ℕ)) → nat_lt file_limit (length files) ≡ t → first_repeated_file_name [] files ≡ o
+        → (if t then Err TooManyFiles else result_unless_repeated_name o (load_result_and_then (parsed_files_or_cut_fault [] files) policy_of_parsed_files)) ≡ Ok policy → AreFewFilesWithDistinctNames files
     by true o few once e = absurd cc
     by false None few once e = record { few = few; once = once }
     by false (Some name) few once e = absurd cc
 
 -- Changes of lines change no name.
-same_count : (f : ℕ) (changes : List LineChange) (files : List FileReading) → length (files_changed_from f changes files) ≡ length (map file_of files)
-same_count f changes [] = refl
-same_count f changes (file ∷ files) = ap suc (same_count (f + 1) changes files)
+changed_files_keep_file_count : (f : ℕ) (changes : List LineChange) (files : List ParsedFile) → length (changed_files_from_number f changes files) ≡ length (map named_file_of_parsed files)
+changed_files_keep_file_count f changes [] = refl
+changed_files_keep_file_count f changes (file ∷ files) = ap suc (changed_files_keep_file_count (f + 1) changes files)
 
-same_names : (f : ℕ) (changes : List LineChange) (files : List FileReading) (before : List (List ℕ))
-    → first_repeated before (files_changed_from f changes files) ≡ first_repeated before (map file_of files)
-same_names f changes [] before = refl
-same_names f changes (file ∷ files) before =
-    ap (λ rest. if is_among file.name before then Some file.name else rest) (same_names (f + 1) changes files (before ++ file.name ∷ []))
+changed_files_keep_first_repeated_name : (f : ℕ) (changes : List LineChange) (files : List ParsedFile) (before : List (List ℕ))
+    → first_repeated_file_name before (changed_files_from_number f changes files) ≡ first_repeated_file_name before (map named_file_of_parsed files)
+changed_files_keep_first_repeated_name f changes [] before = refl
+changed_files_keep_first_repeated_name f changes (file ∷ files) before =
+    ap (λ rest. if is_name_among file.name before then Some file.name else rest) (changed_files_keep_first_repeated_name (f + 1) changes files (before ++ file.name ∷ []))
 
 -- The changed files of a policy load by what they are as they are read.
-pub changed_loads : (changes : List LineChange) (policy : Loaded) → load_of (files_of policy) ≡ Ok policy
-    → load_of (files_changed changes policy.files) ≡ and_then (readings [] (files_changed changes policy.files)) loaded_over
-changed_loads changes policy is =
-    let are : AreFew (files_of policy) = are_few (files_of policy) policy is in
-    loads_as (files_changed changes policy.files)
-    (ap (nat_lt file_limit) (same_count 0 changes policy.files) ∙ are.few)
-    (same_names 0 changes policy.files [] ∙ are.once)
+pub changed_files_load_by_their_parsed_files : (changes : List LineChange) (policy : LoadedPolicy) → policy_or_load_fault (named_files_of_policy policy) ≡ Ok policy
+    → policy_or_load_fault (files_after_changes changes policy.files) ≡ load_result_and_then (parsed_files_or_cut_fault [] (files_after_changes changes policy.files)) policy_of_parsed_files
+changed_files_load_by_their_parsed_files changes policy is =
+    let are : AreFewFilesWithDistinctNames (named_files_of_policy policy) = loaded_files_are_few_with_distinct_names (named_files_of_policy policy) policy is in
+    accepted_files_load_by_their_parsed_files (files_after_changes changes policy.files)
+    (ap (nat_lt file_limit) (changed_files_keep_file_count 0 changes policy.files) ∙ are.few)
+    (changed_files_keep_first_repeated_name 0 changes policy.files [] ∙ are.once)

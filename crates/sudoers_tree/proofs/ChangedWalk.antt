@@ -1,32 +1,24 @@
 -- The walk of a policy of which lines were changed.
-use Rattle.std.proofs.Common.{◌≡◌, ◌∙◌, ℕ, zero, suc, List, [], ◌∷◌, None, refl}
-use Rattle.std.specs.List.{AllByRecursion}
-use Rattle.sudoers_tree.specs.declared.line_change.LineChange.{LineChange}
-use Rattle.sudoers_tree.specs.Changed.{changed}
-use Rattle.sudoers_tree.specs.ChangedFiles.{changes_of}
-use Rattle.sudoers_tree.specs.Files.{FileReading, fault_of, lines_of}
-use Rattle.sudoers_tree.specs.Line.{Line}
-use Rattle.sudoers_tree.specs.Mapped.{AreMapped, MakeMapped, Mapping, file_names, mapped_from}
-use Rattle.sudoers_tree.specs.Policy.{SaysSo, texts}
-use Rattle.sudoers_tree.specs.Walk.{Walked}
-use Rattle.sudoers_tree.proofs.ParsedFiles.{Parses}
+use Rattle.sudoers_tree.proofs.Common.{AllByRecursion, AreFilesMapped, IsCorrectlyParsed, Line, LineChange, LineMapping, List, MakeMappedLines, None, ParsedFile, WalkState, [], changes_of_file}
+use Rattle.sudoers_tree.proofs.Common.{fault_of_numbered_file, file_names, lines_after_changes, lines_of_numbered_file, mapped_lines_from_number, refl, suc, texts_of_lines, zero, ℕ, ◌∙◌, ◌∷◌, ◌≡◌}
+use Rattle.sudoers_tree.proofs.ParsedFiles.{IsParsedWithoutFault}
 
 -- lines that have the same texts are the same
-abbrev pub TextsTell : Type 0
-TextsTell = (lines others : List Line) → AllByRecursion SaysSo lines → AllByRecursion SaysSo others → texts lines ≡ texts others → lines ≡ others
+abbrev pub EqualTextsImplyEqualLines : Type 0
+EqualTextsImplyEqualLines = (lines others : List Line) → AllByRecursion IsCorrectlyParsed lines → AllByRecursion IsCorrectlyParsed others → texts_of_lines lines ≡ texts_of_lines others → lines ≡ others
 
-no_fault : (files : List FileReading) → AllByRecursion Parses files → (f : ℕ) → fault_of files f ≡ None
-no_fault [] parse f = refl
-no_fault (file ∷ files) parse zero = parse.0
-no_fault (file ∷ files) parse (suc f) = no_fault files parse.1 f
+parsed_files_have_no_numbered_fault : (files : List ParsedFile) → AllByRecursion IsParsedWithoutFault files → (f : ℕ) → fault_of_numbered_file files f ≡ None
+parsed_files_have_no_numbered_fault [] parse f = refl
+parsed_files_have_no_numbered_fault (file ∷ files) parse zero = parse.0
+parsed_files_have_no_numbered_fault (file ∷ files) parse (suc f) = parsed_files_have_no_numbered_fault files parse.1 f
 
 -- The changed files are the files with lines changed, if the changes make the lines that come of theirs.
-pub are_mapped : TextsTell → (g : Mapping) (changes : List LineChange) (old new : List FileReading) (w : Walked) → file_names new ≡ file_names old
-    → ((f : ℕ) → texts (lines_of new f) ≡ changed (changes_of f changes) (texts (lines_of old f)))
-    → ((f : ℕ) → AllByRecursion SaysSo (lines_of new f)) → AllByRecursion Parses new → MakeMapped g changes old w → AreMapped g old new w
-are_mapped tell g changes old new w names after said parse made = record {
+pub changed_files_are_mapped_files : EqualTextsImplyEqualLines → (g : LineMapping) (changes : List LineChange) (old new : List ParsedFile) (w : WalkState) → file_names new ≡ file_names old
+    → ((f : ℕ) → texts_of_lines (lines_of_numbered_file new f) ≡ lines_after_changes (changes_of_file f changes) (texts_of_lines (lines_of_numbered_file old f)))
+    → ((f : ℕ) → AllByRecursion IsCorrectlyParsed (lines_of_numbered_file new f)) → AllByRecursion IsParsedWithoutFault new → MakeMappedLines g changes old w → AreFilesMapped g old new w
+changed_files_are_mapped_files tell g changes old new w names after said parse made = record {
   names = names;
-  lines = λ f on. tell (lines_of new f) (mapped_from g f 0 (lines_of old f)) (said f) (made.says f on) (after f ∙ made.lines f on);
-  parse = λ f on. no_fault new parse f;
+  lines = λ f on. tell (lines_of_numbered_file new f) (mapped_lines_from_number g f 0 (lines_of_numbered_file old f)) (said f) (made.says f on) (after f ∙ made.lines f on);
+  parse = λ f on. parsed_files_have_no_numbered_fault new parse f;
   leads = made.leads;
 }

@@ -1,88 +1,78 @@
 -- What is known of lines, of loaded files and of policies, by what the crates below prove of lines.
-use Rattle.std.proofs.Common.{◌≡◌, ℕ, ◌*◌, ◌≤◌, nat_eq, true, List, [], ◌∷◌, length, Ok, subst}
-use Rattle.std.specs.List.{AllByRecursion, IsDistinct}
-use Rattle.sudoers_text.specs.Cut.{cut_of, StandAlone}
-use Rattle.sudoers_text.specs.Fault.{line_limit, text_limit}
-use Rattle.sudoers_text.specs.Line.{join}
-use Rattle.sudoers_text.specs.Whole.{IsLogicalLine, is_logical_line}
-use Rattle.sudoers_text.proofs.Alone.{cut_has, lines_stand_alone}
-use Rattle.sudoers_text.proofs.Found.{cut_gives_outcome, cut_is}
-use Rattle.sudoers_text.proofs.LastLine.{alone_size}
-use Rattle.sudoers_text.proofs.LogicalLine.{logical_tells}
-use Rattle.sudoers_text.proofs.TokenLists.{tokens_are}
+use Rattle.sudoers_tree.proofs.Common.{AllByRecursion, AreLinesAtSpots, AreSoundWalkedFiles, AreValidWalkLines, AreWithinLineLimit, EachIsOneLineWhenCut, IsDistinct, IsLogicalLine, List, LoadedPolicy, NamedFile, Ok}
+use Rattle.sudoers_tree.proofs.Common.{WalkedFiles, [], cut_outcome_of_text, file_limit, is_logical_line, join, length, line_limit, lines_of_numbered_file, named_files_of_policy, nat_eq, policy_of_walked_files}
+use Rattle.sudoers_tree.proofs.Common.{policy_or_load_fault, subst, text_limit, texts_of_lines, true, ℕ, ◌*◌, ◌∷◌, ◌≡◌, ◌≤◌}
+use Rattle.sudoers_text.proofs.Alone.{text_cut_into_lines_has_faultless_cut, lines_of_cut_text_are_cut_alone}
+use Rattle.sudoers_text.proofs.Found.{outcome_of_cut_is_computed_outcome, computed_outcome_is_outcome_of_cut}
+use Rattle.sudoers_text.proofs.LastLine.{line_cut_to_itself_is_within_limit}
+use Rattle.sudoers_text.proofs.LogicalLine.{logical_line_test_decides_logical_line}
+use Rattle.sudoers_text.proofs.TokenLists.{computed_tokens_are_tokens_of_line}
 use Rattle.sudoers_text.proofs.WholeAlone as whole_alone
 use Rattle.sudoers_line_reader.proofs.Contract as contract
-use Rattle.sudoers_tree.specs.declared.load.NamedFile.{NamedFile}
-use Rattle.sudoers_tree.specs.declared.walked.WalkedFiles.{WalkedFiles}
-use Rattle.sudoers_tree.specs.Files.{lines_of}
-use Rattle.sudoers_tree.specs.Load.{Loaded, StandAt, file_limit, files_of, load_of}
-use Rattle.sudoers_tree.specs.Policy.{IsWalk, texts}
-use Rattle.sudoers_tree.specs.internal.Loading.{AreWalked, loaded_in}
-use Rattle.sudoers_tree.specs.internal.Pieces.{AreShort}
-use Rattle.sudoers_tree.proofs.FileRows.{AreCut, are_cut, file_fits}
-use Rattle.sudoers_tree.proofs.KeptFiles.{loaded_kept}
-use Rattle.sudoers_tree.proofs.Outcomes.{LinesAre}
-use Rattle.sudoers_tree.proofs.ReadPieces.{stand_alone}
-use Rattle.sudoers_tree.proofs.ReadsLines.{reads_as}
-use Rattle.sudoers_tree.proofs.WalkSize.{loaded_within}
-use Rattle.sudoers_tree.proofs.WalkSound.{loaded_is_walk, loaded_sound}
+use Rattle.sudoers_tree.proofs.FileRows.{AreLogicalLinesWithinLimits, lines_of_cut_text_are_within_limits, lines_of_numbered_file_fit_text_limit}
+use Rattle.sudoers_tree.proofs.KeptFiles.{loaded_policy_keeps_its_named_files}
+use Rattle.sudoers_tree.proofs.Outcomes.{ComputedLineOutcomesAreLineOutcomes}
+use Rattle.sudoers_tree.proofs.ReadPieces.{short_logical_lines_are_cut_as_themselves}
+use Rattle.sudoers_tree.proofs.ReadsLines.{computed_lines_are_parsed_until_fault}
+use Rattle.sudoers_tree.proofs.WalkSize.{loaded_walk_is_distinct_and_within_size}
+use Rattle.sudoers_tree.proofs.WalkSound.{loaded_walk_has_valid_lines, loaded_walk_is_valid}
 
 -- LINES
 
 -- What a line says, or its first fault, is what is computed.
-pub outcome_is : LinesAre
-outcome_is = contract.outcome_is tokens_are
+pub computed_line_outcome_is_line_outcome : ComputedLineOutcomesAreLineOutcomes
+computed_line_outcome_is_line_outcome = contract.computed_outcome_is_outcome_of_line computed_tokens_are_tokens_of_line
 
 -- What is computed tells whether a text is one logical line.
-pub is_told : (line : List ℕ) → is_logical_line line ≡ true → IsLogicalLine line
-is_told line = (logical_tells line).0
+pub computed_logical_line_is_logical_line : (line : List ℕ) → is_logical_line line ≡ true → IsLogicalLine line
+computed_logical_line_is_logical_line line = (logical_line_test_decides_logical_line line).0
 
-pub is_known : (line : List ℕ) → IsLogicalLine line → is_logical_line line ≡ true
-is_known line = (logical_tells line).1
+pub logical_line_is_computed_logical_line : (line : List ℕ) → IsLogicalLine line → is_logical_line line ≡ true
+logical_line_is_computed_logical_line line = (logical_line_test_decides_logical_line line).1
 
 -- A line is the one line of a text exactly where it is one logical line, and within the limit.
-pub alone_is_line : (line : List ℕ) → cut_of line ≡ Ok (line ∷ []) → is_logical_line line ≡ true
-alone_is_line line is = is_known line (whole_alone.whole line (cut_has line (line ∷ []) is))
+pub line_cut_as_itself_is_logical_line : (line : List ℕ) → cut_outcome_of_text line ≡ Ok (line ∷ []) → is_logical_line line ≡ true
+line_cut_as_itself_is_logical_line line is = logical_line_is_computed_logical_line line (whole_alone.faultless_cut_into_itself_is_logical_line line (text_cut_into_lines_has_faultless_cut line (line ∷ []) is))
 
-pub line_is_alone : (line : List ℕ) → is_logical_line line ≡ true → length line ≤ line_limit → cut_of line ≡ Ok (line ∷ [])
-line_is_alone line is fits = cut_gives_outcome line (Ok (line ∷ [])) (whole_alone.alone line (is_told line is) fits)
+pub logical_line_within_limit_is_cut_as_itself : (line : List ℕ) → is_logical_line line ≡ true → length line ≤ line_limit → cut_outcome_of_text line ≡ Ok (line ∷ [])
+logical_line_within_limit_is_cut_as_itself line is fits = outcome_of_cut_is_computed_outcome line (Ok (line ∷ [])) (whole_alone.short_logical_line_has_faultless_cut line (computed_logical_line_is_logical_line line is) fits)
 
 -- Logical lines within the limit stand alone.
-pub whole_stand : (lines : List (List ℕ)) → AllByRecursion IsLogicalLine lines → AreShort lines → StandAlone lines
-whole_stand = stand_alone is_known line_is_alone
+pub logical_lines_are_each_cut_as_themselves : (lines : List (List ℕ)) → AllByRecursion IsLogicalLine lines → AreWithinLineLimit lines → EachIsOneLineWhenCut lines
+logical_lines_are_each_cut_as_themselves = short_logical_lines_are_cut_as_themselves logical_line_is_computed_logical_line logical_line_within_limit_is_cut_as_itself
 
 -- The lines of a text are cut from it.
-pub lines_are_cut : (text : List ℕ) (lines : List (List ℕ)) → cut_of text ≡ Ok lines → AreCut lines
-lines_are_cut text lines is = are_cut alone_is_line is_told alone_size text lines (lines_stand_alone text lines is)
+pub lines_cut_from_text_are_within_limits : (text : List ℕ) (lines : List (List ℕ)) → cut_outcome_of_text text ≡ Ok lines → AreLogicalLinesWithinLimits lines
+lines_cut_from_text_are_within_limits text lines is = lines_of_cut_text_are_within_limits line_cut_as_itself_is_logical_line computed_logical_line_is_logical_line line_cut_to_itself_is_within_limit text lines (lines_of_cut_text_are_cut_alone text lines is)
 
 -- LOADED FILES
 
 -- They keep their names and their bytes.
-pub bytes_kept : (files : List NamedFile) (policy : Loaded) → load_of files ≡ Ok policy → files_of policy ≡ files
-bytes_kept = loaded_kept cut_is (reads_as outcome_is)
+pub loaded_policy_keeps_names_and_bytes : (files : List NamedFile) (policy : LoadedPolicy) → policy_or_load_fault files ≡ Ok policy → named_files_of_policy policy ≡ files
+loaded_policy_keeps_names_and_bytes = loaded_policy_keeps_its_named_files computed_outcome_is_outcome_of_cut (computed_lines_are_parsed_until_fault computed_line_outcome_is_line_outcome)
 
 -- The lines of their walk are a walk.
-pub is_walk : (files : List NamedFile) (policy : Loaded) → load_of files ≡ Ok policy → IsWalk policy.walk.lines
-is_walk = loaded_is_walk outcome_is
+pub loaded_walk_lines_are_valid : (files : List NamedFile) (policy : LoadedPolicy) → policy_or_load_fault files ≡ Ok policy → AreValidWalkLines policy.walk.lines
+loaded_walk_lines_are_valid = loaded_walk_has_valid_lines computed_line_outcome_is_line_outcome
 
 -- Each of these lines stands at its spot.
-pub spots_stand : (files : List NamedFile) (policy : Loaded) → load_of files ≡ Ok policy → StandAt policy.files policy.walk.spots policy.walk.lines
-spots_stand files policy is = (loaded_sound outcome_is files policy is).stand
+pub loaded_walk_lines_are_at_their_spots : (files : List NamedFile) (policy : LoadedPolicy) → policy_or_load_fault files ≡ Ok policy → AreLinesAtSpots policy.files policy.walk.spots policy.walk.lines
+loaded_walk_lines_are_at_their_spots files policy is = (loaded_walk_is_valid computed_line_outcome_is_line_outcome files policy is).stand
 
 -- Each file is at most once on the walk, and the lines of the walk are within their limit.
-pub is_within : (files : List NamedFile) (policy : Loaded) → load_of files ≡ Ok policy
-    → IsDistinct nat_eq policy.walk.on × (length (join (texts policy.walk.lines)) ≤ file_limit * text_limit)
-is_within = loaded_within cut_is
+pub loaded_walk_is_distinct_and_within_limit : (files : List NamedFile) (policy : LoadedPolicy) → policy_or_load_fault files ≡ Ok policy
+    → IsDistinct nat_eq policy.walk.on × (length (join (texts_of_lines policy.walk.lines)) ≤ file_limit * text_limit)
+loaded_walk_is_distinct_and_within_limit = loaded_walk_is_distinct_and_within_size computed_outcome_is_outcome_of_cut
 
 -- POLICIES, as their files and their walk are kept
 
 -- A policy is that of its own files.
-pub is_loaded : (w : WalkedFiles) (policy : Loaded) → loaded_in w ≡ policy → load_of (files_of (loaded_in w)) ≡ Ok (loaded_in w)
-    → load_of (files_of policy) ≡ Ok policy
-is_loaded w policy same is = subst (λ (p : Loaded). load_of (files_of p) ≡ Ok p) same is
+pub equal_policy_of_walked_files_is_loaded : (w : WalkedFiles) (policy : LoadedPolicy) → policy_of_walked_files w ≡ policy → policy_or_load_fault (named_files_of_policy (policy_of_walked_files w)) ≡ Ok (policy_of_walked_files w)
+    → policy_or_load_fault (named_files_of_policy policy) ≡ Ok policy
+equal_policy_of_walked_files_is_loaded w policy same is = subst (λ (p : LoadedPolicy). policy_or_load_fault (named_files_of_policy p) ≡ Ok p) same is
 
 -- The lines of each file are within the limit of a text.
-pub files_fit : (w : WalkedFiles) (policy : Loaded) → loaded_in w ≡ policy → AreWalked w
-    → (file : ℕ) → length (join (texts (lines_of policy.files file))) ≤ text_limit
-files_fit w policy same walked file =
-    subst (λ (p : Loaded). length (join (texts (lines_of p.files file))) ≤ text_limit) same (file_fits w.tables w.files.items file walked.files)
+pub lines_of_policy_files_fit_text_limit : (w : WalkedFiles) (policy : LoadedPolicy) → policy_of_walked_files w ≡ policy → AreSoundWalkedFiles w
+    → (file : ℕ) → length (join (texts_of_lines (lines_of_numbered_file policy.files file))) ≤ text_limit
+lines_of_policy_files_fit_text_limit w policy same walked file =
+    subst (λ (p : LoadedPolicy). length (join (texts_of_lines (lines_of_numbered_file p.files file))) ≤ text_limit) same (lines_of_numbered_file_fit_text_limit w.tables w.files.items file walked.files)

@@ -1,3 +1,4 @@
+mod Common
 pub mod Folders
 pub mod Included
 pub mod Numbered

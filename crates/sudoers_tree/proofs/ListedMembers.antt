@@ -1,117 +1,115 @@
 -- The members of the lists of one kind, and the mentions of one name, are picked from the members of all lists.
-use Rattle.std.proofs.Common.{◌≡◌, ℕ, Bool, ◌&&◌, List, [], ◌∷◌, ◌++◌, refl, sym, ap, ap₂, ◌∙◌, bytes_eq, flat_map, if◌then◌else◌, append-nil, arith, Option, Some, None}
+use Rattle.sudoers_tree.proofs.Common.{Bool, CmdSpec, Cmnd, Def, Host, HostGroup, Kind, List, ListedMember, Member, Node, None, Option, Runas, RunasSpec, Some, User, [], alias_member_of_atom, aliases_among_listed}
+use Rattle.sudoers_tree.proofs.Common.{aliases_in_node, ap, append-nil, ap₂, arith, flat_map, if◌then◌else◌, is_equal_kind, listed_members_of_command, listed_members_of_host_group, listed_members_of_kind}
+use Rattle.sudoers_tree.proofs.Common.{listed_members_of_node, listed_members_of_runas, members_in_host_group, members_listed_as_kind, members_of_kind_in_line, members_of_runas, mention_span_of_alias}
+use Rattle.sudoers_tree.proofs.Common.{mention_span_of_member, mention_spans_among_members, mentions_in_line, refl, sym, ℕ, ◌&&◌, ◌++◌, ◌∙◌, ◌∷◌, ◌≡◌}
+use Rattle.std.proofs.Common.{bytes_eq}
 use Rattle.std.proofs.lemmas.List.Concat.{flat_map-append, flat_map_single}
-use Rattle.sudoers_line.specs.declared.node.Kind.{Kind}
-use Rattle.sudoers_line.specs.declared.node.Kind.TheVariants.{User, Runas, Host, Cmnd}
-use Rattle.sudoers_line.specs.declared.node.Atom.{Atom}
-use Rattle.sudoers_line.specs.declared.node.Atom.TheVariants as atom
-use Rattle.sudoers_line.specs.Node.{Member, Def, RunasSpec, CmdSpec, HostGroup, Node}
-use Rattle.sudoers_line.specs.Node as node
-use Rattle.sudoers_line.specs.Listed.{Listed, listed_as, listed_runas, listed_command, listed_group, listed, alias_of, aliases_among, aliases_in}
-use Rattle.sudoers_tree.specs.Definition.{is_kind}
-use Rattle.sudoers_tree.specs.Mention.{of_runas, in_group, members_in, span_of, spans_of, mentions_in, of_kind, place_if}
+use Rattle.sudoers_grammar.specs.declared.node.Atom.{Atom}
+use Rattle.sudoers_grammar.specs.declared.node.Atom.TheVariants as atom
+use Rattle.sudoers_grammar.specs.Node as node
 
 -- ---- lists one after another
 
-of_append : (k : Kind) (xs ys : List Listed) → of_kind k (xs ++ ys) ≡ of_kind k xs ++ of_kind k ys
-of_append k [] ys = refl
-of_append k (x ∷ xs) ys = grind (arith, of_append k xs ys)
+members_of_kind_in_append_are_appended : (k : Kind) (xs ys : List ListedMember) → listed_members_of_kind k (xs ++ ys) ≡ listed_members_of_kind k xs ++ listed_members_of_kind k ys
+members_of_kind_in_append_are_appended k [] ys = refl
+members_of_kind_in_append_are_appended k (x ∷ xs) ys = grind (arith, members_of_kind_in_append_are_appended k xs ys)
 
 -- the members of two parts
-both : (k : Kind) (xs ys : List Listed) {ms ns : List Member} → of_kind k xs ≡ ms → of_kind k ys ≡ ns → of_kind k (xs ++ ys) ≡ ms ++ ns
-both k xs ys a b = of_append k xs ys ∙ ap₂ (λ x y. x ++ y) a b
+members_of_kind_in_two_parts_are_appended : (k : Kind) (xs ys : List ListedMember) {ms ns : List Member} → listed_members_of_kind k xs ≡ ms → listed_members_of_kind k ys ≡ ns → listed_members_of_kind k (xs ++ ys) ≡ ms ++ ns
+members_of_kind_in_two_parts_are_appended k xs ys a b = members_of_kind_in_append_are_appended k xs ys ∙ ap₂ (λ x y. x ++ y) a b
 
 -- the members of many parts
-each : {X : Type 0} (k : Kind) (f : X → List Listed) (g : X → List Member) → ((x : X) → of_kind k (f x) ≡ g x) → (xs : List X)
-    → of_kind k (flat_map f xs) ≡ flat_map g xs
-each k f g one [] = refl
-each k f g one (x ∷ xs) = both k (f x) (flat_map f xs) (one x) (each k f g one xs)
+members_of_kind_in_flat_map_are_flat_map : {X : Type 0} (k : Kind) (f : X → List ListedMember) (g : X → List Member) → ((x : X) → listed_members_of_kind k (f x) ≡ g x) → (xs : List X)
+    → listed_members_of_kind k (flat_map f xs) ≡ flat_map g xs
+members_of_kind_in_flat_map_are_flat_map k f g one [] = refl
+members_of_kind_in_flat_map_are_flat_map k f g one (x ∷ xs) = members_of_kind_in_two_parts_are_appended k (f x) (flat_map f xs) (one x) (members_of_kind_in_flat_map_are_flat_map k f g one xs)
 
 -- parts that hold none
-nothing_flat : {X : Type 0} (xs : List X) → (let none : List Member = [] in flat_map (λ (x : X). none) xs ≡ none)
-nothing_flat [] = refl
-nothing_flat (x ∷ xs) = nothing_flat xs
+flat_map_of_nothing_is_empty : {X : Type 0} (xs : List X) → (let none : List Member = [] in flat_map (λ (x : X). none) xs ≡ none)
+flat_map_of_nothing_is_empty [] = refl
+flat_map_of_nothing_is_empty (x ∷ xs) = flat_map_of_nothing_is_empty xs
 
-neither : {X : Type 0} (b : Bool) → (let none : List X = [] in none ≡ (if b then none else none))
-neither b = grind arith
+conditional_of_empty_lists_is_empty : {X : Type 0} (b : Bool) → (let none : List X = [] in none ≡ (if b then none else none))
+conditional_of_empty_lists_is_empty b = grind arith
 
 -- ---- each list of a line
 
 -- one list of a kind
-of_as : (k j : Kind) (ms : List Member) → of_kind k (listed_as j ms) ≡ (if is_kind k j then ms else [])
-of_as k j [] = neither (is_kind k j)
-of_as k j (m ∷ ms) = grind (arith, of_as k j ms)
+members_listed_as_kind_are_those_of_kind : (k j : Kind) (ms : List Member) → listed_members_of_kind k (members_listed_as_kind j ms) ≡ (if is_equal_kind k j then ms else [])
+members_listed_as_kind_are_those_of_kind k j [] = conditional_of_empty_lists_is_empty (is_equal_kind k j)
+members_listed_as_kind_are_those_of_kind k j (m ∷ ms) = grind (arith, members_listed_as_kind_are_those_of_kind k j ms)
 
 -- what stands in parentheses
-in_parentheses : (k : Kind) (r : Option RunasSpec) → of_kind k (listed_runas r) ≡ (if is_kind k Runas then of_runas r else [])
-in_parentheses k None = neither (is_kind k Runas)
-in_parentheses k (Some r) =
-    both k (listed_as Runas r.users) (listed_as Runas r.groups) (of_as k Runas r.users) (of_as k Runas r.groups) ∙ grind arith
+members_of_kind_in_runas : (k : Kind) (r : Option RunasSpec) → listed_members_of_kind k (listed_members_of_runas r) ≡ (if is_equal_kind k Runas then members_of_runas r else [])
+members_of_kind_in_runas k None = conditional_of_empty_lists_is_empty (is_equal_kind k Runas)
+members_of_kind_in_runas k (Some r) =
+    members_of_kind_in_two_parts_are_appended k (members_listed_as_kind Runas r.users) (members_listed_as_kind Runas r.groups) (members_listed_as_kind_are_those_of_kind k Runas r.users) (members_listed_as_kind_are_those_of_kind k Runas r.groups) ∙ grind arith
 
-abbrev in_command : Kind → CmdSpec → List Member
-in_command User c = []
-in_command Runas c = of_runas c.runas
-in_command Host c = []
-in_command Cmnd c = c.member ∷ []
+abbrev members_of_kind_in_command : Kind → CmdSpec → List Member
+members_of_kind_in_command User c = []
+members_of_kind_in_command Runas c = members_of_runas c.runas
+members_of_kind_in_command Host c = []
+members_of_kind_in_command Cmnd c = c.member ∷ []
 
-of_command : (k : Kind) (c : CmdSpec) → of_kind k (listed_command c) ≡ in_command k c
-of_command Runas c = both Runas (listed_runas c.runas) ((Cmnd, c.member) ∷ []) (in_parentheses Runas c.runas) refl ∙ append-nil (of_runas c.runas)
-of_command k c = both k (listed_runas c.runas) ((Cmnd, c.member) ∷ []) (in_parentheses k c.runas) refl
+listed_members_of_command_are_those_of_kind : (k : Kind) (c : CmdSpec) → listed_members_of_kind k (listed_members_of_command c) ≡ members_of_kind_in_command k c
+listed_members_of_command_are_those_of_kind Runas c = members_of_kind_in_two_parts_are_appended Runas (listed_members_of_runas c.runas) ((Cmnd, c.member) ∷ []) (members_of_kind_in_runas Runas c.runas) refl ∙ append-nil (members_of_runas c.runas)
+listed_members_of_command_are_those_of_kind k c = members_of_kind_in_two_parts_are_appended k (listed_members_of_runas c.runas) ((Cmnd, c.member) ∷ []) (members_of_kind_in_runas k c.runas) refl
 
-group_parts : (k : Kind) (g : HostGroup) → (if is_kind k Host then g.hosts else []) ++ flat_map (in_command k) g.commands ≡ in_group k g
-group_parts User g = nothing_flat g.commands
-group_parts Runas g = refl
-group_parts Host g = ap (λ ms. g.hosts ++ ms) (nothing_flat g.commands) ∙ append-nil g.hosts
-group_parts Cmnd g = flat_map_single (λ (c : CmdSpec). c.member) g.commands
+hosts_and_command_members_are_group_members : (k : Kind) (g : HostGroup) → (if is_equal_kind k Host then g.hosts else []) ++ flat_map (members_of_kind_in_command k) g.commands ≡ members_in_host_group k g
+hosts_and_command_members_are_group_members User g = flat_map_of_nothing_is_empty g.commands
+hosts_and_command_members_are_group_members Runas g = refl
+hosts_and_command_members_are_group_members Host g = ap (λ ms. g.hosts ++ ms) (flat_map_of_nothing_is_empty g.commands) ∙ append-nil g.hosts
+hosts_and_command_members_are_group_members Cmnd g = flat_map_single (λ (c : CmdSpec). c.member) g.commands
 
-of_group : (k : Kind) (g : HostGroup) → of_kind k (listed_group g) ≡ in_group k g
-of_group k g =
-    both k (listed_as Host g.hosts) (flat_map listed_command g.commands) (of_as k Host g.hosts) (each k listed_command (in_command k) (of_command k) g.commands)
-    ∙ group_parts k g
+listed_members_of_group_are_those_of_kind : (k : Kind) (g : HostGroup) → listed_members_of_kind k (listed_members_of_host_group g) ≡ members_in_host_group k g
+listed_members_of_group_are_those_of_kind k g =
+    members_of_kind_in_two_parts_are_appended k (members_listed_as_kind Host g.hosts) (flat_map listed_members_of_command g.commands) (members_listed_as_kind_are_those_of_kind k Host g.hosts) (members_of_kind_in_flat_map_are_flat_map k listed_members_of_command (members_of_kind_in_command k) (listed_members_of_command_are_those_of_kind k) g.commands)
+    ∙ hosts_and_command_members_are_group_members k g
 
-spec_parts : (k : Kind) (users : List Member) (groups : List HostGroup)
-    → (if is_kind k User then users else []) ++ flat_map (in_group k) groups ≡ members_in k (node.Spec users groups)
-spec_parts User users groups = ap (λ ms. users ++ ms) (nothing_flat groups) ∙ append-nil users
-spec_parts k users groups = refl
+users_and_group_members_are_spec_members : (k : Kind) (users : List Member) (groups : List HostGroup)
+    → (if is_equal_kind k User then users else []) ++ flat_map (members_in_host_group k) groups ≡ members_of_kind_in_line k (node.Spec users groups)
+users_and_group_members_are_spec_members User users groups = ap (λ ms. users ++ ms) (flat_map_of_nothing_is_empty groups) ∙ append-nil users
+users_and_group_members_are_spec_members k users groups = refl
 
 -- ---- the members of a line
 
-of_node : (k : Kind) (n : Node) → of_kind k (listed n) ≡ members_in k n
-of_node k (node.Defaults None params) = refl
-of_node k (node.Defaults (Some s) params) = of_as k s.kind s.members
-of_node k (node.Alias j defs) =
-    each k (λ (d : Def). listed_as j d.members) (λ (d : Def). if is_kind k j then d.members else []) (λ d. of_as k j d.members) defs
-    ∙ grind (arith, nothing_flat defs)
-of_node k (node.Spec users groups) =
-    both k (listed_as User users) (flat_map listed_group groups) (of_as k User users) (each k listed_group (in_group k) (of_group k) groups)
-    ∙ spec_parts k users groups
-of_node k n = refl
+listed_members_of_node_are_those_of_kind : (k : Kind) (n : Node) → listed_members_of_kind k (listed_members_of_node n) ≡ members_of_kind_in_line k n
+listed_members_of_node_are_those_of_kind k (node.Defaults None params) = refl
+listed_members_of_node_are_those_of_kind k (node.Defaults (Some s) params) = members_listed_as_kind_are_those_of_kind k s.kind s.members
+listed_members_of_node_are_those_of_kind k (node.Alias j defs) =
+    members_of_kind_in_flat_map_are_flat_map k (λ (d : Def). members_listed_as_kind j d.members) (λ (d : Def). if is_equal_kind k j then d.members else []) (λ d. members_listed_as_kind_are_those_of_kind k j d.members) defs
+    ∙ grind (arith, flat_map_of_nothing_is_empty defs)
+listed_members_of_node_are_those_of_kind k (node.Spec users groups) =
+    members_of_kind_in_two_parts_are_appended k (members_listed_as_kind User users) (flat_map listed_members_of_host_group groups) (members_listed_as_kind_are_those_of_kind k User users) (members_of_kind_in_flat_map_are_flat_map k listed_members_of_host_group (members_in_host_group k) (listed_members_of_group_are_those_of_kind k) groups)
+    ∙ users_and_group_members_are_spec_members k users groups
+listed_members_of_node_are_those_of_kind k n = refl
 
 -- the members of lists of a kind are those that stand in such lists, of all
-pub members_are_listed : (k : Kind) (n : Node) → members_in k n ≡ of_kind k (listed n)
-members_are_listed k n = sym (of_node k n)
+pub members_of_kind_are_listed_members : (k : Kind) (n : Node) → members_of_kind_in_line k n ≡ listed_members_of_kind k (listed_members_of_node n)
+members_of_kind_are_listed_members k n = sym (listed_members_of_node_are_those_of_kind k n)
 
 -- ---- the places of a name
 
-one_test : {X : Type 0} (b c : Bool) (x : X) → (if b && c then x ∷ [] else []) ++ [] ≡ (if b then (if c then x ∷ [] else []) else [])
-one_test b c x = grind arith
+conjunction_test_is_nested_test : {X : Type 0} (b c : Bool) (x : X) → (if b && c then x ∷ [] else []) ++ [] ≡ (if b then (if c then x ∷ [] else []) else [])
+conjunction_test_is_nested_test b c x = grind arith
 
 -- one member
-one_place : (k j : Kind) (name : List ℕ) (line : ℕ) (m : Member) (a : Atom)
-    → flat_map (place_if k name line) (alias_of j m a) ≡ (if is_kind k j then span_of line name m a else [])
-one_place k j name line m (atom.Alias other) = one_test (is_kind k j) (bytes_eq name other) _
-one_place k j name line m a = neither (is_kind k j)
+mention_of_member_is_mention_of_its_alias : (k j : Kind) (name : List ℕ) (line : ℕ) (m : Member) (a : Atom)
+    → flat_map (mention_span_of_alias k name line) (alias_member_of_atom j m a) ≡ (if is_equal_kind k j then mention_span_of_member line name m a else [])
+mention_of_member_is_mention_of_its_alias k j name line m (atom.Alias other) = conjunction_test_is_nested_test (is_equal_kind k j) (bytes_eq name other) _
+mention_of_member_is_mention_of_its_alias k j name line m a = conditional_of_empty_lists_is_empty (is_equal_kind k j)
 
 -- members of lists
-picked : (k : Kind) (name : List ℕ) (line : ℕ) (ls : List Listed) → spans_of line name (of_kind k ls) ≡ flat_map (place_if k name line) (aliases_among ls)
-picked k name line [] = refl
-picked k name line (l ∷ ls) = grind (
+mentions_among_members_are_those_of_aliases : (k : Kind) (name : List ℕ) (line : ℕ) (ls : List ListedMember) → mention_spans_among_members line name (listed_members_of_kind k ls) ≡ flat_map (mention_span_of_alias k name line) (aliases_among_listed ls)
+mentions_among_members_are_those_of_aliases k name line [] = refl
+mentions_among_members_are_those_of_aliases k name line (l ∷ ls) = grind (
   arith,
-  picked k name line ls,
-  one_place k l.0 name line l.1 l.1.atom,
-  flat_map-append (place_if k name line) (alias_of l.0 l.1 l.1.atom) (aliases_among ls),
+  mentions_among_members_are_those_of_aliases k name line ls,
+  mention_of_member_is_mention_of_its_alias k l.0 name line l.1 l.1.atom,
+  flat_map-append (mention_span_of_alias k name line) (alias_member_of_atom l.0 l.1 l.1.atom) (aliases_among_listed ls),
 )
 
 -- the mentions of a name in a line are picked from the aliases in it
-pub mentions_are_picked : (k : Kind) (name : List ℕ) (line : ℕ) (n : Node) → mentions_in k name line n ≡ flat_map (place_if k name line) (aliases_in n)
-mentions_are_picked k name line n = ap (spans_of line name) (members_are_listed k n) ∙ picked k name line (listed n)
+pub mentions_in_line_are_those_of_its_aliases : (k : Kind) (name : List ℕ) (line : ℕ) (n : Node) → mentions_in_line k name line n ≡ flat_map (mention_span_of_alias k name line) (aliases_in_node n)
+mentions_in_line_are_those_of_its_aliases k name line n = ap (mention_spans_among_members line name) (members_of_kind_are_listed_members k n) ∙ mentions_among_members_are_those_of_aliases k name line (listed_members_of_node n)

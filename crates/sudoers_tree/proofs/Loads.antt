@@ -1,68 +1,65 @@
 -- The outcome of loading files.
-use Rattle.std.proofs.Common.{◌≡◌, ◌⊎◌, inl, inr, ℕ, nat_lt, Bool, true, false, if◌then◌else◌, List, [], length, Option, Some, None, Result, Ok, Err, refl, sym, ap, ◌∙◌}
-use Rattle.sudoers_tree.specs.declared.load.NamedFile.{NamedFile}
-use Rattle.sudoers_tree.specs.declared.load_fault.LoadFault.{LoadFault}
-use Rattle.sudoers_tree.specs.declared.load_fault.LoadFault.TheVariants.{NoMemory, SameName, TooManyFiles}
-use Rattle.sudoers_tree.specs.Files.{FileReading, lines_of}
-use Rattle.sudoers_tree.specs.Walk.{Walked, and_then, depth_limit, enter, nothing, visit, walk_lines, walk_of}
-use Rattle.sudoers_tree.specs.Load.{Loaded, file_limit, first_repeated, load_of, loaded_over, readings, unless_off, unless_same, walked_over}
+use Rattle.sudoers_tree.proofs.Common.{Bool, Err, List, LoadFault, LoadedPolicy, NamedFile, NoMemory, None, Ok, Option, ParsedFile, Result, SameName, Some, TooManyFiles, WalkState, [], ap, empty_walk, false}
+use Rattle.sudoers_tree.proofs.Common.{file_limit, first_repeated_file_name, if◌then◌else◌, include_depth_limit, inl, inr, length, lines_of_numbered_file, load_result_and_then, nat_lt, parsed_files_or_cut_fault}
+use Rattle.sudoers_tree.proofs.Common.{policy_of_parsed_files, policy_or_load_fault, refl, result_unless_repeated_name, sym, true, walk_after_file_lines, walk_after_file_visit, walk_or_fault_of_files}
+use Rattle.sudoers_tree.proofs.Common.{walk_or_first_fault, walk_or_unreached_file_fault, walk_with_file_entered, ℕ, ◌∙◌, ◌≡◌, ◌⊎◌}
 
-by_parts : (files : List NamedFile) (t : Bool) (o : Option (List ℕ)) → nat_lt file_limit (length files) ≡ t → first_repeated [] files ≡ o
-    → load_of files ≡ (if t then Err TooManyFiles else unless_same o (and_then (readings [] files) loaded_over))
-unfolding load_of
-by_parts files t o many same =
-    ap (λ b. if b then Err TooManyFiles else unless_same (first_repeated [] files) (and_then (readings [] files) loaded_over)) many
-    ∙ ap (λ n. if t then Err TooManyFiles else unless_same n (and_then (readings [] files) loaded_over)) same
+load_outcome_is_by_count_and_repeated_name : (files : List NamedFile) (t : Bool) (o : Option (List ℕ)) → nat_lt file_limit (length files) ≡ t → first_repeated_file_name [] files ≡ o
+    → policy_or_load_fault files ≡ (if t then Err TooManyFiles else result_unless_repeated_name o (load_result_and_then (parsed_files_or_cut_fault [] files) policy_of_parsed_files))
+unfolding policy_or_load_fault
+load_outcome_is_by_count_and_repeated_name files t o many same =
+    ap (λ b. if b then Err TooManyFiles else result_unless_repeated_name (first_repeated_file_name [] files) (load_result_and_then (parsed_files_or_cut_fault [] files) policy_of_parsed_files)) many
+    ∙ ap (λ n. if t then Err TooManyFiles else result_unless_repeated_name n (load_result_and_then (parsed_files_or_cut_fault [] files) policy_of_parsed_files)) same
 
-pub too_many : (files : List NamedFile) → nat_lt file_limit (length files) ≡ true → load_of files ≡ Err TooManyFiles
-too_many files many = by_parts files true (first_repeated [] files) many refl
+pub too_many_files_are_load_fault : (files : List NamedFile) → nat_lt file_limit (length files) ≡ true → policy_or_load_fault files ≡ Err TooManyFiles
+too_many_files_are_load_fault files many = load_outcome_is_by_count_and_repeated_name files true (first_repeated_file_name [] files) many refl
 
-pub same_name : (files : List NamedFile) (name : List ℕ) → nat_lt file_limit (length files) ≡ false → first_repeated [] files ≡ Some name
-    → load_of files ≡ Err (SameName name)
-same_name files name few same = by_parts files false (Some name) few same
+pub repeated_file_name_is_load_fault : (files : List NamedFile) (name : List ℕ) → nat_lt file_limit (length files) ≡ false → first_repeated_file_name [] files ≡ Some name
+    → policy_or_load_fault files ≡ Err (SameName name)
+repeated_file_name_is_load_fault files name few same = load_outcome_is_by_count_and_repeated_name files false (Some name) few same
 
-pub loads_as : (files : List NamedFile) → nat_lt file_limit (length files) ≡ false → first_repeated [] files ≡ None
-    → load_of files ≡ and_then (readings [] files) loaded_over
-loads_as files few same = by_parts files false None few same
+pub accepted_files_load_by_their_parsed_files : (files : List NamedFile) → nat_lt file_limit (length files) ≡ false → first_repeated_file_name [] files ≡ None
+    → policy_or_load_fault files ≡ load_result_and_then (parsed_files_or_cut_fault [] files) policy_of_parsed_files
+accepted_files_load_by_their_parsed_files files few same = load_outcome_is_by_count_and_repeated_name files false None few same
 
 -- the walk from the first file on
-pub walk_from : (read : List FileReading) (w : Walked) → w ≡ nothing
-    → walk_lines (visit depth_limit read) read 0 0 (lines_of read 0) (enter 0 w) ≡ walk_of read
-unfolding walk_of
-walk_from read w is = ap (λ v. walk_lines (visit depth_limit read) read 0 0 (lines_of read 0) (enter 0 v)) is
+pub walk_from_first_file_is_walk_of_files : (read : List ParsedFile) (w : WalkState) → w ≡ empty_walk
+    → walk_after_file_lines (walk_after_file_visit include_depth_limit read) read 0 0 (lines_of_numbered_file read 0) (walk_with_file_entered 0 w) ≡ walk_or_fault_of_files read
+unfolding walk_or_fault_of_files
+walk_from_first_file_is_walk_of_files read w is = ap (λ v. walk_after_file_lines (walk_after_file_visit include_depth_limit read) read 0 0 (lines_of_numbered_file read 0) (walk_with_file_entered 0 v)) is
 
 -- ---- the fault with which loading ends, or want of memory
 
 -- One of two outcomes: want of memory, or a fault.
-abbrev pub Stops : {A : Type 0} → LoadFault → Result A LoadFault → Type 0
-Stops fault outcome = (fault ≡ NoMemory) ⊎ (outcome ≡ Err fault)
+abbrev pub EndsWithFaultOrNoMemory : {A : Type 0} → LoadFault → Result A LoadFault → Type 0
+EndsWithFaultOrNoMemory fault outcome = (fault ≡ NoMemory) ⊎ (outcome ≡ Err fault)
 
-pub not_read : (files : List NamedFile) (fault : LoadFault) (whole : Result Loaded LoadFault) → whole ≡ and_then (readings [] files) loaded_over
-    → (fault ≡ NoMemory) ⊎ (readings [] files ≡ Err fault) → Stops fault whole
-not_read files fault whole is (inl memory) = inl memory
-not_read files fault whole is (inr e) = inr (is ∙ ap (λ r. and_then r loaded_over) e)
+pub fault_of_parsing_files_ends_load : (files : List NamedFile) (fault : LoadFault) (whole : Result LoadedPolicy LoadFault) → whole ≡ load_result_and_then (parsed_files_or_cut_fault [] files) policy_of_parsed_files
+    → (fault ≡ NoMemory) ⊎ (parsed_files_or_cut_fault [] files ≡ Err fault) → EndsWithFaultOrNoMemory fault whole
+fault_of_parsing_files_ends_load files fault whole is (inl memory) = inl memory
+fault_of_parsing_files_ends_load files fault whole is (inr e) = inr (is ∙ ap (λ r. load_result_and_then r policy_of_parsed_files) e)
 
 -- files that are read
-pub loads_over : (files : List NamedFile) (read : List FileReading) → nat_lt file_limit (length files) ≡ false → first_repeated [] files ≡ None
-    → readings [] files ≡ Ok read → load_of files ≡ loaded_over read
-loads_over files read few once is = loads_as files few once ∙ ap (λ o. and_then o loaded_over) is
+pub parsed_files_give_the_load_outcome : (files : List NamedFile) (read : List ParsedFile) → nat_lt file_limit (length files) ≡ false → first_repeated_file_name [] files ≡ None
+    → parsed_files_or_cut_fault [] files ≡ Ok read → policy_or_load_fault files ≡ policy_of_parsed_files read
+parsed_files_give_the_load_outcome files read few once is = accepted_files_load_by_their_parsed_files files few once ∙ ap (λ o. load_result_and_then o policy_of_parsed_files) is
 
 -- ---- the walk and the files that are not on it
 
-over_by : List FileReading → Result Walked LoadFault → Result Walked LoadFault
-over_by read r = and_then r (λ w. unless_off w 0 read)
+walk_result_with_unreached_files_checked : List ParsedFile → Result WalkState LoadFault → Result WalkState LoadFault
+walk_result_with_unreached_files_checked read r = load_result_and_then r (λ w. walk_or_unreached_file_fault w 0 read)
 
-pub walk_stops : (read : List FileReading) (fault : LoadFault) → Stops fault (walk_of read) → Stops fault (walked_over read)
-unfolding over_by
-walk_stops read fault (inl memory) = inl memory
-walk_stops read fault (inr e) = inr (ap (over_by read) e)
+pub fault_of_walk_ends_checked_walk : (read : List ParsedFile) (fault : LoadFault) → EndsWithFaultOrNoMemory fault (walk_or_fault_of_files read) → EndsWithFaultOrNoMemory fault (walk_or_first_fault read)
+unfolding walk_result_with_unreached_files_checked
+fault_of_walk_ends_checked_walk read fault (inl memory) = inl memory
+fault_of_walk_ends_checked_walk read fault (inr e) = inr (ap (walk_result_with_unreached_files_checked read) e)
 
-pub off_comes : (read other : List FileReading) (w : Walked) (outcome : Result Walked LoadFault) → walk_of read ≡ Ok w → other ≡ read
-    → unless_off w 0 other ≡ outcome → walked_over read ≡ outcome
-unfolding over_by
-off_comes read other w outcome e same off = ap (over_by read) e ∙ ap (unless_off w 0) (sym same) ∙ off
+pub outcome_of_unreached_files_is_outcome : (read other : List ParsedFile) (w : WalkState) (outcome : Result WalkState LoadFault) → walk_or_fault_of_files read ≡ Ok w → other ≡ read
+    → walk_or_unreached_file_fault w 0 other ≡ outcome → walk_or_first_fault read ≡ outcome
+unfolding walk_result_with_unreached_files_checked
+outcome_of_unreached_files_is_outcome read other w outcome e same off = ap (walk_result_with_unreached_files_checked read) e ∙ ap (walk_or_unreached_file_fault w 0) (sym same) ∙ off
 
-pub off_stops : (read other : List FileReading) (w : Walked) (fault : LoadFault) → walk_of read ≡ Ok w → other ≡ read
-    → Stops fault (unless_off w 0 other) → Stops fault (walked_over read)
-off_stops read other w fault e same (inl memory) = inl memory
-off_stops read other w fault e same (inr off) = inr (off_comes read other w (Err fault) e same off)
+pub fault_of_unreached_file_ends_checked_walk : (read other : List ParsedFile) (w : WalkState) (fault : LoadFault) → walk_or_fault_of_files read ≡ Ok w → other ≡ read
+    → EndsWithFaultOrNoMemory fault (walk_or_unreached_file_fault w 0 other) → EndsWithFaultOrNoMemory fault (walk_or_first_fault read)
+fault_of_unreached_file_ends_checked_walk read other w fault e same (inl memory) = inl memory
+fault_of_unreached_file_ends_checked_walk read other w fault e same (inr off) = inr (outcome_of_unreached_files_is_outcome read other w (Err fault) e same off)

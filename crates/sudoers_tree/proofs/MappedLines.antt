@@ -1,55 +1,45 @@
 -- Walks over files of which lines were changed: what a walk appends, and a walk that follows another.
-use Rattle.std.proofs.Common.{◌≡◌, ◌∙◌, ℕ, ◌+◌, nat_eq, Bool, true, false, ◌||◌, List, [], ◌∷◌, ◌++◌, length, Option, Some, None, Result, Ok, Err, refl, sym, ap, ap₂, subst, append_assoc, append-nil, arith}
-use Rattle.std.specs.List.{list_any}
-use Rattle.std.proofs.lemmas.Bool.{eq-eqb}
-use Rattle.std.proofs.lemmas.List.{length-append, length_push}
-use Rattle.std.proofs.lemmas.List.Folds.{list_any-append}
-use Rattle.sudoers_tree.specs.declared.fault.ReadFault.{ReadFault}
-use Rattle.sudoers_tree.specs.declared.load_fault.LoadFault.{LoadFault}
-use Rattle.sudoers_tree.specs.declared.load_fault.LoadFault.TheVariants.{InFile}
-use Rattle.sudoers_tree.specs.declared.place.Spot.{Spot}
-use Rattle.sudoers_tree.specs.Line.{Line}
-use Rattle.sudoers_tree.specs.Definition.{Definition, definitions, definitions_in, definitions_since}
-use Rattle.sudoers_tree.specs.Mapped.{Mapping, mapped_at}
-use Rattle.sudoers_tree.specs.Reading.{first_name_fault, or_later}
-use Rattle.sudoers_tree.specs.Walk.{Walked, and_then, enter, is_on, taken, unless_in}
-use Rattle.sudoers_tree.proofs.Joined.{definitions_append, definitions_push}
-use Rattle.sudoers_tree.proofs.Passed.{line_passed}
-use Rattle.sudoers_tree.proofs.Sound.{first_append}
+use Rattle.sudoers_tree.proofs.Common.{Bool, Err, InFile, Line, LineMapping, List, LoadFault, None, Ok, Option, PlacedDefinition, ReadFault, Result, Some, WalkLineSpot, WalkState, [], ap, append-nil, append_assoc}
+use Rattle.sudoers_tree.proofs.Common.{ap₂, arith, definitions_from_line_number, definitions_in_line, definitions_of_lines, eq-eqb, false, first_definition_fault, first_of_two_faults, is_file_on_walk, length}
+use Rattle.sudoers_tree.proofs.Common.{length-append, length_push, list_any, list_any-append, load_result_and_then, mapped_lines_at_spots, nat_eq, refl, subst, sym, true, value_unless_file_fault}
+use Rattle.sudoers_tree.proofs.Common.{walk_with_file_entered, walk_with_line_appended, ℕ, ◌++◌, ◌+◌, ◌||◌, ◌∙◌, ◌∷◌, ◌≡◌}
+use Rattle.sudoers_tree.proofs.Joined.{definitions_of_appended_lines_are_appended, definitions_with_last_line_are_appended}
+use Rattle.sudoers_tree.proofs.Passed.{faultless_line_keeps_walk_faultless}
+use Rattle.sudoers_tree.proofs.Sound.{first_fault_of_append_is_of_first_or_rest}
 
-abbrev pub Outcome : Type 0
-Outcome = Result Walked LoadFault
+abbrev pub WalkResult : Type 0
+WalkResult = Result WalkState LoadFault
 
 -- The lines that come of lines and of more lines are those that come of each.
-mapped_append : (g : Mapping) (spots more : List Spot) (lines others : List Line) → length spots ≡ length lines
-    → mapped_at g (spots ++ more) (lines ++ others) ≡ mapped_at g spots lines ++ mapped_at g more others
-mapped_append g [] more [] others paired = refl
-mapped_append g [] more (line ∷ lines) others paired = absurd (omega (arith, paired))
-mapped_append g (at ∷ spots) more [] others paired = absurd (omega (arith, paired))
-mapped_append g (at ∷ spots) more (line ∷ lines) others paired =
-    ap (λ ls. g at.file at.line line ++ ls) (mapped_append g spots more lines others (omega (arith, paired)))
-    ∙ sym (append_assoc (g at.file at.line line) (mapped_at g spots lines) (mapped_at g more others))
+mapped_lines_of_appended_lines_are_appended : (g : LineMapping) (spots more : List WalkLineSpot) (lines others : List Line) → length spots ≡ length lines
+    → mapped_lines_at_spots g (spots ++ more) (lines ++ others) ≡ mapped_lines_at_spots g spots lines ++ mapped_lines_at_spots g more others
+mapped_lines_of_appended_lines_are_appended g [] more [] others paired = refl
+mapped_lines_of_appended_lines_are_appended g [] more (line ∷ lines) others paired = absurd (omega (arith, paired))
+mapped_lines_of_appended_lines_are_appended g (at ∷ spots) more [] others paired = absurd (omega (arith, paired))
+mapped_lines_of_appended_lines_are_appended g (at ∷ spots) more (line ∷ lines) others paired =
+    ap (λ ls. g at.file at.line line ++ ls) (mapped_lines_of_appended_lines_are_appended g spots more lines others (omega (arith, paired)))
+    ∙ sym (append_assoc (g at.file at.line line) (mapped_lines_at_spots g spots lines) (mapped_lines_at_spots g more others))
 
-mapped_push : (g : Mapping) (spots : List Spot) (at : Spot) (lines : List Line) (line : Line) → length spots ≡ length lines
-    → mapped_at g (spots ++ at ∷ []) (lines ++ line ∷ []) ≡ mapped_at g spots lines ++ g at.file at.line line
-mapped_push g spots at lines line paired =
-    mapped_append g spots (at ∷ []) lines (line ∷ []) paired
-    ∙ ap (λ ls. mapped_at g spots lines ++ ls) (append-nil (g at.file at.line line))
+mapped_lines_with_last_line_are_appended : (g : LineMapping) (spots : List WalkLineSpot) (at : WalkLineSpot) (lines : List Line) (line : Line) → length spots ≡ length lines
+    → mapped_lines_at_spots g (spots ++ at ∷ []) (lines ++ line ∷ []) ≡ mapped_lines_at_spots g spots lines ++ g at.file at.line line
+mapped_lines_with_last_line_are_appended g spots at lines line paired =
+    mapped_lines_of_appended_lines_are_appended g spots (at ∷ []) lines (line ∷ []) paired
+    ∙ ap (λ ls. mapped_lines_at_spots g spots lines ++ ls) (append-nil (g at.file at.line line))
 
 -- ---- what a walk appends
 
 -- The walk `now` is w with lines, the spot of each, and files appended.
-pub record Extends (w now : Walked) : Type 0 where
+pub record IsExtendedWalk (w now : WalkState) : Type 0 where
   pub lines : List Line
-  pub spots : List Spot
+  pub spots : List WalkLineSpot
   pub on : List ℕ
   pub paired : length spots ≡ length lines
   pub lines_are : w.lines ++ lines ≡ now.lines
   pub spots_are : w.spots ++ spots ≡ now.spots
   pub on_are : w.on ++ on ≡ now.on
 
-pub extends_self : (w : Walked) → Extends w w
-extends_self w = record {
+pub walk_extends_itself : (w : WalkState) → IsExtendedWalk w w
+walk_extends_itself w = record {
   lines = [];
   spots = [];
   on = [];
@@ -59,22 +49,22 @@ extends_self w = record {
   on_are = append-nil w.on;
 }
 
-appended_twice : {A : Type 0} (xs ys zs within now : List A) → xs ++ ys ≡ within → within ++ zs ≡ now → xs ++ (ys ++ zs) ≡ now
-appended_twice xs ys zs within now first later = sym (append_assoc xs ys zs) ∙ ap (λ ws. ws ++ zs) first ∙ later
+appending_twice_is_appending_both : {A : Type 0} (xs ys zs within now : List A) → xs ++ ys ≡ within → within ++ zs ≡ now → xs ++ (ys ++ zs) ≡ now
+appending_twice_is_appending_both xs ys zs within now first later = sym (append_assoc xs ys zs) ∙ ap (λ ws. ws ++ zs) first ∙ later
 
-pub extends_both : (w within now : Walked) → Extends w within → Extends within now → Extends w now
-extends_both w within now first later = record {
+pub walk_extension_is_transitive : (w within now : WalkState) → IsExtendedWalk w within → IsExtendedWalk within now → IsExtendedWalk w now
+walk_extension_is_transitive w within now first later = record {
   lines = first.lines ++ later.lines;
   spots = first.spots ++ later.spots;
   on = first.on ++ later.on;
   paired = omega (arith, first.paired, later.paired, length-append first.spots later.spots, length-append first.lines later.lines);
-  lines_are = appended_twice w.lines first.lines later.lines within.lines now.lines first.lines_are later.lines_are;
-  spots_are = appended_twice w.spots first.spots later.spots within.spots now.spots first.spots_are later.spots_are;
-  on_are = appended_twice w.on first.on later.on within.on now.on first.on_are later.on_are;
+  lines_are = appending_twice_is_appending_both w.lines first.lines later.lines within.lines now.lines first.lines_are later.lines_are;
+  spots_are = appending_twice_is_appending_both w.spots first.spots later.spots within.spots now.spots first.spots_are later.spots_are;
+  on_are = appending_twice_is_appending_both w.on first.on later.on within.on now.on first.on_are later.on_are;
 }
 
-pub enter_extends : (f : ℕ) (w : Walked) → Extends w (enter f w)
-enter_extends f w = record {
+pub entering_file_extends_walk : (f : ℕ) (w : WalkState) → IsExtendedWalk w (walk_with_file_entered f w)
+entering_file_extends_walk f w = record {
   lines = [];
   spots = [];
   on = f ∷ [];
@@ -84,18 +74,18 @@ enter_extends f w = record {
   on_are = refl;
 }
 
-or_right : (a b : Bool) → b ≡ true → (a || b) ≡ true
-or_right true b is = refl
-or_right false b is = is
+or_with_second_true_is_true : (a b : Bool) → b ≡ true → (a || b) ≡ true
+or_with_second_true_is_true true b is = refl
+or_with_second_true_is_true false b is = is
 
-pub entered_is_on : (f : ℕ) (w : Walked) → is_on (enter f w) f ≡ true
-entered_is_on f w =
+pub entered_file_is_on_walk : (f : ℕ) (w : WalkState) → is_file_on_walk (walk_with_file_entered f w) f ≡ true
+entered_file_is_on_walk f w =
     list_any-append (nat_eq f) w.on (f ∷ [])
-    ∙ or_right (list_any (nat_eq f) w.on) (list_any (nat_eq f) (f ∷ [])) (ap (λ b. b || false) (eq-eqb f f refl))
+    ∙ or_with_second_true_is_true (list_any (nat_eq f) w.on) (list_any (nat_eq f) (f ∷ [])) (ap (λ b. b || false) (eq-eqb f f refl))
 
 -- What is on a walk stays on it.
-pub stays_on : (f : ℕ) (w now : Walked) → Extends w now → is_on w f ≡ true → is_on now f ≡ true
-stays_on f w now more on =
+pub extended_walk_keeps_files_on_it : (f : ℕ) (w now : WalkState) → IsExtendedWalk w now → is_file_on_walk w f ≡ true → is_file_on_walk now f ≡ true
+extended_walk_keeps_files_on_it f w now more on =
     ap (list_any (nat_eq f)) (sym more.on_are)
     ∙ list_any-append (nat_eq f) w.on more.on
     ∙ ap (λ b. b || list_any (nat_eq f) more.on) on
@@ -104,21 +94,21 @@ stays_on f w now more on =
 
 -- The lines of the walk v are those that come of the lines of the walk w, and no name that they define has a fault. The walk v has passed
 -- the same files.
-pub record Follows (g : Mapping) (v w : Walked) : Type 0 where
+pub record IsWalkFollowedByMappedWalk (g : LineMapping) (v w : WalkState) : Type 0 where
   pub paired : length w.spots ≡ length w.lines
-  pub lines : v.lines ≡ mapped_at g w.spots w.lines
+  pub lines : v.lines ≡ mapped_lines_at_spots g w.spots w.lines
   pub on : v.on ≡ w.on
-  pub stand : first_name_fault [] (definitions v.lines) ≡ None
+  pub stand : first_definition_fault [] (definitions_of_lines v.lines) ≡ None
 
-pub enter_follows : (g : Mapping) (f : ℕ) (v w : Walked) → Follows g v w → Follows g (enter f v) (enter f w)
-enter_follows g f v w is = record { paired = is.paired; lines = is.lines; on = ap (λ on. on ++ f ∷ []) is.on; stand = is.stand }
+pub entering_file_keeps_mapped_walk_following : (g : LineMapping) (f : ℕ) (v w : WalkState) → IsWalkFollowedByMappedWalk g v w → IsWalkFollowedByMappedWalk g (walk_with_file_entered f v) (walk_with_file_entered f w)
+entering_file_keeps_mapped_walk_following g f v w is = record { paired = is.paired; lines = is.lines; on = ap (λ on. on ++ f ∷ []) is.on; stand = is.stand }
 
 -- the walk with this line at this spot appended
-abbrev pub with_line : Spot → Line → Walked → Walked
-with_line at line w = record { lines = w.lines ++ line ∷ []; spots = w.spots ++ at ∷ []; on = w.on }
+abbrev pub walk_with_line_at_spot : WalkLineSpot → Line → WalkState → WalkState
+walk_with_line_at_spot at line w = record { lines = w.lines ++ line ∷ []; spots = w.spots ++ at ∷ []; on = w.on }
 
-pub line_extends : (at : Spot) (line : Line) (w : Walked) → Extends w (with_line at line w)
-line_extends at line w = record {
+pub appending_line_extends_walk : (at : WalkLineSpot) (line : Line) (w : WalkState) → IsExtendedWalk w (walk_with_line_at_spot at line w)
+appending_line_extends_walk at line w = record {
   lines = line ∷ [];
   spots = at ∷ [];
   on = [];
@@ -128,17 +118,17 @@ line_extends at line w = record {
   on_are = append-nil w.on;
 }
 
-lines_behind : (g : Mapping) (at : Spot) (line : Line) (v w : Walked) → Follows g v w
-    → v.lines ++ g at.file at.line line ≡ mapped_at g (w.spots ++ at ∷ []) (w.lines ++ line ∷ [])
-lines_behind g at line v w is =
-    ap (λ ls. ls ++ g at.file at.line line) is.lines ∙ sym (mapped_push g w.spots at w.lines line is.paired)
+mapped_lines_after_line_are_appended : (g : LineMapping) (at : WalkLineSpot) (line : Line) (v w : WalkState) → IsWalkFollowedByMappedWalk g v w
+    → v.lines ++ g at.file at.line line ≡ mapped_lines_at_spots g (w.spots ++ at ∷ []) (w.lines ++ line ∷ [])
+mapped_lines_after_line_are_appended g at line v w is =
+    ap (λ ls. ls ++ g at.file at.line line) is.lines ∙ sym (mapped_lines_with_last_line_are_appended g w.spots at w.lines line is.paired)
 
 -- One walk has passed a line, and the other the lines that come of it.
-pub line_follows : (g : Mapping) (at : Spot) (line : Line) (v last w : Walked) → Follows g v w → last.lines ≡ v.lines ++ g at.file at.line line
-    → last.on ≡ v.on → first_name_fault [] (definitions last.lines) ≡ None → Follows g last (with_line at line w)
-line_follows g at line v last w is lines on stand = record {
+pub mapped_walk_follows_after_line : (g : LineMapping) (at : WalkLineSpot) (line : Line) (v last w : WalkState) → IsWalkFollowedByMappedWalk g v w → last.lines ≡ v.lines ++ g at.file at.line line
+    → last.on ≡ v.on → first_definition_fault [] (definitions_of_lines last.lines) ≡ None → IsWalkFollowedByMappedWalk g last (walk_with_line_at_spot at line w)
+mapped_walk_follows_after_line g at line v last w is lines on stand = record {
   paired = omega (arith, is.paired, length_push w.spots at, length_push w.lines line);
-  lines = lines ∙ lines_behind g at line v w is;
+  lines = lines ∙ mapped_lines_after_line_are_appended g at line v w is;
   on = on ∙ is.on;
   stand = stand;
 }
@@ -146,85 +136,85 @@ line_follows g at line v last w is lines on stand = record {
 -- ---- the fault of a name
 
 -- this is the first fault of a name that the lines define which come of those of the whole walk
-abbrev pub IsFirstOf : Mapping → Walked → ReadFault → Type 0
-IsFirstOf g total fault = first_name_fault [] (definitions (mapped_at g total.spots total.lines)) ≡ Some fault
+abbrev pub IsFirstNameFaultOfMappedWalk : LineMapping → WalkState → ReadFault → Type 0
+IsFirstNameFaultOfMappedWalk g total fault = first_definition_fault [] (definitions_of_lines (mapped_lines_at_spots g total.spots total.lines)) ≡ Some fault
 
 -- A fault among the first lines is the first of all.
-pub fault_before : (lines others : List Line) (fault : ReadFault) → first_name_fault [] (definitions lines) ≡ Some fault
-    → first_name_fault [] (definitions (lines ++ others)) ≡ Some fault
-fault_before lines others fault is =
-    let behind : List Definition = definitions_since (0 + length lines) others in
-    ap (first_name_fault []) (definitions_append 0 lines others)
-    ∙ first_append [] (definitions lines) behind
-    ∙ ap (λ o. or_later o (first_name_fault (definitions lines) behind)) is
+pub name_fault_of_first_lines_is_first_of_all : (lines others : List Line) (fault : ReadFault) → first_definition_fault [] (definitions_of_lines lines) ≡ Some fault
+    → first_definition_fault [] (definitions_of_lines (lines ++ others)) ≡ Some fault
+name_fault_of_first_lines_is_first_of_all lines others fault is =
+    let behind : List PlacedDefinition = definitions_from_line_number (0 + length lines) others in
+    ap (first_definition_fault []) (definitions_of_appended_lines_are_appended 0 lines others)
+    ∙ first_fault_of_append_is_of_first_or_rest [] (definitions_of_lines lines) behind
+    ∙ ap (λ o. first_of_two_faults o (first_definition_fault (definitions_of_lines lines) behind)) is
 
 -- So is one in the lines that come of a line on the walk.
-pub fault_of_all : (g : Mapping) (at : Spot) (line : Line) (v w total : Walked) → Follows g v w → Extends (with_line at line w) total
-    → (fault : ReadFault) → first_name_fault [] (definitions (v.lines ++ g at.file at.line line)) ≡ Some fault → IsFirstOf g total fault
-fault_of_all g at line v w total follows more fault is =
-    let passed : Walked = with_line at line w in
+pub name_fault_in_mapped_lines_is_first_of_walk : (g : LineMapping) (at : WalkLineSpot) (line : Line) (v w total : WalkState) → IsWalkFollowedByMappedWalk g v w → IsExtendedWalk (walk_with_line_at_spot at line w) total
+    → (fault : ReadFault) → first_definition_fault [] (definitions_of_lines (v.lines ++ g at.file at.line line)) ≡ Some fault → IsFirstNameFaultOfMappedWalk g total fault
+name_fault_in_mapped_lines_is_first_of_walk g at line v w total follows more fault is =
+    let passed : WalkState = walk_with_line_at_spot at line w in
     let paired : length passed.spots ≡ length passed.lines =
     omega (arith, follows.paired, length_push w.spots at, length_push w.lines line) in
-    let whole : mapped_at g passed.spots passed.lines ++ mapped_at g more.spots more.lines ≡ mapped_at g total.spots total.lines =
-    sym (mapped_append g passed.spots more.spots passed.lines more.lines paired) ∙ ap₂ (mapped_at g) more.spots_are more.lines_are in
-    let front : first_name_fault [] (definitions (mapped_at g passed.spots passed.lines)) ≡ Some fault =
-    ap (λ ls. first_name_fault [] (definitions ls)) (sym (lines_behind g at line v w follows)) ∙ is in
-    ap (λ ls. first_name_fault [] (definitions ls)) (sym whole)
-    ∙ fault_before (mapped_at g passed.spots passed.lines) (mapped_at g more.spots more.lines) fault front
+    let whole : mapped_lines_at_spots g passed.spots passed.lines ++ mapped_lines_at_spots g more.spots more.lines ≡ mapped_lines_at_spots g total.spots total.lines =
+    sym (mapped_lines_of_appended_lines_are_appended g passed.spots more.spots passed.lines more.lines paired) ∙ ap₂ (mapped_lines_at_spots g) more.spots_are more.lines_are in
+    let front : first_definition_fault [] (definitions_of_lines (mapped_lines_at_spots g passed.spots passed.lines)) ≡ Some fault =
+    ap (λ ls. first_definition_fault [] (definitions_of_lines ls)) (sym (mapped_lines_after_line_are_appended g at line v w follows)) ∙ is in
+    ap (λ ls. first_definition_fault [] (definitions_of_lines ls)) (sym whole)
+    ∙ name_fault_of_first_lines_is_first_of_all (mapped_lines_at_spots g passed.spots passed.lines) (mapped_lines_at_spots g more.spots more.lines) fault front
 
 -- ---- one part of a walk after another
 
 -- The outcome is the first fault of a name in the lines that come of those of the whole walk.
-pub record IsNameFault (g : Mapping) (total : Walked) (outcome : Outcome) : Type 0 where
+pub record IsOutcomeWithFirstNameFault (g : LineMapping) (total : WalkState) (outcome : WalkResult) : Type 0 where
   pub name : List ℕ
   pub fault : ReadFault
   pub is : outcome ≡ Err (InFile name fault)
-  pub first : IsFirstOf g total fault
+  pub first : IsFirstNameFaultOfMappedWalk g total fault
 
 -- The outcome is a walk that follows this one, unless a name has a fault.
-pub data Arrives (g : Mapping) (total now : Walked) (outcome : Outcome) : Type 0 where
-  arrived : (last : Walked) → outcome ≡ Ok last → Follows g last now → Arrives g total now outcome
-  faulty : IsNameFault g total outcome → Arrives g total now outcome
+pub data ArrivesAtFollowingWalkOrNameFault (g : LineMapping) (total now : WalkState) (outcome : WalkResult) : Type 0 where
+  arrived : (last : WalkState) → outcome ≡ Ok last → IsWalkFollowedByMappedWalk g last now → ArrivesAtFollowingWalkOrNameFault g total now outcome
+  faulty : IsOutcomeWithFirstNameFault g total outcome → ArrivesAtFollowingWalkOrNameFault g total now outcome
 
 -- One part of a walk goes from w to `now`. The other walk goes along: from a walk that follows w it arrives at one that follows `now`, if
 -- the whole walk has both parts.
-pub record GoesAlong (g : Mapping) (total w now : Walked) (go : Walked → Outcome) : Type 0 where
-  pub more : Extends w now
-  pub arrives : (v : Walked) → Follows g v w → Extends now total → Arrives g total now (go v)
+pub record MappedWalkGoesAlongPart (g : LineMapping) (total w now : WalkState) (go : WalkState → WalkResult) : Type 0 where
+  pub more : IsExtendedWalk w now
+  pub arrives : (v : WalkState) → IsWalkFollowedByMappedWalk g v w → IsExtendedWalk now total → ArrivesAtFollowingWalkOrNameFault g total now (go v)
 
 -- The other walk goes on where it arrives.
-pub arrives_then : (g : Mapping) (total within now : Walked) (outcome : Outcome) (later : Walked → Outcome) → Arrives g total within outcome
-    → ((last : Walked) → Follows g last within → Arrives g total now (later last)) → Arrives g total now (and_then outcome later)
-arrives_then g total within now outcome later (arrived last is follows) next =
-    subst (Arrives g total now) (ap (λ r. and_then r later) (sym is)) (next last follows)
-arrives_then g total within now outcome later (faulty wrong) next =
-    faulty (record { name = wrong.name; fault = wrong.fault; is = ap (λ r. and_then r later) wrong.is; first = wrong.first })
+pub mapped_walk_goes_on_where_it_arrives : (g : LineMapping) (total within now : WalkState) (outcome : WalkResult) (later : WalkState → WalkResult) → ArrivesAtFollowingWalkOrNameFault g total within outcome
+    → ((last : WalkState) → IsWalkFollowedByMappedWalk g last within → ArrivesAtFollowingWalkOrNameFault g total now (later last)) → ArrivesAtFollowingWalkOrNameFault g total now (load_result_and_then outcome later)
+mapped_walk_goes_on_where_it_arrives g total within now outcome later (arrived last is follows) next =
+    subst (ArrivesAtFollowingWalkOrNameFault g total now) (ap (λ r. load_result_and_then r later) (sym is)) (next last follows)
+mapped_walk_goes_on_where_it_arrives g total within now outcome later (faulty wrong) next =
+    faulty (record { name = wrong.name; fault = wrong.fault; is = ap (λ r. load_result_and_then r later) wrong.is; first = wrong.first })
 
-pub along_both : (g : Mapping) (total w within now : Walked) (first later : Walked → Outcome) → GoesAlong g total w within first
-    → GoesAlong g total within now later → GoesAlong g total w now (λ v. and_then (first v) later)
-along_both g total w within now first later one two = record {
-  more = extends_both w within now one.more two.more;
+pub mapped_walk_goes_along_two_parts : (g : LineMapping) (total w within now : WalkState) (first later : WalkState → WalkResult) → MappedWalkGoesAlongPart g total w within first
+    → MappedWalkGoesAlongPart g total within now later → MappedWalkGoesAlongPart g total w now (λ v. load_result_and_then (first v) later)
+mapped_walk_goes_along_two_parts g total w within now first later one two = record {
+  more = walk_extension_is_transitive w within now one.more two.more;
   arrives = λ v follows more.
-      arrives_then g total within now (first v) later (one.arrives v follows (extends_both within now total two.more more))
+      mapped_walk_goes_on_where_it_arrives g total within now (first v) later (one.arrives v follows (walk_extension_is_transitive within now total two.more more))
       (λ last here. two.arrives last here more);
 }
 
 -- The other walk takes a line, unless one of its names has a fault.
-pub line_taken : (g : Mapping) (total now : Walked) (name : List ℕ) (at : Spot) (line : Line) (v : Walked) (later : Walked → Outcome)
-    → first_name_fault [] (definitions v.lines) ≡ None
-    → ((fault : ReadFault) → first_name_fault [] (definitions (v.lines ++ line ∷ [])) ≡ Some fault → IsFirstOf g total fault)
-    → (first_name_fault [] (definitions (v.lines ++ line ∷ [])) ≡ None → Arrives g total now (later (with_line at line v)))
-    → Arrives g total now (and_then (taken name at line v) later)
-line_taken g total now name at line v later stand fails next =
-    by (first_name_fault (definitions v.lines) (definitions_in (length v.lines) line.node)) refl
+pub mapped_walk_takes_line_or_has_name_fault : (g : LineMapping) (total now : WalkState) (name : List ℕ) (at : WalkLineSpot) (line : Line) (v : WalkState) (later : WalkState → WalkResult)
+    → first_definition_fault [] (definitions_of_lines v.lines) ≡ None
+    → ((fault : ReadFault) → first_definition_fault [] (definitions_of_lines (v.lines ++ line ∷ [])) ≡ Some fault → IsFirstNameFaultOfMappedWalk g total fault)
+    → (first_definition_fault [] (definitions_of_lines (v.lines ++ line ∷ [])) ≡ None → ArrivesAtFollowingWalkOrNameFault g total now (later (walk_with_line_at_spot at line v)))
+    → ArrivesAtFollowingWalkOrNameFault g total now (load_result_and_then (walk_with_line_appended name at line v) later)
+mapped_walk_takes_line_or_has_name_fault g total now name at line v later stand fails next =
+    by (first_definition_fault (definitions_of_lines v.lines) (definitions_in_line (length v.lines) line.node)) refl
   where
-    by : (o : Option ReadFault) → first_name_fault (definitions v.lines) (definitions_in (length v.lines) line.node) ≡ o
-        → Arrives g total now (and_then (unless_in name (with_line at line v) o) later)
-    by None e = next (line_passed v.lines line stand e)
+    by : (o : Option ReadFault) → first_definition_fault (definitions_of_lines v.lines) (definitions_in_line (length v.lines) line.node) ≡ o
+        → ArrivesAtFollowingWalkOrNameFault g total now (load_result_and_then (value_unless_file_fault name (walk_with_line_at_spot at line v) o) later)
+    by None e = next (faultless_line_keeps_walk_faultless v.lines line stand e)
     by (Some fault) e =
-        let here : first_name_fault [] (definitions (v.lines ++ line ∷ [])) ≡ Some fault =
-        ap (first_name_fault []) (definitions_push v.lines line)
-        ∙ first_append [] (definitions v.lines) (definitions_in (length v.lines) line.node)
-        ∙ ap (λ o. or_later o (first_name_fault (definitions v.lines) (definitions_in (length v.lines) line.node))) stand
+        let here : first_definition_fault [] (definitions_of_lines (v.lines ++ line ∷ [])) ≡ Some fault =
+        ap (first_definition_fault []) (definitions_with_last_line_are_appended v.lines line)
+        ∙ first_fault_of_append_is_of_first_or_rest [] (definitions_of_lines v.lines) (definitions_in_line (length v.lines) line.node)
+        ∙ ap (λ o. first_of_two_faults o (first_definition_fault (definitions_of_lines v.lines) (definitions_in_line (length v.lines) line.node))) stand
         ∙ e in
         faulty (record { name = name; fault = fault; is = refl; first = fails fault here })

@@ -1,123 +1,110 @@
 -- Items of lists by their numbers, and lists in order.
-use Rattle.std.proofs.Common.{◌≡◌, ℕ, zero, suc, ◌+◌, ◌-◌, ◌<◌, ◌==◌, true, false, if◌then◌else◌, List, [], ◌∷◌, ◌++◌, length, take, drop, insert, get_or, slice_get, option_map, Option, Some, None, refl, sym, ap, ◌∙◌, arith}
-use Rattle.std.proofs.lemmas.List.{length-drop, length-take-le, take_all}
-use Rattle.std.proofs.lemmas.Option.{slice_get-get_or}
-use Rattle.std.specs.Str.{bytes_eq}
-use Rattle.sudoers_tree.specs.Lead.{folder_of}
-use Rattle.sudoers_tree.specs.Files.{FileReading, name_of}
-use Rattle.sudoers_tree.specs.Targets.{base_of, ends_in_tilde, files_in, is_before, is_in_folder, number_of, put_in_order}
+use Rattle.sudoers_tree.proofs.Common.{List, ParsedFile, Some, [], ap, arith, base_name_of_file, bytes_eq, drop, ends_in_tilde, false, file_inserted_in_name_order, folder_of, if◌then◌else◌, included_files_of_folder}
+use Rattle.sudoers_tree.proofs.Common.{insert, is_file_name_before, is_includable_from_folder, length, length-drop, length-take-le, name_of_numbered_file, number_of_first_file_named, refl, slice_get, suc, sym, take}
+use Rattle.sudoers_tree.proofs.Common.{take_all, true, zero, ℕ, ◌++◌, ◌+◌, ◌-◌, ◌<◌, ◌==◌, ◌∙◌, ◌∷◌, ◌≡◌}
 
 -- The item with a number is the first from there on.
-pub drop_at : {A : Type 0} (xs : List A) (n : ℕ) (x : A) → slice_get xs n ≡ Some x → drop n xs ≡ x ∷ drop (n + 1) xs
-drop_at [] n x is = absurd cc
-drop_at (y ∷ xs) zero x is = cc
-drop_at (y ∷ xs) (suc n) x is =
+pub drop_begins_with_numbered_item : {A : Type 0} (xs : List A) (n : ℕ) (x : A) → slice_get xs n ≡ Some x → drop n xs ≡ x ∷ drop (n + 1) xs
+drop_begins_with_numbered_item [] n x is = absurd cc
+drop_begins_with_numbered_item (y ∷ xs) zero x is = cc
+drop_begins_with_numbered_item (y ∷ xs) (suc n) x is =
     let count : suc (n + 1) ≡ suc n + 1 = omega arith in
-    drop_at xs n x is ∙ ap (λ k. x ∷ drop k (y ∷ xs)) count
+    drop_begins_with_numbered_item xs n x is ∙ ap (λ k. x ∷ drop k (y ∷ xs)) count
 
 -- The rest of a list from a number on: its first item has that number, and the items after it are the rest from the next number on.
-pub first_at : {A : Type 0} (rest xs : List A) (n : ℕ) (x : A) → x ∷ rest ≡ drop n xs → slice_get xs n ≡ Some x
-first_at rest [] zero x is = absurd cc
-first_at rest [] (suc n) x is = absurd cc
-first_at rest (y ∷ xs) zero x is = cc
-first_at rest (y ∷ xs) (suc n) x is = first_at rest xs n x is
+pub first_of_drop_is_numbered_item : {A : Type 0} (rest xs : List A) (n : ℕ) (x : A) → x ∷ rest ≡ drop n xs → slice_get xs n ≡ Some x
+first_of_drop_is_numbered_item rest [] zero x is = absurd cc
+first_of_drop_is_numbered_item rest [] (suc n) x is = absurd cc
+first_of_drop_is_numbered_item rest (y ∷ xs) zero x is = cc
+first_of_drop_is_numbered_item rest (y ∷ xs) (suc n) x is = first_of_drop_is_numbered_item rest xs n x is
 
-pub behind_first : {A : Type 0} (rest xs : List A) (n : ℕ) (x : A) → x ∷ rest ≡ drop n xs → rest ≡ drop (n + 1) xs
-behind_first rest xs n x is =
-    let same : x ∷ rest ≡ x ∷ drop (n + 1) xs = is ∙ drop_at xs n x (first_at rest xs n x is) in
+pub rest_of_drop_is_later_drop : {A : Type 0} (rest xs : List A) (n : ℕ) (x : A) → x ∷ rest ≡ drop n xs → rest ≡ drop (n + 1) xs
+rest_of_drop_is_later_drop rest xs n x is =
+    let same : x ∷ rest ≡ x ∷ drop (n + 1) xs = is ∙ drop_begins_with_numbered_item xs n x (first_of_drop_is_numbered_item rest xs n x is) in
     cc
 
 -- There is an item with each number below how many there are.
-pub item_at : {A : Type 0} (xs : List A) (n : ℕ) → n < length xs → (x : A) × (slice_get xs n ≡ Some x)
-item_at [] n less = absurd (omega (arith, less))
-item_at (x ∷ xs) zero less = (x, refl)
-item_at (x ∷ xs) (suc n) less = item_at xs n (omega (arith, less))
+pub item_below_length_exists : {A : Type 0} (xs : List A) (n : ℕ) → n < length xs → (x : A) × (slice_get xs n ≡ Some x)
+item_below_length_exists [] n less = absurd (omega (arith, less))
+item_below_length_exists (x ∷ xs) zero less = (x, refl)
+item_below_length_exists (x ∷ xs) (suc n) less = item_below_length_exists xs n (omega (arith, less))
 
--- The item of which this is told.
-pub told_of : {A B : Type 0} (tell : A → B) (found : Option A) (y : B) → Some y ≡ option_map tell found → (x : A) × (found ≡ Some x) × (y ≡ tell x)
-told_of tell (Some x) y is = (x, refl, cc)
-told_of tell None y is = absurd cc
-
--- An item that a slice of the list has.
-pub got : {A : Type 0} (xs found : List A) (at : ℕ) (x : A) → found ≡ xs → at < length found → x ≡ get_or found at x → slice_get xs at ≡ Some x
-got xs found at x same less is = ap (λ ys. slice_get ys at) (sym same) ∙ slice_get-get_or found at x less ∙ ap (λ y. Some y) (sym is)
-
-pub tilde_last : (rest : List ℕ) (b : ℕ) → ends_in_tilde (rest ++ b ∷ []) ≡ (b == 126)
-tilde_last [] b = refl
-tilde_last (a ∷ []) b = refl
-tilde_last (a ∷ c ∷ rest) b = tilde_last (c ∷ rest) b
+pub ends_in_tilde_is_told_by_last_byte : (rest : List ℕ) (b : ℕ) → ends_in_tilde (rest ++ b ∷ []) ≡ (b == 126)
+ends_in_tilde_is_told_by_last_byte [] b = refl
+ends_in_tilde_is_told_by_last_byte (a ∷ []) b = refl
+ends_in_tilde_is_told_by_last_byte (a ∷ c ∷ rest) b = ends_in_tilde_is_told_by_last_byte (c ∷ rest) b
 
 -- The name without its folder, where its last `/` stands at a byte, and where there is none.
-pub base_behind : (name : List ℕ) (at : ℕ) → at < length name → take (at + 1) name ≡ folder_of name
-    → take (length name - (at + 1)) (drop (at + 1) name) ≡ base_of name
-base_behind name at less front =
+pub bytes_after_last_slash_are_base_name : (name : List ℕ) (at : ℕ) → at < length name → take (at + 1) name ≡ folder_of name
+    → take (length name - (at + 1)) (drop (at + 1) name) ≡ base_name_of_file name
+bytes_after_last_slash_are_base_name name at less front =
     let whole : take (length name - (at + 1)) (drop (at + 1) name) ≡ drop (at + 1) name = take_all (length name - (at + 1)) (drop (at + 1) name) (omega (arith, length-drop (at + 1) name)) in
     let count : length (folder_of name) ≡ at + 1 = ap length (sym front) ∙ length-take-le (at + 1) name (omega (arith, less)) in
     whole ∙ ap (λ n. drop n name) (sym count)
 
-pub base_whole : (name : List ℕ) → folder_of name ≡ [] → name ≡ base_of name
-base_whole name front = ap (λ ns. drop (length ns) name) (sym front)
+pub name_without_folder_is_base_name : (name : List ℕ) → folder_of name ≡ [] → name ≡ base_name_of_file name
+name_without_folder_is_base_name name front = ap (λ ns. drop (length ns) name) (sym front)
 
 -- ---- files by their names
 
 -- the file that is found, or the one after it
-pub number_here : (name : List ℕ) (files : List FileReading) (n : ℕ) → n < length files → bytes_eq name (name_of files n) ≡ true
-    → number_of name n (drop n files) ≡ Some n
-number_here name files n less is =
-    let at = item_at files n less in
+pub matching_file_is_first_file_named : (name : List ℕ) (files : List ParsedFile) (n : ℕ) → n < length files → bytes_eq name (name_of_numbered_file files n) ≡ true
+    → number_of_first_file_named name n (drop n files) ≡ Some n
+matching_file_is_first_file_named name files n less is =
+    let at = item_below_length_exists files n less in
     let same : bytes_eq name at.0.name ≡ true = cc in
-    ap (number_of name n) (drop_at files n at.0 at.1) ∙ ap (λ t. if t then Some n else number_of name (n + 1) (drop (n + 1) files)) same
+    ap (number_of_first_file_named name n) (drop_begins_with_numbered_item files n at.0 at.1) ∙ ap (λ t. if t then Some n else number_of_first_file_named name (n + 1) (drop (n + 1) files)) same
 
-pub number_later : (name : List ℕ) (files : List FileReading) (n : ℕ) → n < length files → bytes_eq name (name_of files n) ≡ false
-    → number_of name n (drop n files) ≡ number_of name (n + 1) (drop (n + 1) files)
-number_later name files n less is =
-    let at = item_at files n less in
+pub other_file_is_not_first_file_named : (name : List ℕ) (files : List ParsedFile) (n : ℕ) → n < length files → bytes_eq name (name_of_numbered_file files n) ≡ false
+    → number_of_first_file_named name n (drop n files) ≡ number_of_first_file_named name (n + 1) (drop (n + 1) files)
+other_file_is_not_first_file_named name files n less is =
+    let at = item_below_length_exists files n less in
     let same : bytes_eq name at.0.name ≡ false = cc in
-    ap (number_of name n) (drop_at files n at.0 at.1) ∙ ap (λ t. if t then Some n else number_of name (n + 1) (drop (n + 1) files)) same
+    ap (number_of_first_file_named name n) (drop_begins_with_numbered_item files n at.0 at.1) ∙ ap (λ t. if t then Some n else number_of_first_file_named name (n + 1) (drop (n + 1) files)) same
 
 -- ---- files in order
 
 -- the file stands after one that it is not before
-pub behind_one : (files : List FileReading) (f : ℕ) (order : List ℕ) (at g : ℕ) → slice_get order at ≡ Some g → is_before files f g ≡ false
-    → take at order ++ put_in_order files f (drop at order) ≡ take (at + 1) order ++ put_in_order files f (drop (at + 1) order)
-behind_one files f [] at g is off = absurd cc
-behind_one files f (x ∷ order) zero g is off =
-    let same : is_before files f x ≡ false = cc in
-    ap (λ t. if t then f ∷ x ∷ order else x ∷ put_in_order files f order) same
-behind_one files f (x ∷ order) (suc at) g is off =
+pub file_is_inserted_after_file_not_later : (files : List ParsedFile) (f : ℕ) (order : List ℕ) (at g : ℕ) → slice_get order at ≡ Some g → is_file_name_before files f g ≡ false
+    → take at order ++ file_inserted_in_name_order files f (drop at order) ≡ take (at + 1) order ++ file_inserted_in_name_order files f (drop (at + 1) order)
+file_is_inserted_after_file_not_later files f [] at g is off = absurd cc
+file_is_inserted_after_file_not_later files f (x ∷ order) zero g is off =
+    let same : is_file_name_before files f x ≡ false = cc in
+    ap (λ t. if t then f ∷ x ∷ order else x ∷ file_inserted_in_name_order files f order) same
+file_is_inserted_after_file_not_later files f (x ∷ order) (suc at) g is off =
     let count : suc (at + 1) ≡ suc at + 1 = omega arith in
-    ap (λ xs. x ∷ xs) (behind_one files f order at g is off)
-    ∙ ap (λ k. take k (x ∷ order) ++ put_in_order files f (drop k (x ∷ order))) count
+    ap (λ xs. x ∷ xs) (file_is_inserted_after_file_not_later files f order at g is off)
+    ∙ ap (λ k. take k (x ∷ order) ++ file_inserted_in_name_order files f (drop k (x ∷ order))) count
 
 -- it stands before one that it is before
-pub before_one : (files : List FileReading) (f : ℕ) (order : List ℕ) (at g : ℕ) → slice_get order at ≡ Some g → is_before files f g ≡ true
-    → take at order ++ put_in_order files f (drop at order) ≡ insert order at f
-before_one files f [] at g is on = absurd cc
-before_one files f (x ∷ order) zero g is on =
-    let same : is_before files f x ≡ true = cc in
-    ap (λ t. if t then f ∷ x ∷ order else x ∷ put_in_order files f order) same
-before_one files f (x ∷ order) (suc at) g is on = ap (λ xs. x ∷ xs) (before_one files f order at g is on)
+pub file_is_inserted_before_later_file : (files : List ParsedFile) (f : ℕ) (order : List ℕ) (at g : ℕ) → slice_get order at ≡ Some g → is_file_name_before files f g ≡ true
+    → take at order ++ file_inserted_in_name_order files f (drop at order) ≡ insert order at f
+file_is_inserted_before_later_file files f [] at g is on = absurd cc
+file_is_inserted_before_later_file files f (x ∷ order) zero g is on =
+    let same : is_file_name_before files f x ≡ true = cc in
+    ap (λ t. if t then f ∷ x ∷ order else x ∷ file_inserted_in_name_order files f order) same
+file_is_inserted_before_later_file files f (x ∷ order) (suc at) g is on = ap (λ xs. x ∷ xs) (file_is_inserted_before_later_file files f order at g is on)
 
 -- it stands last
-pub at_end : (files : List FileReading) (f : ℕ) (order : List ℕ)
-    → take (length order) order ++ put_in_order files f (drop (length order) order) ≡ order ++ f ∷ []
-at_end files f [] = refl
-at_end files f (x ∷ order) = ap (λ xs. x ∷ xs) (at_end files f order)
+pub file_is_inserted_last_at_end : (files : List ParsedFile) (f : ℕ) (order : List ℕ)
+    → take (length order) order ++ file_inserted_in_name_order files f (drop (length order) order) ≡ order ++ f ∷ []
+file_is_inserted_last_at_end files f [] = refl
+file_is_inserted_last_at_end files f (x ∷ order) = ap (λ xs. x ∷ xs) (file_is_inserted_last_at_end files f order)
 
 -- ---- files of a folder
 
-pub in_folder : (files : List FileReading) (folder : List ℕ) (n : ℕ) → n < length files → is_in_folder folder (name_of files n) ≡ true
-    → files_in files folder n (drop n files) ≡ put_in_order files n (files_in files folder (n + 1) (drop (n + 1) files))
-in_folder files folder n less is =
-    let at = item_at files n less in
-    let same : is_in_folder folder at.0.name ≡ true = cc in
-    ap (files_in files folder n) (drop_at files n at.0 at.1)
-    ∙ ap (λ t. if t then put_in_order files n (files_in files folder (n + 1) (drop (n + 1) files)) else files_in files folder (n + 1) (drop (n + 1) files)) same
+pub includable_file_is_inserted_in_folder : (files : List ParsedFile) (folder : List ℕ) (n : ℕ) → n < length files → is_includable_from_folder folder (name_of_numbered_file files n) ≡ true
+    → included_files_of_folder files folder n (drop n files) ≡ file_inserted_in_name_order files n (included_files_of_folder files folder (n + 1) (drop (n + 1) files))
+includable_file_is_inserted_in_folder files folder n less is =
+    let at = item_below_length_exists files n less in
+    let same : is_includable_from_folder folder at.0.name ≡ true = cc in
+    ap (included_files_of_folder files folder n) (drop_begins_with_numbered_item files n at.0 at.1)
+    ∙ ap (λ t. if t then file_inserted_in_name_order files n (included_files_of_folder files folder (n + 1) (drop (n + 1) files)) else included_files_of_folder files folder (n + 1) (drop (n + 1) files)) same
 
-pub out_of_folder : (files : List FileReading) (folder : List ℕ) (n : ℕ) → n < length files → is_in_folder folder (name_of files n) ≡ false
-    → files_in files folder n (drop n files) ≡ files_in files folder (n + 1) (drop (n + 1) files)
-out_of_folder files folder n less is =
-    let at = item_at files n less in
-    let same : is_in_folder folder at.0.name ≡ false = cc in
-    ap (files_in files folder n) (drop_at files n at.0 at.1)
-    ∙ ap (λ t. if t then put_in_order files n (files_in files folder (n + 1) (drop (n + 1) files)) else files_in files folder (n + 1) (drop (n + 1) files)) same
+pub other_file_is_not_in_folder : (files : List ParsedFile) (folder : List ℕ) (n : ℕ) → n < length files → is_includable_from_folder folder (name_of_numbered_file files n) ≡ false
+    → included_files_of_folder files folder n (drop n files) ≡ included_files_of_folder files folder (n + 1) (drop (n + 1) files)
+other_file_is_not_in_folder files folder n less is =
+    let at = item_below_length_exists files n less in
+    let same : is_includable_from_folder folder at.0.name ≡ false = cc in
+    ap (included_files_of_folder files folder n) (drop_begins_with_numbered_item files n at.0 at.1)
+    ∙ ap (λ t. if t then file_inserted_in_name_order files n (included_files_of_folder files folder (n + 1) (drop (n + 1) files)) else included_files_of_folder files folder (n + 1) (drop (n + 1) files)) same

@@ -1,61 +1,54 @@
 -- Files that are not on the walk.
-use Rattle.std.proofs.Common.{◌≡◌, ℕ, ◌+◌, ◌<◌, ◌⊎◌, inl, inr, Bool, true, false, if◌then◌else◌, List, length, drop, slice_get, option_map, Option, Some, None, Result, Ok, Err, sym, ap, ◌∙◌}
-use Rattle.sudoers_tree.specs.Line.{Line}
-use Rattle.sudoers_tree.specs.declared.fault.ReadFault.{ReadFault}
-use Rattle.sudoers_tree.specs.declared.load_fault.LoadFault.{LoadFault}
-use Rattle.sudoers_tree.specs.declared.load_fault.LoadFault.TheVariants.{InFile, NoMemory}
-use Rattle.sudoers_tree.specs.Definition.{definitions_in}
-use Rattle.sudoers_tree.specs.Fault.{syntax_fault}
-use Rattle.sudoers_tree.specs.Reading.{or_later}
-use Rattle.sudoers_tree.specs.Files.{FileReading, fault_in, fault_of, lines_in, lines_of, name_in, name_of}
-use Rattle.sudoers_tree.specs.Walk.{Walked, and_then, is_on, unless_in}
-use Rattle.sudoers_tree.specs.Load.{first_reserved, reserved_in, unless_off}
-use Rattle.sudoers_tree.proofs.Numbered.{drop_at, item_at}
+use Rattle.sudoers_tree.proofs.Common.{Bool, Err, InFile, Line, List, LoadFault, NoMemory, None, Ok, Option, ParsedFile, ReadFault, Result, Some, WalkState, ap, definitions_in_line, drop, false}
+use Rattle.sudoers_tree.proofs.Common.{fault_of_numbered_file, fault_of_optional_file, first_of_two_faults, if◌then◌else◌, inl, inr, is_file_on_walk, length, lines_of_numbered_file, lines_of_optional_file}
+use Rattle.sudoers_tree.proofs.Common.{load_result_and_then, name_of_numbered_file, name_of_optional_file, option_map, reserved_name_fault, reserved_name_fault_in_lines, slice_get, sym, syntax_fault_as_read_fault}
+use Rattle.sudoers_tree.proofs.Common.{true, value_unless_file_fault, walk_or_unreached_file_fault, ℕ, ◌+◌, ◌<◌, ◌∙◌, ◌≡◌, ◌⊎◌}
+use Rattle.sudoers_tree.proofs.Numbered.{drop_begins_with_numbered_item, item_below_length_exists}
 
 -- ---- the lines of one file
 
-pub reserved_here : (lines : List Line) (n : ℕ) (line : Line) (o : Option ReadFault) → slice_get lines n ≡ Some line
-    → first_reserved (definitions_in 0 line.node) ≡ o → reserved_in (drop n lines) ≡ or_later o (reserved_in (drop (n + 1) lines))
-reserved_here lines n line o at is = ap reserved_in (drop_at lines n line at) ∙ ap (λ f. or_later f (reserved_in (drop (n + 1) lines))) is
+pub reserved_name_fault_is_of_line_or_rest : (lines : List Line) (n : ℕ) (line : Line) (o : Option ReadFault) → slice_get lines n ≡ Some line
+    → reserved_name_fault (definitions_in_line 0 line.node) ≡ o → reserved_name_fault_in_lines (drop n lines) ≡ first_of_two_faults o (reserved_name_fault_in_lines (drop (n + 1) lines))
+reserved_name_fault_is_of_line_or_rest lines n line o at is = ap reserved_name_fault_in_lines (drop_begins_with_numbered_item lines n line at) ∙ ap (λ f. first_of_two_faults f (reserved_name_fault_in_lines (drop (n + 1) lines))) is
 
 -- ---- all files
 
 -- the fault of the file with this number
-abbrev pub fault_of_file : List FileReading → ℕ → Option ReadFault
-fault_of_file files n = or_later (reserved_in (lines_of files n)) (option_map syntax_fault (fault_of files n))
+abbrev pub fault_of_numbered_file_off_walk : List ParsedFile → ℕ → Option ReadFault
+fault_of_numbered_file_off_walk files n = first_of_two_faults (reserved_name_fault_in_lines (lines_of_numbered_file files n)) (option_map syntax_fault_as_read_fault (fault_of_numbered_file files n))
 
-abbrev step : Walked → ℕ → List FileReading → Bool → List ℕ → Option ReadFault → Result Walked LoadFault
-step w n files on name fault = and_then (if on then Ok w else unless_in name w fault) (λ same. unless_off w (n + 1) (drop (n + 1) files))
+abbrev outcome_of_checking_unreached_file : WalkState → ℕ → List ParsedFile → Bool → List ℕ → Option ReadFault → Result WalkState LoadFault
+outcome_of_checking_unreached_file w n files on name fault = load_result_and_then (if on then Ok w else value_unless_file_fault name w fault) (λ same. walk_or_unreached_file_fault w (n + 1) (drop (n + 1) files))
 
-one_file : (w : Walked) (files : List FileReading) (n : ℕ) → n < length files
-    → unless_off w n (drop n files) ≡ step w n files (is_on w n) (name_of files n) (fault_of_file files n)
-one_file w files n less =
-    let at = item_at files n less in
-    let name : name_of files n ≡ at.0.name = ap name_in at.1 in
-    let lines : lines_of files n ≡ at.0.lines = ap lines_in at.1 in
-    let fault : fault_of files n ≡ at.0.fault = ap fault_in at.1 in
-    ap (unless_off w n) (drop_at files n at.0 at.1)
-    ∙ sym (ap (λ ns. step w n files (is_on w n) ns (fault_of_file files n)) name
-    ∙ ap (λ ls. step w n files (is_on w n) at.0.name (or_later (reserved_in ls) (option_map syntax_fault (fault_of files n)))) lines
-    ∙ ap (λ f. step w n files (is_on w n) at.0.name (or_later (reserved_in at.0.lines) (option_map syntax_fault f))) fault)
+check_of_unreached_files_begins_with_file : (w : WalkState) (files : List ParsedFile) (n : ℕ) → n < length files
+    → walk_or_unreached_file_fault w n (drop n files) ≡ outcome_of_checking_unreached_file w n files (is_file_on_walk w n) (name_of_numbered_file files n) (fault_of_numbered_file_off_walk files n)
+check_of_unreached_files_begins_with_file w files n less =
+    let at = item_below_length_exists files n less in
+    let name : name_of_numbered_file files n ≡ at.0.name = ap name_of_optional_file at.1 in
+    let lines : lines_of_numbered_file files n ≡ at.0.lines = ap lines_of_optional_file at.1 in
+    let fault : fault_of_numbered_file files n ≡ at.0.fault = ap fault_of_optional_file at.1 in
+    ap (walk_or_unreached_file_fault w n) (drop_begins_with_numbered_item files n at.0 at.1)
+    ∙ sym (ap (λ ns. outcome_of_checking_unreached_file w n files (is_file_on_walk w n) ns (fault_of_numbered_file_off_walk files n)) name
+    ∙ ap (λ ls. outcome_of_checking_unreached_file w n files (is_file_on_walk w n) at.0.name (first_of_two_faults (reserved_name_fault_in_lines ls) (option_map syntax_fault_as_read_fault (fault_of_numbered_file files n)))) lines
+    ∙ ap (λ f. outcome_of_checking_unreached_file w n files (is_file_on_walk w n) at.0.name (first_of_two_faults (reserved_name_fault_in_lines at.0.lines) (option_map syntax_fault_as_read_fault f))) fault)
 
-pub file_on : (w : Walked) (files : List FileReading) (n : ℕ) → n < length files → is_on w n ≡ true
-    → unless_off w n (drop n files) ≡ unless_off w (n + 1) (drop (n + 1) files)
-file_on w files n less on = one_file w files n less ∙ ap (λ t. step w n files t (name_of files n) (fault_of_file files n)) on
+pub file_on_walk_is_not_checked : (w : WalkState) (files : List ParsedFile) (n : ℕ) → n < length files → is_file_on_walk w n ≡ true
+    → walk_or_unreached_file_fault w n (drop n files) ≡ walk_or_unreached_file_fault w (n + 1) (drop (n + 1) files)
+file_on_walk_is_not_checked w files n less on = check_of_unreached_files_begins_with_file w files n less ∙ ap (λ t. outcome_of_checking_unreached_file w n files t (name_of_numbered_file files n) (fault_of_numbered_file_off_walk files n)) on
 
-file_off : (w : Walked) (files : List FileReading) (n : ℕ) (o : Option ReadFault) → n < length files → is_on w n ≡ false → fault_of_file files n ≡ o
-    → unless_off w n (drop n files) ≡ step w n files false (name_of files n) o
-file_off w files n o less off is =
-    one_file w files n less ∙ ap (λ t. step w n files t (name_of files n) (fault_of_file files n)) off
-    ∙ ap (λ f. step w n files false (name_of files n) f) is
+file_off_walk_is_checked_for_fault : (w : WalkState) (files : List ParsedFile) (n : ℕ) (o : Option ReadFault) → n < length files → is_file_on_walk w n ≡ false → fault_of_numbered_file_off_walk files n ≡ o
+    → walk_or_unreached_file_fault w n (drop n files) ≡ outcome_of_checking_unreached_file w n files false (name_of_numbered_file files n) o
+file_off_walk_is_checked_for_fault w files n o less off is =
+    check_of_unreached_files_begins_with_file w files n less ∙ ap (λ t. outcome_of_checking_unreached_file w n files t (name_of_numbered_file files n) (fault_of_numbered_file_off_walk files n)) off
+    ∙ ap (λ f. outcome_of_checking_unreached_file w n files false (name_of_numbered_file files n) f) is
 
-pub file_sound : (w : Walked) (files : List FileReading) (n : ℕ) → n < length files → is_on w n ≡ false → fault_of_file files n ≡ None
-    → unless_off w n (drop n files) ≡ unless_off w (n + 1) (drop (n + 1) files)
-file_sound w files n less off is = file_off w files n None less off is
+pub faultless_unreached_file_is_passed : (w : WalkState) (files : List ParsedFile) (n : ℕ) → n < length files → is_file_on_walk w n ≡ false → fault_of_numbered_file_off_walk files n ≡ None
+    → walk_or_unreached_file_fault w n (drop n files) ≡ walk_or_unreached_file_fault w (n + 1) (drop (n + 1) files)
+faultless_unreached_file_is_passed w files n less off is = file_off_walk_is_checked_for_fault w files n None less off is
 
-pub file_faulty : (w : Walked) (files : List FileReading) (n : ℕ) (fault : ReadFault) (told : LoadFault) (whole : Result Walked LoadFault) → n < length files
-    → is_on w n ≡ false → fault_of_file files n ≡ Some fault → unless_off w n (drop n files) ≡ whole
-    → (told ≡ NoMemory) ⊎ (told ≡ InFile (name_of files n) fault) → (told ≡ NoMemory) ⊎ (whole ≡ Err told)
-file_faulty w files n fault told whole less off is so_far (inl memory) = inl memory
-file_faulty w files n fault told whole less off is so_far (inr same) =
-    inr (sym so_far ∙ file_off w files n (Some fault) less off is ∙ ap (λ f. Err f) (sym same))
+pub fault_of_unreached_file_is_outcome : (w : WalkState) (files : List ParsedFile) (n : ℕ) (fault : ReadFault) (told : LoadFault) (whole : Result WalkState LoadFault) → n < length files
+    → is_file_on_walk w n ≡ false → fault_of_numbered_file_off_walk files n ≡ Some fault → walk_or_unreached_file_fault w n (drop n files) ≡ whole
+    → (told ≡ NoMemory) ⊎ (told ≡ InFile (name_of_numbered_file files n) fault) → (told ≡ NoMemory) ⊎ (whole ≡ Err told)
+fault_of_unreached_file_is_outcome w files n fault told whole less off is so_far (inl memory) = inl memory
+fault_of_unreached_file_is_outcome w files n fault told whole less off is so_far (inr same) =
+    inr (sym so_far ∙ file_off_walk_is_checked_for_fault w files n (Some fault) less off is ∙ ap (λ f. Err f) (sym same))

@@ -1,187 +1,178 @@
 -- Each line of loaded files parses.
-use Rattle.std.proofs.Common.{◌≡◌, ◌⊎◌, inl, inr, ℕ, zero, suc, ◌+◌, nat_eq, Bool, true, false, ◌||◌, if◌then◌else◌, List, [], ◌∷◌, ◌++◌, drop, length, option_map, Option, Some, None, Result, Ok, Err, refl, sym, ap, ◌∙◌}
-use Rattle.std.specs.List.{AllByRecursion, list_any}
-use Rattle.std.proofs.lemmas.Bool.{eqb-true}
-use Rattle.std.proofs.lemmas.List.Folds.{list_any-append}
-use Rattle.sudoers_tree.specs.declared.fault.ReadFault.{ReadFault}
-use Rattle.sudoers_tree.specs.declared.fault.SyntaxFault.{SyntaxFault}
-use Rattle.sudoers_tree.specs.declared.load.NamedFile.{NamedFile}
-use Rattle.sudoers_tree.specs.declared.load_fault.LoadFault.{LoadFault}
-use Rattle.sudoers_tree.specs.declared.place.Spot.{Spot}
-use Rattle.sudoers_tree.specs.Line.{Line}
-use Rattle.sudoers_tree.specs.Definition.{definitions, definitions_in}
-use Rattle.sudoers_tree.specs.Fault.{syntax_fault}
-use Rattle.sudoers_tree.specs.Reading.{first_name_fault, or_later}
-use Rattle.sudoers_tree.specs.Files.{FileReading, fault_in, fault_of, lines_of, name_of}
-use Rattle.sudoers_tree.specs.Walk.{Site, Visit, Walked, and_then, depth_limit, enter, is_on, leads_to, nothing, opened, site, spot_of, taken, twice, unless_in, visit, visit_each, walk_lines, walk_of}
-use Rattle.sudoers_tree.specs.Load.{Loaded, fault_off, load_of, reserved_in, unless_off}
-use Rattle.sudoers_tree.proofs.Numbered.{behind_first, first_at}
-use Rattle.sudoers_tree.proofs.WalkSound.{loaded_as}
+use Rattle.sudoers_tree.proofs.Common.{AllByRecursion, Bool, Err, FileVisit, IncludeSite, Line, List, LoadFault, LoadedPolicy, NamedFile, None, Ok, Option, ParsedFile, ReadFault, Result, Some, SyntaxFault}
+use Rattle.sudoers_tree.proofs.Common.{WalkLineSpot, WalkState, [], ap, definitions_in_line, definitions_of_lines, drop, empty_walk, eqb-true, false, fault_of_numbered_file, fault_of_optional_file}
+use Rattle.sudoers_tree.proofs.Common.{files_opened_by_lead, first_definition_fault, first_fault_of_unreached_file, first_of_two_faults, if◌then◌else◌, include_depth_limit, include_site_of_line, inl, inr}
+use Rattle.sudoers_tree.proofs.Common.{is_file_on_walk, lead_of_file_line, length, lines_of_numbered_file, list_any, list_any-append, load_result_and_then, name_of_numbered_file, nat_eq, option_map}
+use Rattle.sudoers_tree.proofs.Common.{policy_or_load_fault, refl, repeated_include_fault, reserved_name_fault_in_lines, spot_of_file_line, suc, sym, syntax_fault_as_read_fault, true, value_unless_file_fault}
+use Rattle.sudoers_tree.proofs.Common.{walk_after_file_lines, walk_after_file_visit, walk_after_file_visits, walk_or_fault_of_files, walk_or_unreached_file_fault, walk_with_file_entered, walk_with_line_appended}
+use Rattle.sudoers_tree.proofs.Common.{zero, ℕ, ◌++◌, ◌+◌, ◌||◌, ◌∙◌, ◌∷◌, ◌≡◌, ◌⊎◌}
+use Rattle.sudoers_tree.proofs.Numbered.{rest_of_drop_is_later_drop, first_of_drop_is_numbered_item}
+use Rattle.sudoers_tree.proofs.WalkSound.{loaded_policy_is_load_of_files}
 
-abbrev Outcome : Type 0
-Outcome = Result Walked LoadFault
+abbrev WalkOrLoadFault : Type 0
+WalkOrLoadFault = Result WalkState LoadFault
 
-ok_is : (w now : Walked) → (let r : Outcome = Ok w in r) ≡ Ok now → w ≡ now
-ok_is w now is = cc
+successful_walk_results_are_of_same_walk : (w now : WalkState) → (let r : WalkOrLoadFault = Ok w in r) ≡ Ok now → w ≡ now
+successful_walk_results_are_of_same_walk w now is = cc
 
 -- ---- files on the walk
 
 -- A file that is on the walk `now` was on the walk `w`, or has no fault.
-abbrev IsSoundBehind : List FileReading → Walked → Walked → Type 0
-IsSoundBehind files w now = (q : ℕ) → is_on now q ≡ true → (is_on w q ≡ true) ⊎ (fault_of files q ≡ None)
+abbrev AddsOnlyFaultlessFiles : List ParsedFile → WalkState → WalkState → Type 0
+AddsOnlyFaultlessFiles files w now = (q : ℕ) → is_file_on_walk now q ≡ true → (is_file_on_walk w q ≡ true) ⊎ (fault_of_numbered_file files q ≡ None)
 
-same_on : (files : List FileReading) (w now : Walked) → w.on ≡ now.on → IsSoundBehind files w now
-same_on files w now same = λ q on. inl (ap (list_any (nat_eq q)) same ∙ on)
+walk_of_same_files_adds_no_faulty_file : (files : List ParsedFile) (w now : WalkState) → w.on ≡ now.on → AddsOnlyFaultlessFiles files w now
+walk_of_same_files_adds_no_faulty_file files w now same = λ q on. inl (ap (list_any (nat_eq q)) same ∙ on)
 
-both : (files : List FileReading) (w within now : Walked) → IsSoundBehind files w within → IsSoundBehind files within now → IsSoundBehind files w now
-both files w within now first later = λ q on. by q (later q on)
+adding_faultless_files_is_transitive : (files : List ParsedFile) (w within now : WalkState) → AddsOnlyFaultlessFiles files w within → AddsOnlyFaultlessFiles files within now → AddsOnlyFaultlessFiles files w now
+adding_faultless_files_is_transitive files w within now first later = λ q on. by q (later q on)
   where
-    by : (q : ℕ) → (is_on within q ≡ true) ⊎ (fault_of files q ≡ None) → (is_on w q ≡ true) ⊎ (fault_of files q ≡ None)
+    by : (q : ℕ) → (is_file_on_walk within q ≡ true) ⊎ (fault_of_numbered_file files q ≡ None) → (is_file_on_walk w q ≡ true) ⊎ (fault_of_numbered_file files q ≡ None)
     by q (inl before) = first q before
     by q (inr none) = inr none
 
 -- The file that is entered has no fault either.
-entered : (files : List FileReading) (f : ℕ) (w now : Walked) → IsSoundBehind files (enter f w) now → fault_of files f ≡ None
-    → IsSoundBehind files w now
-entered files f w now inside none = λ q on. by q (inside q on)
+entering_faultless_file_adds_no_faulty_file : (files : List ParsedFile) (f : ℕ) (w now : WalkState) → AddsOnlyFaultlessFiles files (walk_with_file_entered f w) now → fault_of_numbered_file files f ≡ None
+    → AddsOnlyFaultlessFiles files w now
+entering_faultless_file_adds_no_faulty_file files f w now inside none = λ q on. by q (inside q on)
   where
-    by_or : (q : ℕ) (before here : Bool) → is_on w q ≡ before → nat_eq q f ≡ here → (before || (here || false)) ≡ true
-        → (is_on w q ≡ true) ⊎ (fault_of files q ≡ None)
+    by_or : (q : ℕ) (before here : Bool) → is_file_on_walk w q ≡ before → nat_eq q f ≡ here → (before || (here || false)) ≡ true
+        → (is_file_on_walk w q ≡ true) ⊎ (fault_of_numbered_file files q ≡ None)
     by_or q true here before now e = inl before
-    by_or q false true before now e = inr (ap (fault_of files) (eqb-true q f now) ∙ none)
+    by_or q false true before now e = inr (ap (fault_of_numbered_file files) (eqb-true q f now) ∙ none)
     by_or q false false before now e = absurd cc
 
-    by : (q : ℕ) → (is_on (enter f w) q ≡ true) ⊎ (fault_of files q ≡ None) → (is_on w q ≡ true) ⊎ (fault_of files q ≡ None)
-    by q (inl within) = by_or q (is_on w q) (nat_eq q f) refl refl (sym (list_any-append (nat_eq q) w.on (f ∷ [])) ∙ within)
+    by : (q : ℕ) → (is_file_on_walk (walk_with_file_entered f w) q ≡ true) ⊎ (fault_of_numbered_file files q ≡ None) → (is_file_on_walk w q ≡ true) ⊎ (fault_of_numbered_file files q ≡ None)
+    by q (inl within) = by_or q (is_file_on_walk w q) (nat_eq q f) refl refl (sym (list_any-append (nat_eq q) w.on (f ∷ [])) ∙ within)
     by q (inr sound) = inr sound
 
 -- no file that a visit appends has a fault
-abbrev IsSoundVisit : List FileReading → Visit → Type 0
-IsSoundVisit files visit = (at : Site) (f : ℕ) (w now : Walked) → visit at f w ≡ Ok now → IsSoundBehind files w now
+abbrev IsVisitOfFaultlessFiles : List ParsedFile → FileVisit → Type 0
+IsVisitOfFaultlessFiles files walk_after_file_visit = (at : IncludeSite) (f : ℕ) (w now : WalkState) → walk_after_file_visit at f w ≡ Ok now → AddsOnlyFaultlessFiles files w now
 
-each_sound : (visit : Visit) (files : List FileReading) → IsSoundVisit files visit → (at : Site) (inner : List ℕ) (w now : Walked)
-    → visit_each visit files at inner w ≡ Ok now → IsSoundBehind files w now
-each_sound visit files sound at [] w now is = same_on files w now (ap (λ (v : Walked). v.on) (ok_is w now is))
-each_sound visit files sound at (f ∷ rest) w now is = by_test (is_on w f) is (λ within. each_sound visit files sound at rest within now)
+visits_add_only_faultless_files : (visit : FileVisit) (files : List ParsedFile) → IsVisitOfFaultlessFiles files visit → (at : IncludeSite) (inner : List ℕ) (w now : WalkState)
+    → walk_after_file_visits visit files at inner w ≡ Ok now → AddsOnlyFaultlessFiles files w now
+visits_add_only_faultless_files visit files sound at [] w now is = walk_of_same_files_adds_no_faulty_file files w now (ap (λ (v : WalkState). v.on) (successful_walk_results_are_of_same_walk w now is))
+visits_add_only_faultless_files visit files sound at (f ∷ rest) w now is = by_test (is_file_on_walk w f) is (λ within. visits_add_only_faultless_files visit files sound at rest within now)
   where
     Later : Type 0
-    Later = (within : Walked) → visit_each visit files at rest within ≡ Ok now → IsSoundBehind files within now
+    Later = (within : WalkState) → walk_after_file_visits visit files at rest within ≡ Ok now → AddsOnlyFaultlessFiles files within now
 
-    by_visit : (r : Outcome) → visit at f w ≡ r → and_then r (visit_each visit files at rest) ≡ Ok now → Later → IsSoundBehind files w now
-    by_visit (Ok within) v e later = both files w within now (sound at f w within v) (later within e)
+    by_visit : (r : WalkOrLoadFault) → visit at f w ≡ r → load_result_and_then r (walk_after_file_visits visit files at rest) ≡ Ok now → Later → AddsOnlyFaultlessFiles files w now
+    by_visit (Ok within) v e later = adding_faultless_files_is_transitive files w within now (sound at f w within v) (later within e)
     by_visit (Err fault) v e later = absurd cc
 
-    by_test : (b : Bool) → (if b then Err (twice files at f) else and_then (visit at f w) (visit_each visit files at rest)) ≡ Ok now → Later
-        → IsSoundBehind files w now
+    by_test : (b : Bool) → (if b then Err (repeated_include_fault files at f) else load_result_and_then (visit at f w) (walk_after_file_visits visit files at rest)) ≡ Ok now → Later
+        → AddsOnlyFaultlessFiles files w now
     by_test true e later = absurd cc
     by_test false e later = by_visit (visit at f w) refl e later
 
-taken_sound : (files : List FileReading) (name : List ℕ) (at : Spot) (line : Line) (w now : Walked) → taken name at line w ≡ Ok now
-    → IsSoundBehind files w now
-taken_sound files name at line w now is = by (first_name_fault (definitions w.lines) (definitions_in (length w.lines) line.node)) is
+appended_line_adds_no_faulty_file : (files : List ParsedFile) (name : List ℕ) (at : WalkLineSpot) (line : Line) (w now : WalkState) → walk_with_line_appended name at line w ≡ Ok now
+    → AddsOnlyFaultlessFiles files w now
+appended_line_adds_no_faulty_file files name at line w now is = by (first_definition_fault (definitions_of_lines w.lines) (definitions_in_line (length w.lines) line.node)) is
   where
-    next : Walked
+    next : WalkState
     next = record { lines = w.lines ++ line ∷ []; spots = w.spots ++ at ∷ []; on = w.on }
 
-    by : (o : Option ReadFault) → unless_in name next o ≡ Ok now → IsSoundBehind files w now
-    by None e = same_on files w now (ap (λ (v : Walked). v.on) (ok_is next now e))
+    by : (o : Option ReadFault) → value_unless_file_fault name next o ≡ Ok now → AddsOnlyFaultlessFiles files w now
+    by None e = walk_of_same_files_adds_no_faulty_file files w now (ap (λ (v : WalkState). v.on) (successful_walk_results_are_of_same_walk next now e))
     by (Some fault) e = absurd cc
 
 -- Where the lines of a file are passed, it has no fault, and no file to which they lead has one.
-lines_sound : (visit : Visit) (files : List FileReading) → IsSoundVisit files visit → (f n : ℕ) (lines : List Line) (w now : Walked)
-    → walk_lines visit files f n lines w ≡ Ok now → IsSoundBehind files w now × (fault_of files f ≡ None)
-lines_sound visit files sound f n [] w now is = by (fault_of files f) refl is
+walked_file_lines_add_no_faulty_file : (visit : FileVisit) (files : List ParsedFile) → IsVisitOfFaultlessFiles files visit → (f n : ℕ) (lines : List Line) (w now : WalkState)
+    → walk_after_file_lines visit files f n lines w ≡ Ok now → AddsOnlyFaultlessFiles files w now × (fault_of_numbered_file files f ≡ None)
+walked_file_lines_add_no_faulty_file visit files sound f n [] w now is = by (fault_of_numbered_file files f) refl is
   where
-    by : (o : Option SyntaxFault) → fault_of files f ≡ o → unless_in (name_of files f) w (option_map syntax_fault o) ≡ Ok now
-        → IsSoundBehind files w now × (fault_of files f ≡ None)
-    by None none e = (same_on files w now (ap (λ (v : Walked). v.on) (ok_is w now e)), none)
+    by : (o : Option SyntaxFault) → fault_of_numbered_file files f ≡ o → value_unless_file_fault (name_of_numbered_file files f) w (option_map syntax_fault_as_read_fault o) ≡ Ok now
+        → AddsOnlyFaultlessFiles files w now × (fault_of_numbered_file files f ≡ None)
+    by None none e = (walk_of_same_files_adds_no_faulty_file files w now (ap (λ (v : WalkState). v.on) (successful_walk_results_are_of_same_walk w now e)), none)
     by (Some fault) none e = absurd cc
-lines_sound visit files sound f n (line ∷ lines) w now is =
-    by_taken (taken (name_of files f) (spot_of files f n) line w) refl is (λ within. lines_sound visit files sound f (n + 1) lines within now)
+walked_file_lines_add_no_faulty_file visit files sound f n (line ∷ lines) w now is =
+    by_taken (walk_with_line_appended (name_of_numbered_file files f) (spot_of_file_line files f n) line w) refl is (λ within. walked_file_lines_add_no_faulty_file visit files sound f (n + 1) lines within now)
   where
-    Wanted : Walked → Type 0
-    Wanted from = IsSoundBehind files from now × (fault_of files f ≡ None)
+    Wanted : WalkState → Type 0
+    Wanted from = AddsOnlyFaultlessFiles files from now × (fault_of_numbered_file files f ≡ None)
 
     Later : Type 0
-    Later = (within : Walked) → walk_lines visit files f (n + 1) lines within ≡ Ok now → Wanted within
+    Later = (within : WalkState) → walk_after_file_lines visit files f (n + 1) lines within ≡ Ok now → Wanted within
 
-    by_each : (r : Outcome) (passed : Walked) (inner : List ℕ) → visit_each visit files (site files f n) inner passed ≡ r
-        → and_then r (walk_lines visit files f (n + 1) lines) ≡ Ok now → Later → Wanted passed
+    by_each : (r : WalkOrLoadFault) (passed : WalkState) (inner : List ℕ) → walk_after_file_visits visit files (include_site_of_line files f n) inner passed ≡ r
+        → load_result_and_then r (walk_after_file_lines visit files f (n + 1) lines) ≡ Ok now → Later → Wanted passed
     by_each (Ok within) passed inner v e later =
         let behind = later within e in
-        (both files passed within now (each_sound visit files sound (site files f n) inner passed within v) behind.0, behind.1)
+        (adding_faultless_files_is_transitive files passed within now (visits_add_only_faultless_files visit files sound (include_site_of_line files f n) inner passed within v) behind.0, behind.1)
     by_each (Err fault) passed inner v e later = absurd cc
 
-    by_opened : (r : Result (List ℕ) LoadFault) (passed : Walked)
-        → and_then r (λ inner. and_then (visit_each visit files (site files f n) inner passed) (walk_lines visit files f (n + 1) lines)) ≡ Ok now
+    by_opened : (r : Result (List ℕ) LoadFault) (passed : WalkState)
+        → load_result_and_then r (λ inner. load_result_and_then (walk_after_file_visits visit files (include_site_of_line files f n) inner passed) (walk_after_file_lines visit files f (n + 1) lines)) ≡ Ok now
         → Later → Wanted passed
-    by_opened (Ok inner) passed e later = by_each (visit_each visit files (site files f n) inner passed) passed inner refl e later
+    by_opened (Ok inner) passed e later = by_each (walk_after_file_visits visit files (include_site_of_line files f n) inner passed) passed inner refl e later
     by_opened (Err fault) passed e later = absurd cc
 
-    by_taken : (r : Outcome) → taken (name_of files f) (spot_of files f n) line w ≡ r
-        → and_then r (λ passed. and_then (opened files (site files f n) passed (leads_to files f line)) (λ inner.
-        and_then (visit_each visit files (site files f n) inner passed) (walk_lines visit files f (n + 1) lines))) ≡ Ok now → Later → Wanted w
+    by_taken : (r : WalkOrLoadFault) → walk_with_line_appended (name_of_numbered_file files f) (spot_of_file_line files f n) line w ≡ r
+        → load_result_and_then r (λ passed. load_result_and_then (files_opened_by_lead files (include_site_of_line files f n) passed (lead_of_file_line files f line)) (λ inner.
+        load_result_and_then (walk_after_file_visits visit files (include_site_of_line files f n) inner passed) (walk_after_file_lines visit files f (n + 1) lines))) ≡ Ok now → Later → Wanted w
     by_taken (Ok passed) t e later =
-        let behind = by_opened (opened files (site files f n) passed (leads_to files f line)) passed e later in
-        (both files w passed now (taken_sound files (name_of files f) (spot_of files f n) line w passed t) behind.0, behind.1)
+        let behind = by_opened (files_opened_by_lead files (include_site_of_line files f n) passed (lead_of_file_line files f line)) passed e later in
+        (adding_faultless_files_is_transitive files w passed now (appended_line_adds_no_faulty_file files (name_of_numbered_file files f) (spot_of_file_line files f n) line w passed t) behind.0, behind.1)
     by_taken (Err fault) t e later = absurd cc
 
-visit_sound : (files : List FileReading) (left : ℕ) → IsSoundVisit files (visit left files)
-visit_sound files zero at f w now is = absurd cc
-visit_sound files (suc left) at f w now is =
-    let inside = lines_sound (visit left files) files (visit_sound files left) f 0 (lines_of files f) (enter f w) now is in
-    entered files f w now inside.0 inside.1
+visit_adds_only_faultless_files : (files : List ParsedFile) (left : ℕ) → IsVisitOfFaultlessFiles files (walk_after_file_visit left files)
+visit_adds_only_faultless_files files zero at f w now is = absurd cc
+visit_adds_only_faultless_files files (suc left) at f w now is =
+    let inside = walked_file_lines_add_no_faulty_file (walk_after_file_visit left files) files (visit_adds_only_faultless_files files left) f 0 (lines_of_numbered_file files f) (walk_with_file_entered f w) now is in
+    entering_faultless_file_adds_no_faulty_file files f w now inside.0 inside.1
 
 -- No file on the walk has a fault.
-walk_sound : (files : List FileReading) (w : Walked) → walk_of files ≡ Ok w → (q : ℕ) → is_on w q ≡ true → fault_of files q ≡ None
-unfolding walk_of
-walk_sound files w is q on =
-    let all = lines_sound (visit depth_limit files) files (visit_sound files depth_limit) 0 0 (lines_of files 0) (enter 0 nothing) w is in
-    by (entered files 0 nothing w all.0 all.1 q on)
+file_on_walk_has_no_fault : (files : List ParsedFile) (w : WalkState) → walk_or_fault_of_files files ≡ Ok w → (q : ℕ) → is_file_on_walk w q ≡ true → fault_of_numbered_file files q ≡ None
+unfolding walk_or_fault_of_files
+file_on_walk_has_no_fault files w is q on =
+    let all = walked_file_lines_add_no_faulty_file (walk_after_file_visit include_depth_limit files) files (visit_adds_only_faultless_files files include_depth_limit) 0 0 (lines_of_numbered_file files 0) (walk_with_file_entered 0 empty_walk) w is in
+    by (entering_faultless_file_adds_no_faulty_file files 0 empty_walk w all.0 all.1 q on)
   where
-    by : (is_on nothing q ≡ true) ⊎ (fault_of files q ≡ None) → fault_of files q ≡ None
+    by : (is_file_on_walk empty_walk q ≡ true) ⊎ (fault_of_numbered_file files q ≡ None) → fault_of_numbered_file files q ≡ None
     by (inl before) = absurd cc
     by (inr none) = none
 
 -- ---- all files
 
 -- each line of the file parses
-abbrev pub Parses : FileReading → Type 0
-Parses file = file.fault ≡ None
+abbrev pub IsParsedWithoutFault : ParsedFile → Type 0
+IsParsedWithoutFault file = file.fault ≡ None
 
-off_parses : (file : FileReading) → fault_off file ≡ None → Parses file
-off_parses file is = by_later (reserved_in file.lines) is
+faultless_unreached_file_is_parsed : (file : ParsedFile) → first_fault_of_unreached_file file ≡ None → IsParsedWithoutFault file
+faultless_unreached_file_is_parsed file is = by_later (reserved_name_fault_in_lines file.lines) is
   where
-    by_fault : (o : Option SyntaxFault) → option_map syntax_fault o ≡ None → o ≡ None
+    by_fault : (o : Option SyntaxFault) → option_map syntax_fault_as_read_fault o ≡ None → o ≡ None
     by_fault None none = refl
     by_fault (Some fault) none = absurd cc
 
-    by_later : (o : Option ReadFault) → or_later o (option_map syntax_fault file.fault) ≡ None → Parses file
+    by_later : (o : Option ReadFault) → first_of_two_faults o (option_map syntax_fault_as_read_fault file.fault) ≡ None → IsParsedWithoutFault file
     by_later None none = by_fault file.fault none
     by_later (Some fault) none = absurd cc
 
--- A file on the walk parses since the walk has no fault, and one that is not on it since `unless_off` has none.
-files_parse : (all : List FileReading) (w now : Walked) → ((q : ℕ) → is_on w q ≡ true → fault_of all q ≡ None) → (n : ℕ) (files : List FileReading)
-    → files ≡ drop n all → unless_off w n files ≡ Ok now → AllByRecursion Parses files
-files_parse all w now sound n [] from is = tt
-files_parse all w now sound n (file ∷ files) from is =
-    by_test (is_on w n) refl is (files_parse all w now sound (n + 1) files (behind_first files all n file from))
+-- A file on the walk parses since the walk has no fault, and one that is not on it since `walk_or_unreached_file_fault` has none.
+checked_files_are_parsed_without_fault : (all : List ParsedFile) (w now : WalkState) → ((q : ℕ) → is_file_on_walk w q ≡ true → fault_of_numbered_file all q ≡ None) → (n : ℕ) (files : List ParsedFile)
+    → files ≡ drop n all → walk_or_unreached_file_fault w n files ≡ Ok now → AllByRecursion IsParsedWithoutFault files
+checked_files_are_parsed_without_fault all w now sound n [] from is = tt
+checked_files_are_parsed_without_fault all w now sound n (file ∷ files) from is =
+    by_test (is_file_on_walk w n) refl is (checked_files_are_parsed_without_fault all w now sound (n + 1) files (rest_of_drop_is_later_drop files all n file from))
   where
     Later : Type 0
-    Later = unless_off w (n + 1) files ≡ Ok now → AllByRecursion Parses files
+    Later = walk_or_unreached_file_fault w (n + 1) files ≡ Ok now → AllByRecursion IsParsedWithoutFault files
 
-    by_fault : (o : Option ReadFault) → fault_off file ≡ o → and_then (unless_in file.name w o) (λ same. unless_off w (n + 1) files) ≡ Ok now → Later
-        → Parses file × AllByRecursion Parses files
-    by_fault None none e later = (off_parses file none, later e)
+    by_fault : (o : Option ReadFault) → first_fault_of_unreached_file file ≡ o → load_result_and_then (value_unless_file_fault file.name w o) (λ same. walk_or_unreached_file_fault w (n + 1) files) ≡ Ok now → Later
+        → IsParsedWithoutFault file × AllByRecursion IsParsedWithoutFault files
+    by_fault None none e later = (faultless_unreached_file_is_parsed file none, later e)
     by_fault (Some fault) none e later = absurd cc
 
-    by_test : (b : Bool) → is_on w n ≡ b
-        → and_then (if b then Ok w else unless_in file.name w (fault_off file)) (λ same. unless_off w (n + 1) files) ≡ Ok now → Later
-        → Parses file × AllByRecursion Parses files
-    by_test true on e later = (ap fault_in (sym (first_at files all n file from)) ∙ sound n on, later e)
-    by_test false off e later = by_fault (fault_off file) refl e later
+    by_test : (b : Bool) → is_file_on_walk w n ≡ b
+        → load_result_and_then (if b then Ok w else value_unless_file_fault file.name w (first_fault_of_unreached_file file)) (λ same. walk_or_unreached_file_fault w (n + 1) files) ≡ Ok now → Later
+        → IsParsedWithoutFault file × AllByRecursion IsParsedWithoutFault files
+    by_test true on e later = (ap fault_of_optional_file (sym (first_of_drop_is_numbered_item files all n file from)) ∙ sound n on, later e)
+    by_test false off e later = by_fault (first_fault_of_unreached_file file) refl e later
 
-pub loaded_parse : (files : List NamedFile) (p : Loaded) → load_of files ≡ Ok p → AllByRecursion Parses p.files
-loaded_parse files p is =
-    let load = loaded_as files p is in
-    files_parse p.files p.walk p.walk (walk_sound p.files p.walk load.walks) 0 p.files refl load.off
+pub loaded_files_are_parsed_without_fault : (files : List NamedFile) (p : LoadedPolicy) → policy_or_load_fault files ≡ Ok p → AllByRecursion IsParsedWithoutFault p.files
+loaded_files_are_parsed_without_fault files p is =
+    let load = loaded_policy_is_load_of_files files p is in
+    checked_files_are_parsed_without_fault p.files p.walk p.walk (file_on_walk_has_no_fault p.files p.walk load.walks) 0 p.files refl load.off

@@ -1,47 +1,25 @@
 -- Lines that are appended to the walk, one after another.
-use Rattle.std.proofs.Common.{◌≡◌, ℕ, ◌+◌, ◌⊎◌, inl, inr, List, [], ◌∷◌, ◌++◌, length, Some, None, Ok, Err, refl, sym, ap, subst, append-nil, ◌∙◌}
-use Rattle.sudoers_line.specs.Node.{Node}
-use Rattle.sudoers_line.specs.Node as node
-use Rattle.sudoers_tree.specs.Line.{Line}
-use Rattle.sudoers_tree.specs.Kind.{line_kind}
-use Rattle.sudoers_tree.specs.declared.index.Index.{Index}
-use Rattle.sudoers_tree.specs.declared.kind.LineKind.TheVariants.{Alias}
-use Rattle.sudoers_tree.specs.declared.fault.ReadFault.{ReadFault}
-use Rattle.sudoers_tree.specs.declared.fault.ReadFault.TheVariants.{Text, Syntax, Reserved, Duplicate, TooMany, NotLoaded, Twice, TooDeep, NoMemory}
-use Rattle.sudoers_tree.specs.Definition.{Definition, definitions, definitions_in}
-use Rattle.sudoers_tree.specs.internal.Index.{Enters, Indexes}
-use Rattle.sudoers_tree.specs.Reading.{first_name_fault}
-use Rattle.sudoers_tree.proofs.Joined.{definitions_push}
-use Rattle.sudoers_tree.proofs.Sound.{none_append}
+use Rattle.sudoers_tree.proofs.Common.{AliasNameIndex, Duplicate, Err, IsIndexEntryOutcome, Line, List, Node, None, NotLoaded, PlacedDefinition, ReadFault, Reserved, Some, Syntax, Text, TooDeep, TooMany, Twice, []}
+use Rattle.sudoers_tree.proofs.Common.{ap, definitions_in_line, definitions_of_lines, first_definition_fault, inl, inr, length, refl, ◌++◌, ◌+◌, ◌∙◌, ◌∷◌, ◌≡◌, ◌⊎◌}
+use Rattle.sudoers_grammar.specs.Node as node
+use Rattle.sudoers_tree.specs.declared.fault.ReadFault.TheVariants.{NoMemory}
+use Rattle.sudoers_tree.proofs.Joined.{definitions_with_last_line_are_appended}
+use Rattle.sudoers_tree.proofs.Sound.{faultless_parts_have_faultless_append}
 
--- A line of another kind defines no name.
-none_defined : (n : ℕ) (says : Node) → (line_kind says ≡ Alias → ⊥) → definitions_in n says ≡ []
-none_defined n (node.Alias k defs) other = absurd (other refl)
-none_defined n node.Blank other = refl
-none_defined n node.Comment other = refl
-none_defined n (node.Include dir path) other = refl
-none_defined n (node.Defaults scope params) other = refl
-none_defined n (node.Spec users groups) other = refl
-
-pub none_entered : (index : Index) (before : List Definition) (n : ℕ) (says : Node) → (line_kind says ≡ Alias → ⊥) → Indexes index before
-    → Enters (Ok tt) index before (definitions_in n says)
-none_entered index before n says other indexed =
-    subst (Enters (Ok tt) index before) (sym (none_defined n says other)) (subst (Indexes index) (sym (append-nil before)) indexed, refl)
-
-pub line_passed : (walk : List Line) (line : Line) → first_name_fault [] (definitions walk) ≡ None
-    → first_name_fault (definitions walk) (definitions_in (length walk) line.node) ≡ None → first_name_fault [] (definitions (walk ++ line ∷ [])) ≡ None
-line_passed walk line none here =
-    ap (first_name_fault []) (definitions_push walk line) ∙ none_append (definitions walk) (definitions_in (length walk) line.node) none here
+pub faultless_line_keeps_walk_faultless : (walk : List Line) (line : Line) → first_definition_fault [] (definitions_of_lines walk) ≡ None
+    → first_definition_fault (definitions_of_lines walk) (definitions_in_line (length walk) line.node) ≡ None → first_definition_fault [] (definitions_of_lines (walk ++ line ∷ [])) ≡ None
+faultless_line_keeps_walk_faultless walk line none here =
+    ap (first_definition_fault []) (definitions_with_last_line_are_appended walk line) ∙ faultless_parts_have_faultless_append (definitions_of_lines walk) (definitions_in_line (length walk) line.node) none here
 
 -- a name that cannot be entered
-pub not_entered : (fault : ReadFault) (index : Index) (before ds : List Definition) → Enters (Err fault) index before ds
-    → (fault ≡ NoMemory) ⊎ (first_name_fault before ds ≡ Some fault)
-not_entered (Text fault) index before ds is = inr is
-not_entered (Syntax row col why) index before ds is = inr is
-not_entered (Reserved k name) index before ds is = inr is
-not_entered (Duplicate k name) index before ds is = inr is
-not_entered (TooMany k) index before ds is = inr is
-not_entered (NotLoaded row name) index before ds is = inr is
-not_entered (Twice row name) index before ds is = inr is
-not_entered (TooDeep row) index before ds is = inr is
-not_entered NoMemory index before ds is = inl refl
+pub refused_index_entry_is_definition_fault : (fault : ReadFault) (index : AliasNameIndex) (before ds : List PlacedDefinition) → IsIndexEntryOutcome (Err fault) index before ds
+    → (fault ≡ NoMemory) ⊎ (first_definition_fault before ds ≡ Some fault)
+refused_index_entry_is_definition_fault (Text fault) index before ds is = inr is
+refused_index_entry_is_definition_fault (Syntax row col why) index before ds is = inr is
+refused_index_entry_is_definition_fault (Reserved k name) index before ds is = inr is
+refused_index_entry_is_definition_fault (Duplicate k name) index before ds is = inr is
+refused_index_entry_is_definition_fault (TooMany k) index before ds is = inr is
+refused_index_entry_is_definition_fault (NotLoaded row name) index before ds is = inr is
+refused_index_entry_is_definition_fault (Twice row name) index before ds is = inr is
+refused_index_entry_is_definition_fault (TooDeep row) index before ds is = inr is
+refused_index_entry_is_definition_fault NoMemory index before ds is = inl refl

@@ -1,97 +1,86 @@
 -- Lines of a text, up to the first that does not parse.
-use Rattle.std.proofs.Common.{◌≡◌, ℕ, ◌+◌, List, [], ◌∷◌, ◌++◌, take, Option, Some, None, Result, Ok, Err, refl, sym, ap, ap₂, subst, ◌∙◌, append_assoc, append-nil, arith}
-use Rattle.std.specs.List.{AllByRecursion}
-use Rattle.sudoers_text.specs.Fault.{lf_count}
-use Rattle.sudoers_text.specs.Line.{join}
-use Rattle.sudoers_line.specs.declared.fault.LineFault.{LineFault}
-use Rattle.sudoers_line.specs.declared.fault.LineFault.TheVariants as line_fault
-use Rattle.sudoers_line.specs.declared.fault.Why.{Why}
-use Rattle.sudoers_line.specs.Node.{Node}
-use Rattle.sudoers_line_reader.specs.Outcome.{outcome_of}
-use Rattle.sudoers_line_reader.specs.Outcome.{IsOutcome as IsLineOutcome}
-use Rattle.sudoers_tree.specs.declared.fault.SyntaxFault.{SyntaxFault}
-use Rattle.sudoers_tree.specs.Line.{Line}
-use Rattle.sudoers_tree.specs.Physical.{row_behind}
-use Rattle.sudoers_tree.specs.Policy.{SaysSo, texts}
-use Rattle.sudoers_tree.specs.Fault.{IsSyntaxFault}
-use Rattle.sudoers_tree.specs.Files.{Reads, whole, broken, fault_at, going_on, read_until, with_first}
-use Rattle.sudoers_tree.proofs.Joined.{lf_append}
-use Rattle.sudoers_tree.proofs.OneOutcome.{NoFault, OneFault, OneLine, OneReading, one_line}
-use Rattle.sudoers_tree.proofs.Outcomes.{LinesAre, all_more, texts_more}
+use Rattle.sudoers_tree.proofs.Common.{AllByRecursion, AreParsedUntilFault, Err, IsCorrectlyParsed, IsLineOutcome, IsSyntaxFaultAfterLines, Line, LineFault, List, Node, None, Ok, Option, Result, Some, SyntaxFault}
+use Rattle.sudoers_tree.proofs.Common.{Why, [], ap, append-nil, append_assoc, ap₂, arith, join, lf_count, line_before_parsed_lines, lines_parsed_until_fault, outcome_of_line, parsed_lines_from_outcome}
+use Rattle.sudoers_tree.proofs.Common.{physical_line_after_bytes, refl, subst, sym, syntax_fault_at_byte, take, texts_of_lines, whole, ℕ, ◌++◌, ◌+◌, ◌∙◌, ◌∷◌, ◌≡◌}
+use Rattle.sudoers_grammar.specs.declared.fault.LineFault.TheVariants as line_fault
+use Rattle.sudoers_tree.specs.Files.{broken}
+use Rattle.sudoers_tree.proofs.Joined.{lf_count_adds_over_append}
+use Rattle.sudoers_tree.proofs.OneOutcome.{ParsedLineHasNoSyntaxFault, LineHasUniqueSyntaxFault, LineOutcomeIsComputedOutcome, LineHasUniqueNode, line_outcome_is_computed_outcome}
+use Rattle.sudoers_tree.proofs.Outcomes.{ComputedLineOutcomesAreLineOutcomes, last_parsed_line_keeps_lines_parsed, texts_with_line_moved_to_front_are_same}
 
 -- lines, and the fault of the one after them
-abbrev LinesRead : Type 0
-LinesRead = List Line × Option SyntaxFault
+abbrev ParsedLinesAndFault : Type 0
+ParsedLinesAndFault = List Line × Option SyntaxFault
 
 -- the physical line of a byte of the line after others
-pub row_in : (before : List Line) (text : List ℕ) (at : ℕ)
-    → row_behind (join (texts before) ++ take at text) ≡ row_behind (join (texts before)) + lf_count (take at text)
-row_in before text at = omega (arith, lf_append (join (texts before)) (take at text))
+pub physical_line_in_line_adds_lf_count : (before : List Line) (text : List ℕ) (at : ℕ)
+    → physical_line_after_bytes (join (texts_of_lines before) ++ take at text) ≡ physical_line_after_bytes (join (texts_of_lines before)) + lf_count (take at text)
+physical_line_in_line_adds_lf_count before text at = omega (arith, lf_count_adds_over_append (join (texts_of_lines before)) (take at text))
 
 -- ---- the computed outcome is the defined one
 
 -- this is the outcome of these texts after the lines `before`
-abbrev ReadsBehind : List Line → List (List ℕ) → LinesRead → Type 0
-ReadsBehind before more read = Reads (texts before ++ more) (before ++ read.0) read.1
+abbrev AreParsedAfterLines : List Line → List (List ℕ) → ParsedLinesAndFault → Type 0
+AreParsedAfterLines before more read = AreParsedUntilFault (texts_of_lines before ++ more) (before ++ read.0) read.1
 
-one_more : (before : List Line) (line : Line) (more : List (List ℕ)) (read : LinesRead) → ReadsBehind (before ++ line ∷ []) more read
-    → ReadsBehind before (line.text ∷ more) (with_first line read)
-one_more before line more read is =
-    subst (λ ls. Reads (texts before ++ line.text ∷ more) ls read.1) (append_assoc before (line ∷ []) read.0)
-    (subst (λ ts. Reads ts ((before ++ line ∷ []) ++ read.0) read.1) (sym (texts_more before line more)) is)
+parsed_line_extends_lines_parsed_after : (before : List Line) (line : Line) (more : List (List ℕ)) (read : ParsedLinesAndFault) → AreParsedAfterLines (before ++ line ∷ []) more read
+    → AreParsedAfterLines before (line.text ∷ more) (line_before_parsed_lines line read)
+parsed_line_extends_lines_parsed_after before line more read is =
+    subst (λ ls. AreParsedUntilFault (texts_of_lines before ++ line.text ∷ more) ls read.1) (append_assoc before (line ∷ []) read.0)
+    (subst (λ ts. AreParsedUntilFault ts ((before ++ line ∷ []) ++ read.0) read.1) (sym (texts_with_line_moved_to_front_are_same before line more)) is)
 
-no_more : (before : List Line) → AllByRecursion SaysSo before → ReadsBehind before [] ([], None)
-no_more before says =
+no_texts_are_parsed_after_lines : (before : List Line) → AllByRecursion IsCorrectlyParsed before → AreParsedAfterLines before [] ([], None)
+no_texts_are_parsed_after_lines before says =
     let same : before ++ [] ≡ before = append-nil before in
-    subst (λ ls. Reads (texts before ++ []) ls None) (sym same) (subst (λ ts. Reads ts before None) (sym (append-nil (texts before))) (whole before says))
+    subst (λ ls. AreParsedUntilFault (texts_of_lines before ++ []) ls None) (sym same) (subst (λ ts. AreParsedUntilFault ts before None) (sym (append-nil (texts_of_lines before))) (whole before says))
 
-stopped : (before : List Line) (text : List ℕ) (more : List (List ℕ)) (at : ℕ) (why : Why) → AllByRecursion SaysSo before → IsLineOutcome text (Err (line_fault.Syntax at why))
-    → ReadsBehind before (text ∷ more) ([], Some (fault_at (row_behind (join (texts before))) text at why))
-stopped before text more at why says first =
-    let fault : SyntaxFault = fault_at (row_behind (join (texts before))) text at why in
-    let wrong : IsSyntaxFault before text fault.line fault.col fault.why = record { at = at; first = first; row_is = sym (row_in before text at); col_is = refl } in
-    subst (λ ls. Reads (texts before ++ text ∷ more) ls (Some fault)) (sym (append-nil before)) (broken before text more fault says wrong)
+syntax_fault_ends_lines_parsed_after : (before : List Line) (text : List ℕ) (more : List (List ℕ)) (at : ℕ) (why : Why) → AllByRecursion IsCorrectlyParsed before → IsLineOutcome text (Err (line_fault.Syntax at why))
+    → AreParsedAfterLines before (text ∷ more) ([], Some (syntax_fault_at_byte (physical_line_after_bytes (join (texts_of_lines before))) text at why))
+syntax_fault_ends_lines_parsed_after before text more at why says first =
+    let fault : SyntaxFault = syntax_fault_at_byte (physical_line_after_bytes (join (texts_of_lines before))) text at why in
+    let wrong : IsSyntaxFaultAfterLines before text fault.line fault.col fault.why = record { at = at; first = first; row_is = sym (physical_line_in_line_adds_lf_count before text at); col_is = refl } in
+    subst (λ ls. AreParsedUntilFault (texts_of_lines before ++ text ∷ more) ls (Some fault)) (sym (append-nil before)) (broken before text more fault says wrong)
 
-reads_from : LinesAre → (before : List Line) (lines : List (List ℕ)) → AllByRecursion SaysSo before → ReadsBehind before lines (read_until before lines)
-reads_from are before [] says = no_more before says
-reads_from are before (text ∷ more) says = by (outcome_of text) (are text) (λ line. reads_from are (before ++ line ∷ []) more)
+computed_lines_are_parsed_after_lines : ComputedLineOutcomesAreLineOutcomes → (before : List Line) (lines : List (List ℕ)) → AllByRecursion IsCorrectlyParsed before → AreParsedAfterLines before lines (lines_parsed_until_fault before lines)
+computed_lines_are_parsed_after_lines are before [] says = no_texts_are_parsed_after_lines before says
+computed_lines_are_parsed_after_lines are before (text ∷ more) says = by (outcome_of_line text) (are text) (λ line. computed_lines_are_parsed_after_lines are (before ++ line ∷ []) more)
   where
     by : (r : Result Node LineFault) → IsLineOutcome text r
-        → ((line : Line) → AllByRecursion SaysSo (before ++ line ∷ []) → ReadsBehind (before ++ line ∷ []) more (read_until (before ++ line ∷ []) more))
-        → ReadsBehind before (text ∷ more) (going_on before text r (λ line. read_until (before ++ line ∷ []) more))
+        → ((line : Line) → AllByRecursion IsCorrectlyParsed (before ++ line ∷ []) → AreParsedAfterLines (before ++ line ∷ []) more (lines_parsed_until_fault (before ++ line ∷ []) more))
+        → AreParsedAfterLines before (text ∷ more) (parsed_lines_from_outcome before text r (λ line. lines_parsed_until_fault (before ++ line ∷ []) more))
     by (Ok n) reads later =
         let line : Line = record { text = text; node = n } in
-        one_more before line more (read_until (before ++ line ∷ []) more) (later line (all_more before line says reads))
-    by (Err (line_fault.Syntax at why)) first later = stopped before text more at why says first
+        parsed_line_extends_lines_parsed_after before line more (lines_parsed_until_fault (before ++ line ∷ []) more) (later line (last_parsed_line_keeps_lines_parsed before line says reads))
+    by (Err (line_fault.Syntax at why)) first later = syntax_fault_ends_lines_parsed_after before text more at why says first
     by (Err line_fault.NoMemory) is later = absurd is
 
-pub reads_as : LinesAre → (lines : List (List ℕ)) → Reads lines (read_until [] lines).0 (read_until [] lines).1
-reads_as are lines = reads_from are [] lines tt
+pub computed_lines_are_parsed_until_fault : ComputedLineOutcomesAreLineOutcomes → (lines : List (List ℕ)) → AreParsedUntilFault lines (lines_parsed_until_fault [] lines).0 (lines_parsed_until_fault [] lines).1
+computed_lines_are_parsed_until_fault are lines = computed_lines_are_parsed_after_lines are [] lines tt
 
 -- ---- there is no other outcome
 
-read_past : OneLine → (before lines : List Line) (more : List (List ℕ)) → AllByRecursion SaysSo lines
-    → read_until before (texts lines ++ more) ≡ (lines ++ (read_until (before ++ lines) more).0, (read_until (before ++ lines) more).1)
-read_past one before [] more says = ap (λ ls. read_until ls more) (sym (append-nil before))
-read_past one before (line ∷ lines) more says =
-    ap (λ o. going_on before line.text o (λ l. read_until (before ++ l ∷ []) (texts lines ++ more))) (one line.text (Ok line.node) says.0)
-    ∙ ap (with_first line) (read_past one (before ++ line ∷ []) lines more says.1)
-    ∙ ap (λ ls. with_first line (lines ++ (read_until ls more).0, (read_until ls more).1)) (append_assoc before (line ∷ []) lines)
+parsing_passes_parsed_lines : LineOutcomeIsComputedOutcome → (before lines : List Line) (more : List (List ℕ)) → AllByRecursion IsCorrectlyParsed lines
+    → lines_parsed_until_fault before (texts_of_lines lines ++ more) ≡ (lines ++ (lines_parsed_until_fault (before ++ lines) more).0, (lines_parsed_until_fault (before ++ lines) more).1)
+parsing_passes_parsed_lines one before [] more says = ap (λ ls. lines_parsed_until_fault ls more) (sym (append-nil before))
+parsing_passes_parsed_lines one before (line ∷ lines) more says =
+    ap (λ o. parsed_lines_from_outcome before line.text o (λ l. lines_parsed_until_fault (before ++ l ∷ []) (texts_of_lines lines ++ more))) (one line.text (Ok line.node) says.0)
+    ∙ ap (line_before_parsed_lines line) (parsing_passes_parsed_lines one (before ++ line ∷ []) lines more says.1)
+    ∙ ap (λ ls. line_before_parsed_lines line (lines ++ (lines_parsed_until_fault ls more).0, (lines_parsed_until_fault ls more).1)) (append_assoc before (line ∷ []) lines)
 
-stops_at : OneLine → (before : List Line) (text : List ℕ) (more : List (List ℕ)) (fault : SyntaxFault) → IsSyntaxFault before text fault.line fault.col fault.why
-    → read_until before (text ∷ more) ≡ ([], Some fault)
-stops_at one before text more fault is =
-    ap (λ o. going_on before text o (λ l. read_until (before ++ l ∷ []) more)) (one text (Err (line_fault.Syntax is.at fault.why)) is.first)
-    ∙ ap₂ (λ row col. let read : LinesRead = ([], Some (record { line = row; col = col; why = fault.why })) in read)
-    (sym (row_in before text is.at) ∙ sym is.row_is) (sym is.col_is)
+parsing_stops_at_syntax_fault : LineOutcomeIsComputedOutcome → (before : List Line) (text : List ℕ) (more : List (List ℕ)) (fault : SyntaxFault) → IsSyntaxFaultAfterLines before text fault.line fault.col fault.why
+    → lines_parsed_until_fault before (text ∷ more) ≡ ([], Some fault)
+parsing_stops_at_syntax_fault one before text more fault is =
+    ap (λ o. parsed_lines_from_outcome before text o (λ l. lines_parsed_until_fault (before ++ l ∷ []) more)) (one text (Err (line_fault.Syntax is.at fault.why)) is.first)
+    ∙ ap₂ (λ row col. let read : ParsedLinesAndFault = ([], Some (record { line = row; col = col; why = fault.why })) in read)
+    (sym (physical_line_in_line_adds_lf_count before text is.at) ∙ sym is.row_is) (sym is.col_is)
 
-pub one_reads : LinesAre → OneReading → NoFault → OneFault → (lines : List (List ℕ)) (read : List Line) (fault : Option SyntaxFault) → Reads lines read fault
-    → read_until [] lines ≡ (read, fault)
-one_reads are reading none one-fault lines read fault (whole ls says) =
-    let one = one_line are reading none one-fault in
-    ap (read_until []) (sym (append-nil (texts read))) ∙ read_past one [] read [] says ∙ ap (λ ls. let r : LinesRead = (ls, None) in r) (append-nil read)
-one_reads are reading none one-fault lines read fault (broken ls text more why-fault says wrong) =
-    let one = one_line are reading none one-fault in
-    read_past one [] read (text ∷ more) says
-    ∙ ap (λ (r : LinesRead). let s : LinesRead = (read ++ r.0, r.1) in s) (stops_at one read text more why-fault wrong)
-    ∙ ap (λ ls. let r : LinesRead = (ls, Some why-fault) in r) (append-nil read)
+pub lines_parsed_until_fault_are_unique : ComputedLineOutcomesAreLineOutcomes → LineHasUniqueNode → ParsedLineHasNoSyntaxFault → LineHasUniqueSyntaxFault → (lines : List (List ℕ)) (read : List Line) (fault : Option SyntaxFault) → AreParsedUntilFault lines read fault
+    → lines_parsed_until_fault [] lines ≡ (read, fault)
+lines_parsed_until_fault_are_unique are reading none one-fault lines read fault (whole ls says) =
+    let one = line_outcome_is_computed_outcome are reading none one-fault in
+    ap (lines_parsed_until_fault []) (sym (append-nil (texts_of_lines read))) ∙ parsing_passes_parsed_lines one [] read [] says ∙ ap (λ ls. let r : ParsedLinesAndFault = (ls, None) in r) (append-nil read)
+lines_parsed_until_fault_are_unique are reading none one-fault lines read fault (broken ls text more why-fault says wrong) =
+    let one = line_outcome_is_computed_outcome are reading none one-fault in
+    parsing_passes_parsed_lines one [] read (text ∷ more) says
+    ∙ ap (λ (r : ParsedLinesAndFault). let s : ParsedLinesAndFault = (read ++ r.0, r.1) in s) (parsing_stops_at_syntax_fault one read text more why-fault wrong)
+    ∙ ap (λ ls. let r : ParsedLinesAndFault = (ls, Some why-fault) in r) (append-nil read)

@@ -1,27 +1,27 @@
 -- Where definitions and mentions on a walk stand in their files.
 use Rattle.std.specs.Prelude.{ℕ, List, map, Option}
 use Rattle.std.specs.Option.{option_map}
-use Rattle.sudoers_line.specs.declared.node.Kind.{Kind}
-use Rattle.sudoers_tree.specs.declared.place.FilePlace.{FilePlace}
+use Rattle.sudoers_grammar.specs.declared.node.Kind.{Kind}
+use Rattle.sudoers_tree.specs.declared.place.DefinitionFilePlace.{DefinitionFilePlace}
 use Rattle.sudoers_tree.specs.declared.place.FileSpan.{FileSpan}
 use Rattle.sudoers_tree.specs.declared.place.Place.{Place}
 use Rattle.sudoers_tree.specs.declared.place.Span.{Span}
-use Rattle.sudoers_tree.specs.Definition.{place_of}
-use Rattle.sudoers_tree.specs.Mention.{mentions}
-use Rattle.sudoers_tree.specs.Walk.{Walked, spot_at}
+use Rattle.sudoers_tree.specs.Definition.{definition_place_of_name}
+use Rattle.sudoers_tree.specs.Mention.{mentions_in_lines}
+use Rattle.sudoers_tree.specs.Walk.{WalkState, spot_of_walk_line}
 
 -- the place in its file of a definition on the walk
-abbrev pub file_place : Walked → Place → FilePlace
-file_place w at = record { file = (spot_at w at.line).file; line = (spot_at w at.line).line; def = at.def }
+abbrev pub file_place_of_walk_place : WalkState → Place → DefinitionFilePlace
+file_place_of_walk_place w at = record { file = (spot_of_walk_line w at.line).file; line = (spot_of_walk_line w at.line).line; def = at.def }
 
 -- the part in its file of a line of the walk
-abbrev pub file_span : Walked → Span → FileSpan
-file_span w span = record { file = (spot_at w span.line).file; line = (spot_at w span.line).line; start = span.start; stop = span.stop }
+abbrev pub file_span_from_walk : WalkState → Span → FileSpan
+file_span_from_walk w span = record { file = (spot_of_walk_line w span.line).file; line = (spot_of_walk_line w span.line).line; start = span.start; stop = span.stop }
 
 -- where the name is defined in the kind
-abbrev pub file_place_of : Kind → List ℕ → Walked → Option FilePlace
-file_place_of k name w = option_map (file_place w) (place_of k name w.lines)
+abbrev pub file_place_of_definition : Kind → List ℕ → WalkState → Option DefinitionFilePlace
+file_place_of_definition k name w = option_map (file_place_of_walk_place w) (definition_place_of_name k name w.lines)
 
 -- all mentions of a name in lists of a kind, in the order of the walk
-abbrev pub file_mentions : Kind → List ℕ → Walked → List FileSpan
-file_mentions k name w = map (file_span w) (mentions k name w.lines)
+abbrev pub mention_file_spans : Kind → List ℕ → WalkState → List FileSpan
+mention_file_spans k name w = map (file_span_from_walk w) (mentions_in_lines k name w.lines)

@@ -1,8 +1,8 @@
 -- The kinds of lines.
-use Rattle.sudoers_line.specs.Node.{Node}
-use Rattle.sudoers_line.specs.Node as node
-use Rattle.sudoers_tree.specs.declared.kind.LineKind.{LineKind}
-use Rattle.sudoers_tree.specs.declared.kind.LineKind.TheVariants.{Blank, Comment, Include, Defaults, Alias, Spec}
+use Rattle.sudoers_grammar.specs.Node.{Node}
+use Rattle.sudoers_grammar.specs.Node as node
+use Rattle.sudoers_tree.specs.declared.line_kind.LineKind.{LineKind}
+use Rattle.sudoers_tree.specs.declared.line_kind.LineKind.TheVariants.{Blank, Comment, Include, Defaults, Alias, Spec}
 
 -- the kind of a line that says this
 abbrev pub line_kind : Node → LineKind

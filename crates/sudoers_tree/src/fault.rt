@@ -2,10 +2,10 @@
 
 ghost use Rattle.std.specs.Prelude.{◌≡◌};
 ghost use Rattle.sudoers_tree.specs.declared.fault.ReadFault.TheVariants.{NoMemory};
-ghost use Rattle.sudoers_tree.specs.Fault.{syntax_fault};
+ghost use Rattle.sudoers_tree.specs.Fault.{syntax_fault_as_read_fault};
 
 use std::alloc::{AllocError, AllocFailed};
-use sudoers_line::{Items, Kind, Why};
+use sudoers_grammar::{Items, Kind, Why};
 use sudoers_text::TextFault;
 use thiserror::Error;
 
@@ -66,7 +66,7 @@ impl<T: Drop> From<AllocFailed<T>> for ReadFault {
 }
 
 impl From<SyntaxFault> for ReadFault {
-    ghost from_gives = { λ fault e. e ≡ syntax_fault fault };
+    ghost from_gives = { λ fault e. e ≡ syntax_fault_as_read_fault fault };
 
     fn from(fault: SyntaxFault) -> ReadFault {
         ReadFault::Syntax {

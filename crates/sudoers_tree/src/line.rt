@@ -3,18 +3,18 @@
 ghost use Rattle.std.specs.Prelude.{◌≡◌, ◌==◌, true};
 ghost use Rattle.std.specs.Int.Bits.{bit_and};
 ghost use Rattle.sudoers_line_rows.specs.declared.rows.Tables.{Tables as TablesOf};
-ghost use Rattle.sudoers_line_rows.specs.Tables.{node_in};
+ghost use Rattle.sudoers_line_rows.specs.Tables.{node_in_tables};
 ghost use Rattle.sudoers_tree.specs.Kind.{line_kind};
-ghost use Rattle.sudoers_tree.specs.Line.{line_in, line_shown};
+ghost use Rattle.sudoers_tree.specs.Line.{line_of_row, line_of_view};
 
-use crate::kind::LineKind;
-use crate::name_bits::NameBits;
-use sudoers_line_rows::{Node, NodeRow, Tables, Text};
+use crate::line_kind::LineKind;
+use crate::name_bits::NameFilterBits;
+use sudoers_line_rows::{ByteRange, Node, NodeRow, Tables};
 
 /// A row of the table of lines: where the line's text stands in the tables, and what it says.
 #[derive(Clone, Copy)]
 pub struct LineRow {
-    pub text: Text,
+    pub text: ByteRange,
     pub node: NodeRow,
     /// How many LF the text has.
     pub lfs: u32,
@@ -24,22 +24,22 @@ pub struct LineRow {
 
 impl LineRow {
     /// Returns whether the text of the line stands at the same bytes of the tables as that of the row `other`.
-    pub(crate) fn has_text_of(&self, other: &LineRow) -> bool
+    pub(crate) fn shares_text_bytes_with(&self, other: &LineRow) -> bool
         ensures { result ≡ true → self.now.text ≡ other.now.text }
     {
         self.text.from == other.text.from && self.text.to == other.text.to
     }
 
     /// Returns whether an alias of a name with the bits `bits` may stand in the line.
-    pub fn may_name(&self, bits: NameBits) -> bool
+    pub fn may_have_alias_with_bits(&self, bits: NameFilterBits) -> bool
         ensures { result ≡ (bit_and self.now.bits bits.set == bits.set) }
     {
-        bits.is_among(self.bits)
+        bits.are_all_set_in(self.bits)
     }
 
     /// Returns the kind of the line.
-    pub(crate) fn kind(&self) -> LineKind
-        ensures { (tables : TablesOf) → result ≡ line_kind (node_in tables self.now.node) }
+    pub(crate) fn kind_of_line_row(&self) -> LineKind
+        ensures { (tables : TablesOf) → result ≡ line_kind (node_in_tables tables self.now.node) }
     {
         match self.node {
             NodeRow::Blank => LineKind::Blank,
@@ -61,12 +61,12 @@ pub struct Line<'a> {
 
 impl<'a> Line<'a> {
     /// Returns the line that a row holds.
-    pub fn of(tables: &'a Tables, row: &LineRow) -> Line<'a>
-        ensures { line_shown result ≡ line_in tables.now row.now }
+    pub fn from_line_row(tables: &'a Tables, row: &LineRow) -> Line<'a>
+        ensures { line_of_view result ≡ line_of_row tables.now row.now }
     {
         Line {
-            text: tables.text(row.text),
-            node: tables.node(&row.node),
+            text: tables.bytes_of_text_row(row.text),
+            node: tables.node_of_row(&row.node),
         }
     }
 }

@@ -2,9 +2,9 @@
 
 ghost use Rattle.std.specs.Prelude.{◌≡◌, ◌<◌, ◌^◌, option_map};
 ghost use Rattle.std.specs.Option.{option_copied};
-ghost use Rattle.sudoers_tree.specs.Changed.{file_of, next_place, place_of, text_brought};
+ghost use Rattle.sudoers_tree.specs.Changed.{file_number_of_change, min_line_number_after_change, line_number_of_change, text_of_change};
 
-use sudoers_line::Items;
+use sudoers_grammar::Items;
 
 /// A change of the lines of a policy. `file` is the number of the file whose line it changes, and `at` the number of a line of that file
 /// before the change, both from 0.
@@ -31,8 +31,8 @@ pub enum LineChange {
 
 impl LineChange {
     /// Returns the number of the file whose line it changes.
-    pub(crate) fn file(&self) -> usize
-        ensures { result ≡ file_of self.now }
+    pub(crate) fn file_number(&self) -> usize
+        ensures { result ≡ file_number_of_change self.now }
     {
         match self {
             LineChange::Put { file, .. }
@@ -42,8 +42,8 @@ impl LineChange {
     }
 
     /// Returns its place.
-    pub(crate) fn place(&self) -> usize
-        ensures { result ≡ place_of self.now }
+    pub(crate) fn changed_line_number(&self) -> usize
+        ensures { result ≡ line_number_of_change self.now }
     {
         match self {
             LineChange::Put { at, .. }
@@ -53,9 +53,9 @@ impl LineChange {
     }
 
     /// Returns the first place that a change after it may have.
-    pub(crate) fn next_place(&self) -> usize
-        requires { next_place self.now < 2 ^ 64 }
-        ensures { result ≡ next_place self.now }
+    pub(crate) fn min_next_line_number(&self) -> usize
+        requires { min_line_number_after_change self.now < 2 ^ 64 }
+        ensures { result ≡ min_line_number_after_change self.now }
     {
         match self {
             LineChange::Put { at, .. } => *at,
@@ -65,7 +65,7 @@ impl LineChange {
 
     /// Returns the text that it brings.
     pub(crate) fn text(&self) -> Option<&[u8]>
-        ensures { option_copied result ≡ text_brought self.now }
+        ensures { option_copied result ≡ text_of_change self.now }
     {
         match self {
             LineChange::Put { text, .. } | LineChange::Swap { text, .. } => Some(text.as_slice()),

@@ -5,7 +5,7 @@ ghost use Rattle.sudoers_tree.specs.declared.load_fault.LoadFault.TheVariants.{N
 
 use crate::fault::ReadFault;
 use std::alloc::{AllocError, AllocFailed};
-use sudoers_line::Items;
+use sudoers_grammar::Items;
 use thiserror::Error;
 
 /// Why files are no policy. `file` is the name of the file that has the fault.

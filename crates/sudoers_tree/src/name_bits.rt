@@ -3,13 +3,14 @@
 ghost use Rattle.std.specs.Prelude.{◌≡◌, ◌==◌, ◌∷◌, [], map, option_map};
 ghost use Rattle.std.specs.Int.Bits.{bit_and};
 ghost use Rattle.std.specs.List.{flat_map};
-ghost use Rattle.sudoers_line.specs.Node.{Def as DefOf};
-ghost use Rattle.sudoers_line_rows.specs.View.{atom_shown, commands_shown, defs_shown, groups_shown, members_shown, node_shown, runas_shown, scope_shown};
-ghost use Rattle.sudoers_tree.specs.NameBits.{bits_of};
-ghost use Rattle.sudoers_tree.specs.internal.LineBits.{atom_names, command_names, group_names, with_bits, bits_in as bits_said, names_of, runas_names, scope_names};
+ghost use Rattle.sudoers_grammar.specs.Node.{Def as DefOf};
+ghost use Rattle.sudoers_line_rows.specs.View.{atom_of_view, commands_of_view, alias_definitions_of_view, host_groups_of_view, members_of_view, node_of_view, runas_of_view, scope_of_view};
+ghost use Rattle.sudoers_tree.specs.NameBits.{bits_of_name};
+ghost use Rattle.sudoers_tree.specs.internal.LineBits.{alias_names_in_atom, alias_names_in_command, alias_names_in_host_group, bits_with_names_added, bits_of_alias_names_in as bits_said, alias_names_in_members, alias_names_in_runas, alias_names_in_scope};
 
 use sudoers_line_rows::{
-    Atom, CommandRow, DefRow, GroupRow, MemberRow, Node, Rows, RunasSpec, Scope,
+    AliasDefinitionRow, BorrowedAtom, CommandRow, HostGroupRow, MemberRow, Node, RowsOfTable,
+    RunasSpec, Scope,
 };
 
 /// The bits of all names: a line with them is never passed over.
@@ -17,26 +18,26 @@ pub const ALL_NAME_BITS: u64 = u64::MAX;
 
 /// The bits of a name: one or two of 64 bits, by a sum of the name's bytes. Names may share bits.
 #[derive(Clone, Copy)]
-pub struct NameBits {
+pub struct NameFilterBits {
     pub set: u64,
 }
 
-impl NameBits {
+impl NameFilterBits {
     /// Returns the bits of the name `name`.
-    pub fn of(name: &[u8]) -> NameBits
-        ensures { result.set ≡ bits_of name.now }
+    pub fn from_alias_name(name: &[u8]) -> NameFilterBits
+        ensures { result.set ≡ bits_of_name name.now }
     {
         let mut sum: u32 = 0;
         for byte in name {
             sum = (sum * 31 + u32::from(*byte)) % 65521;
         }
-        NameBits {
+        NameFilterBits {
             set: 1 << (sum % 64) | 1 << (sum / 64 % 64),
         }
     }
 
     /// Returns whether `bits` has these bits.
-    pub fn is_among(self, bits: u64) -> bool
+    pub fn are_all_set_in(self, bits: u64) -> bool
         ensures { result ≡ (bit_and bits self.set == self.set) }
     {
         bits & self.set == self.set
@@ -44,115 +45,115 @@ impl NameBits {
 }
 
 /// Returns the bits of the names of aliases that stand in a line: those that it defines, and those of its members. The line says `node`.
-pub fn bits_in(node: &Node<'_>) -> u64
-    ensures { result ≡ bits_said (node_shown node.now) }
+pub fn alias_name_bits_of_node(node: &Node<'_>) -> u64
+    ensures { result ≡ bits_said (node_of_view node.now) }
 {
     let mut bits = 0;
     match *node {
         Node::Blank | Node::Comment | Node::Include { .. } => {}
-        Node::Defaults { scope, .. } => add_scope(&scope, &mut bits),
+        Node::Defaults { scope, .. } => add_bits_of_scope(&scope, &mut bits),
         Node::Alias { defs, .. } => {
-            add_names(&defs, &mut bits);
-            add_defs(&defs, &mut bits);
+            add_bits_of_defined_names(&defs, &mut bits);
+            add_bits_of_definition_members(&defs, &mut bits);
         }
         Node::Spec { users, groups } => {
-            add_members(&users, &mut bits);
-            add_groups(&groups, &mut bits);
+            add_bits_of_members(&users, &mut bits);
+            add_bits_of_host_groups(&groups, &mut bits);
         }
     }
     bits
 }
 
 /// Adds the bits of the name `name` to `bits`.
-fn add_name(name: &[u8], bits: &mut u64)
-    ensures { bits.new ≡ with_bits bits.old (name.now ∷ []) }
+fn add_bits_of_name(name: &[u8], bits: &mut u64)
+    ensures { bits.new ≡ bits_with_names_added bits.old (name.now ∷ []) }
 {
-    *bits |= NameBits::of(name).set;
+    *bits |= NameFilterBits::from_alias_name(name).set;
 }
 
 /// Adds the bits of the names that `defs` define to `bits`.
-fn add_names(defs: &Rows<'_, DefRow>, bits: &mut u64)
-    ensures { bits.new ≡ with_bits bits.old (map (λ (d : DefOf). d.name) (defs_shown defs.now)) }
+fn add_bits_of_defined_names(defs: &RowsOfTable<'_, AliasDefinitionRow>, bits: &mut u64)
+    ensures { bits.new ≡ bits_with_names_added bits.old (map (λ (d : DefOf). d.name) (alias_definitions_of_view defs.now)) }
 {
     let tables = defs.tables;
     for row in defs.rows {
-        add_name(tables.text(row.name), bits);
+        add_bits_of_name(tables.bytes_of_text_row(row.name), bits);
     }
 }
 
 /// Adds the bits of the aliases among the members of a scope to `bits`.
-fn add_scope(scope: &Option<Scope<'_>>, bits: &mut u64)
-    ensures { bits.new ≡ with_bits bits.old (scope_names (option_map scope_shown scope.now)) }
+fn add_bits_of_scope(scope: &Option<Scope<'_>>, bits: &mut u64)
+    ensures { bits.new ≡ bits_with_names_added bits.old (alias_names_in_scope (option_map scope_of_view scope.now)) }
 {
     if let Some(scope) = scope {
-        add_members(&scope.members, bits);
+        add_bits_of_members(&scope.members, bits);
     }
 }
 
 /// Adds the bits of the aliases among the members of `defs` to `bits`.
-#[tactic(auto, using(crate::proofs::AddedBits::with_bits_append))]
-fn add_defs(defs: &Rows<'_, DefRow>, bits: &mut u64)
-    ensures { bits.new ≡ with_bits bits.old (flat_map (λ (d : DefOf). names_of d.members) (defs_shown defs.now)) }
+#[tactic(auto, using(crate::proofs::AddedBits::bits_of_appended_names_are_added_in_turn))]
+fn add_bits_of_definition_members(defs: &RowsOfTable<'_, AliasDefinitionRow>, bits: &mut u64)
+    ensures { bits.new ≡ bits_with_names_added bits.old (flat_map (λ (d : DefOf). alias_names_in_members d.members) (alias_definitions_of_view defs.now)) }
 {
     let tables = defs.tables;
     for row in defs.rows {
-        add_members(&tables.members(row.members), bits);
+        add_bits_of_members(&tables.members_of_row_range(row.members), bits);
     }
 }
 
 /// Adds the bits of the aliases among the hosts and commands of `groups` to `bits`.
-#[tactic(auto, using(crate::proofs::AddedBits::with_bits_append))]
-fn add_groups(groups: &Rows<'_, GroupRow>, bits: &mut u64)
-    ensures { bits.new ≡ with_bits bits.old (flat_map group_names (groups_shown groups.now)) }
+#[tactic(auto, using(crate::proofs::AddedBits::bits_of_appended_names_are_added_in_turn))]
+fn add_bits_of_host_groups(groups: &RowsOfTable<'_, HostGroupRow>, bits: &mut u64)
+    ensures { bits.new ≡ bits_with_names_added bits.old (flat_map alias_names_in_host_group (host_groups_of_view groups.now)) }
 {
     let tables = groups.tables;
     for row in groups.rows {
-        let group = tables.group(row);
-        add_members(&group.hosts, bits);
-        add_commands(&group.commands, bits);
+        let group = tables.host_group_of_row(row);
+        add_bits_of_members(&group.hosts, bits);
+        add_bits_of_commands(&group.commands, bits);
     }
 }
 
 /// Adds the bits of the aliases among `commands`, and among those as whom they run, to `bits`.
-#[tactic(auto, using(crate::proofs::AddedBits::with_bits_append))]
-fn add_commands(commands: &Rows<'_, CommandRow>, bits: &mut u64)
-    ensures { bits.new ≡ with_bits bits.old (flat_map command_names (commands_shown commands.now)) }
+#[tactic(auto, using(crate::proofs::AddedBits::bits_of_appended_names_are_added_in_turn))]
+fn add_bits_of_commands(commands: &RowsOfTable<'_, CommandRow>, bits: &mut u64)
+    ensures { bits.new ≡ bits_with_names_added bits.old (flat_map alias_names_in_command (commands_of_view commands.now)) }
 {
     let tables = commands.tables;
     for row in commands.rows {
-        let command = tables.command(row);
-        add_runas(&command.runas, bits);
-        add_atom(&command.member.atom, bits);
+        let command = tables.command_of_row(row);
+        add_bits_of_runas(&command.runas, bits);
+        add_bits_of_alias_atom(&command.member.atom, bits);
     }
 }
 
 /// Adds the bits of the aliases among those as whom a command runs to `bits`.
-#[tactic(auto, using(crate::proofs::AddedBits::with_bits_append))]
-fn add_runas(runas: &Option<RunasSpec<'_>>, bits: &mut u64)
-    ensures { bits.new ≡ with_bits bits.old (runas_names (option_map runas_shown runas.now)) }
+#[tactic(auto, using(crate::proofs::AddedBits::bits_of_appended_names_are_added_in_turn))]
+fn add_bits_of_runas(runas: &Option<RunasSpec<'_>>, bits: &mut u64)
+    ensures { bits.new ≡ bits_with_names_added bits.old (alias_names_in_runas (option_map runas_of_view runas.now)) }
 {
     if let Some(runas) = runas {
-        add_members(&runas.users, bits);
-        add_members(&runas.groups, bits);
+        add_bits_of_members(&runas.users, bits);
+        add_bits_of_members(&runas.groups, bits);
     }
 }
 
 /// Adds the bits of the aliases among `members` to `bits`.
-#[tactic(auto, using(crate::proofs::AddedBits::with_bits_append))]
-fn add_members(members: &Rows<'_, MemberRow>, bits: &mut u64)
-    ensures { bits.new ≡ with_bits bits.old (names_of (members_shown members.now)) }
+#[tactic(auto, using(crate::proofs::AddedBits::bits_of_appended_names_are_added_in_turn))]
+fn add_bits_of_members(members: &RowsOfTable<'_, MemberRow>, bits: &mut u64)
+    ensures { bits.new ≡ bits_with_names_added bits.old (alias_names_in_members (members_of_view members.now)) }
 {
     let tables = members.tables;
     for row in members.rows {
-        add_atom(&tables.member(row).atom, bits);
+        add_bits_of_alias_atom(&tables.member_of_row(row).atom, bits);
     }
 }
 
 /// Adds the bits of the name of `atom` to `bits`, if it is an alias.
-fn add_atom(atom: &Atom<'_>, bits: &mut u64)
-    ensures { bits.new ≡ with_bits bits.old (atom_names (atom_shown atom.now)) }
+fn add_bits_of_alias_atom(atom: &BorrowedAtom<'_>, bits: &mut u64)
+    ensures { bits.new ≡ bits_with_names_added bits.old (alias_names_in_atom (atom_of_view atom.now)) }
 {
-    if let Atom::Alias(name) = atom {
-        add_name(name, bits);
+    if let BorrowedAtom::Alias(name) = atom {
+        add_bits_of_name(name, bits);
     }
 }

@@ -18,7 +18,7 @@ pub struct Span {
 /// Where a line of the walk stands: the number of its file, its own number there, both from 0, and the physical line of the file on
 /// which it begins, from 1.
 #[derive(Clone, Copy, Debug, PartialEq, Eq)]
-pub struct Spot {
+pub struct WalkLineSpot {
     pub file: usize,
     pub line: usize,
     pub row: usize,
@@ -26,7 +26,7 @@ pub struct Spot {
 
 /// The place of a definition in a file: the number of the file, that of its line there, and its own number in that line, all from 0.
 #[derive(Clone, Copy, Debug, PartialEq, Eq)]
-pub struct FilePlace {
+pub struct DefinitionFilePlace {
     pub file: usize,
     pub line: usize,
     pub def: usize,

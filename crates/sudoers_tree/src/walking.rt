@@ -1,30 +1,30 @@
 //! The walk over files: the lines of the first, each include line followed by the walk of the files to which it leads.
 
 ghost use Rattle.std.specs.Prelude.{◌≡◌, ◌⊎◌, slice_get, option_map, IfOk, OnOk, MatchResult, None, Some, Ok, Err};
-ghost use Rattle.sudoers_tree.specs.Files.{fault_of, lines_of, name_of as the_name};
-ghost use Rattle.sudoers_tree.specs.Fault.{syntax_fault};
+ghost use Rattle.sudoers_tree.specs.Files.{fault_of_numbered_file, lines_of_numbered_file, name_of_numbered_file as the_name};
+ghost use Rattle.sudoers_tree.specs.Fault.{syntax_fault_as_read_fault};
 ghost use Rattle.sudoers_tree.specs.Line.{Line as LineOf};
-ghost use Rattle.sudoers_tree.specs.Load.{walked_over};
+ghost use Rattle.sudoers_tree.specs.Load.{walk_or_first_fault};
 ghost use Rattle.sudoers_tree.specs.declared.fault.ReadFault.TheVariants.{NotLoaded, TooDeep};
 ghost use Rattle.sudoers_tree.specs.declared.load_fault.LoadFault.TheVariants.{InFile, NoMemory};
-ghost use Rattle.sudoers_tree.specs.Targets.{lead_name};
-ghost use Rattle.sudoers_tree.specs.Walk.{enter, first_on, is_on, leads_to, nothing, opened, site, taken, twice, unless_in, visit, walk_lines};
-ghost use Rattle.sudoers_tree.specs.internal.Files.{AreFiles, files_shown};
-ghost use Rattle.sudoers_tree.specs.internal.Walking.{Comes, IsWalking, followed, walked};
+ghost use Rattle.sudoers_tree.specs.Targets.{name_of_lead};
+ghost use Rattle.sudoers_tree.specs.Walk.{walk_with_file_entered, first_file_on_walk, is_file_on_walk, lead_of_file_line, empty_walk, files_opened_by_lead, include_site_of_line, walk_with_line_appended, repeated_include_fault, value_unless_file_fault, walk_after_file_visit, walk_after_file_lines};
+ghost use Rattle.sudoers_tree.specs.internal.Files.{HaveSoundFileRows, parsed_files_of_view};
+ghost use Rattle.sudoers_tree.specs.internal.Walking.{IsWalkStepOutcome, IsSoundWalkBuilder, walk_after_included_files, walk_state_of_builder};
 
+use crate::alias_index::{AliasIndexUpdate, AliasNameIndex};
 use crate::fault::ReadFault;
-use crate::files::Files;
-use crate::index::{Index, Renewals};
-use crate::kind::LineKind;
-use crate::lead::{Lead, lead_of};
+use crate::files::FilesInTables;
+use crate::include_leads::{Lead, lead_of_include_node};
+use crate::include_targets::find_lead_targets;
 use crate::line::LineRow;
+use crate::line_kind::LineKind;
 use crate::load_fault::LoadFault;
-use crate::off_walk::{in_file, is_among, look_off};
-use crate::passing::enter_row;
-use crate::place::Spot;
-use crate::targets::targets;
+use crate::name_entering::enter_names_of_row;
+use crate::off_walk::{check_unreached_files, is_file_number_among, make_load_fault_in_file};
+use crate::place::WalkLineSpot;
 use std::alloc::{AllocError, Global};
-use sudoers_line::Items;
+use sudoers_grammar::Items;
 
 /// How deep files may be nested below the first.
 const DEPTH_LIMIT: usize = 128;
@@ -32,11 +32,11 @@ const DEPTH_LIMIT: usize = 128;
 /// A walk over files: the rows of its lines, the spot of each, the numbers of its files in their order, and the names that its lines
 /// define, beside known ones.
 #[derive(Drop)]
-pub struct Walking {
+pub struct WalkBuilder {
     pub lines: Vec<LineRow>,
-    pub spots: Vec<Spot>,
+    pub spots: Vec<WalkLineSpot>,
     pub on: Vec<usize>,
-    pub names: Renewals,
+    pub names: AliasIndexUpdate,
 }
 
 /// Returns the walk over the files `files` from the first on, and the names that its lines define, beside those of `known`.
@@ -44,20 +44,24 @@ pub struct Walking {
 /// # Errors
 ///
 /// The first fault of the walk, or else the first of the files that are not on it. `NoMemory`: memory ran out.
-pub fn walk_over(alloc: Global, files: &Files<'_>, known: &Index) -> Result<Walking, LoadFault>
-    requires { AreFiles files.now }
+pub fn walk_from_first_file(
+    alloc: Global,
+    files: &FilesInTables<'_>,
+    known: &AliasNameIndex,
+) -> Result<WalkBuilder, LoadFault>
+    requires { HaveSoundFileRows files.now }
     ensures { MatchResult result
-        (λ walking. (walked_over (files_shown files.now) ≡ Ok (walked files.now.tables.now walking)) × IsWalking files.now known.now walking)
-        (λ fault. (fault ≡ NoMemory) ⊎ (walked_over (files_shown files.now) ≡ Err fault)) }
+        (λ walking. (walk_or_first_fault (parsed_files_of_view files.now) ≡ Ok (walk_state_of_builder files.now.tables.now walking)) × IsSoundWalkBuilder files.now known.now walking)
+        (λ fault. (fault ≡ NoMemory) ⊎ (walk_or_first_fault (parsed_files_of_view files.now) ≡ Err fault)) }
 {
-    let mut walking = Walking::new(alloc, files, known)?;
-    walking.take_file(alloc, files, known, DEPTH_LIMIT, 0)?;
-    look_off(alloc, files, walking.on.as_slice())?;
+    let mut walking = WalkBuilder::new(alloc, files, known)?;
+    walking.walk_lines_of_file(alloc, files, known, DEPTH_LIMIT, 0)?;
+    check_unreached_files(alloc, files, walking.on.as_slice())?;
     Ok(walking)
 }
 
 /// Returns how many lines the files `files` have.
-fn line_count(files: &Files<'_>) -> usize {
+fn line_count_of_files(files: &FilesInTables<'_>) -> usize {
     let mut count: usize = 0;
     for file in files.files {
         count = count.saturating_add(file.rows.len());
@@ -66,92 +70,109 @@ fn line_count(files: &Files<'_>) -> usize {
 }
 
 /// Returns a copy of the name of the file with the number `file`.
-fn name_of(alloc: Global, files: &Files<'_>, file: usize) -> Result<Items<u8>, AllocError>
-    ensures { IfOk result (λ name. name ≡ the_name (files_shown files.now) file) }
+fn copy_name_of_file(
+    alloc: Global,
+    files: &FilesInTables<'_>,
+    file: usize,
+) -> Result<Items<u8>, AllocError>
+    ensures { IfOk result (λ name. name ≡ the_name (parsed_files_of_view files.now) file) }
 {
-    Items::from_slice(alloc, files.name(file))
+    Items::from_slice(alloc, files.file_name_at(file))
 }
 
 /// Returns the fault of the line at `at`: it includes the file with the number `file`, which is on the walk already.
-fn twice(alloc: Global, files: &Files<'_>, at: Spot, file: usize) -> Result<LoadFault, AllocError>
-    requires { AreFiles files.now }
-    ensures { IfOk result (λ fault. fault ≡ twice (files_shown files.now) (site (files_shown files.now) at.file at.line) file) }
+fn fault_of_repeated_include(
+    alloc: Global,
+    files: &FilesInTables<'_>,
+    at: WalkLineSpot,
+    file: usize,
+) -> Result<LoadFault, AllocError>
+    requires { HaveSoundFileRows files.now }
+    ensures { IfOk result (λ fault. fault ≡ repeated_include_fault (parsed_files_of_view files.now) (include_site_of_line (parsed_files_of_view files.now) at.file at.line) file) }
 {
     Ok(LoadFault::InFile {
-        file: name_of(alloc, files, at.file)?,
+        file: copy_name_of_file(alloc, files, at.file)?,
         fault: ReadFault::Twice {
-            line: files.row(at.file, at.line),
-            name: name_of(alloc, files, file)?,
+            line: files.physical_line_of_line(at.file, at.line),
+            name: copy_name_of_file(alloc, files, file)?,
         },
     })
 }
 
 /// Returns the fault of the line at `at`: it leads by `lead` to a file that is missing.
-fn not_loaded(
+fn fault_of_missing_include(
     alloc: Global,
-    files: &Files<'_>,
-    at: Spot,
+    files: &FilesInTables<'_>,
+    at: WalkLineSpot,
     lead: Lead,
 ) -> Result<LoadFault, AllocError>
-    requires { AreFiles files.now }
+    requires { HaveSoundFileRows files.now }
     ensures { IfOk result (λ fault. fault
-        ≡ InFile (the_name (files_shown files.now) at.file) (NotLoaded (site (files_shown files.now) at.file at.line).row (lead_name lead))) }
+        ≡ InFile (the_name (parsed_files_of_view files.now) at.file) (NotLoaded (include_site_of_line (parsed_files_of_view files.now) at.file at.line).row (name_of_lead lead))) }
 {
     let (Lead::File(name) | Lead::Dir(name)) = lead;
     Ok(LoadFault::InFile {
-        file: name_of(alloc, files, at.file)?,
+        file: copy_name_of_file(alloc, files, at.file)?,
         fault: ReadFault::NotLoaded {
-            line: files.row(at.file, at.line),
+            line: files.physical_line_of_line(at.file, at.line),
             name,
         },
     })
 }
 
 /// Returns the fault of the line at `at`: it includes a file that is nested too deep.
-fn too_deep(alloc: Global, files: &Files<'_>, at: Spot) -> Result<LoadFault, AllocError>
-    requires { AreFiles files.now }
+fn fault_of_deep_include(
+    alloc: Global,
+    files: &FilesInTables<'_>,
+    at: WalkLineSpot,
+) -> Result<LoadFault, AllocError>
+    requires { HaveSoundFileRows files.now }
     ensures { IfOk result (λ fault. fault
-        ≡ InFile (the_name (files_shown files.now) at.file) (TooDeep (site (files_shown files.now) at.file at.line).row)) }
+        ≡ InFile (the_name (parsed_files_of_view files.now) at.file) (TooDeep (include_site_of_line (parsed_files_of_view files.now) at.file at.line).row)) }
 {
     Ok(LoadFault::InFile {
-        file: name_of(alloc, files, at.file)?,
+        file: copy_name_of_file(alloc, files, at.file)?,
         fault: ReadFault::TooDeep {
-            line: files.row(at.file, at.line),
+            line: files.physical_line_of_line(at.file, at.line),
         },
     })
 }
 
-impl Walking {
+impl WalkBuilder {
     /// Returns an empty walk, with room for all lines of the files `files`.
     ///
     /// # Errors
     ///
     /// Memory ran out.
-    fn new(alloc: Global, files: &Files<'_>, known: &Index) -> Result<Walking, AllocError>
-        ensures { IfOk result (λ walking. IsWalking files.now known.now walking × (walked files.now.tables.now walking ≡ nothing)) }
+    fn new(
+        alloc: Global,
+        files: &FilesInTables<'_>,
+        known: &AliasNameIndex,
+    ) -> Result<WalkBuilder, AllocError>
+        ensures { IfOk result (λ walking. IsSoundWalkBuilder files.now known.now walking × (walk_state_of_builder files.now.tables.now walking ≡ empty_walk)) }
     {
-        let count = line_count(files);
-        Ok(Walking {
+        let count = line_count_of_files(files);
+        Ok(WalkBuilder {
             lines: Vec::with_capacity(alloc, count)?,
             spots: Vec::with_capacity(alloc, count)?,
             on: Vec::new(alloc),
-            names: Renewals::new(alloc, known)?,
+            names: AliasIndexUpdate::new(alloc, known)?,
         })
     }
 
     /// Returns whether the file with the number `file` is on the walk.
-    fn is_on(&self, files: &Files<'_>, file: usize) -> bool
-        ensures { result ≡ is_on (walked files.now.tables.now self.now) file }
+    fn has_visited_file(&self, files: &FilesInTables<'_>, file: usize) -> bool
+        ensures { result ≡ is_file_on_walk (walk_state_of_builder files.now.tables.now self.now) file }
     {
-        is_among(self.on.as_slice(), file)
+        is_file_number_among(self.on.as_slice(), file)
     }
 
     /// Returns the first of the files `inner` that is on the walk.
-    fn first_on(&self, files: &Files<'_>, inner: &[usize]) -> Option<usize>
-        ensures { result ≡ first_on (walked files.now.tables.now self.now) inner.now }
+    fn find_visited_file(&self, files: &FilesInTables<'_>, inner: &[usize]) -> Option<usize>
+        ensures { result ≡ first_file_on_walk (walk_state_of_builder files.now.tables.now self.now) inner.now }
     {
         for file in inner {
-            if self.is_on(files, *file) {
+            if self.has_visited_file(files, *file) {
                 return Some(*file);
             }
         }
@@ -159,27 +180,27 @@ impl Walking {
     }
 
     /// Appends the line at `at` to the walk, and enters the names that it defines.
-    fn take(
+    fn append_walk_line_at(
         &mut self,
         alloc: Global,
-        files: &Files<'_>,
-        known: &Index,
-        at: Spot,
+        files: &FilesInTables<'_>,
+        known: &AliasNameIndex,
+        at: WalkLineSpot,
     ) -> Result<(), LoadFault>
-        requires files { AreFiles files.now }
-        requires walking { IsWalking files.now known.now self.old }
-        ensures kept { OnOk result (IsWalking files.now known.now self.new) }
-        ensures comes { (line : LineOf) → slice_get (lines_of (files_shown files.now) at.file) at.line ≡ Some line
-            → Comes result files.now known.now self.new (taken (the_name (files_shown files.now) at.file) at line (walked files.now.tables.now self.old)) }
+        requires files { HaveSoundFileRows files.now }
+        requires walking { IsSoundWalkBuilder files.now known.now self.old }
+        ensures kept { OnOk result (IsSoundWalkBuilder files.now known.now self.new) }
+        ensures comes { (line : LineOf) → slice_get (lines_of_numbered_file (parsed_files_of_view files.now) at.file) at.line ≡ Some line
+            → IsWalkStepOutcome result files.now known.now self.new (walk_with_line_appended (the_name (parsed_files_of_view files.now) at.file) at line (walk_state_of_builder files.now.tables.now self.old)) }
     {
-        let Some(row) = files.line_row(at.file, at.line) else {
+        let Some(row) = files.line_row_at(at.file, at.line) else {
             return Ok(());
         };
         let number = self.lines.as_slice().len();
-        match enter_row(alloc, known, files.tables, number, row, &mut self.names) {
+        match enter_names_of_row(alloc, known, files.tables, number, row, &mut self.names) {
             Ok(()) => {}
             Err(ReadFault::NoMemory) => return Err(LoadFault::NoMemory),
-            Err(fault) => return Err(in_file(alloc, files, at.file, fault)),
+            Err(fault) => return Err(make_load_fault_in_file(alloc, files, at.file, fault)),
         }
         self.lines.push(*row)?;
         self.spots.push(at)?;
@@ -187,40 +208,51 @@ impl Walking {
     }
 
     /// Returns the files to which the line at `at` leads. A file that is missing or on the walk already is a fault.
-    fn open(&self, alloc: Global, files: &Files<'_>, at: Spot) -> Result<Vec<usize>, LoadFault>
-        requires { AreFiles files.now }
-        ensures { (line : LineOf) → slice_get (lines_of (files_shown files.now) at.file) at.line ≡ Some line
+    fn find_files_included_at(
+        &self,
+        alloc: Global,
+        files: &FilesInTables<'_>,
+        at: WalkLineSpot,
+    ) -> Result<Vec<usize>, LoadFault>
+        requires { HaveSoundFileRows files.now }
+        ensures { (line : LineOf) → slice_get (lines_of_numbered_file (parsed_files_of_view files.now) at.file) at.line ≡ Some line
             → MatchResult result
-            (λ inner. opened (files_shown files.now) (site (files_shown files.now) at.file at.line) (walked files.now.tables.now self.now)
-            (leads_to (files_shown files.now) at.file line) ≡ Ok inner.items)
-            (λ fault. (fault ≡ NoMemory) ⊎ (opened (files_shown files.now) (site (files_shown files.now) at.file at.line) (walked files.now.tables.now self.now)
-            (leads_to (files_shown files.now) at.file line) ≡ Err fault)) }
+            (λ inner. files_opened_by_lead (parsed_files_of_view files.now) (include_site_of_line (parsed_files_of_view files.now) at.file at.line) (walk_state_of_builder files.now.tables.now self.now)
+            (lead_of_file_line (parsed_files_of_view files.now) at.file line) ≡ Ok inner.items)
+            (λ fault. (fault ≡ NoMemory) ⊎ (files_opened_by_lead (parsed_files_of_view files.now) (include_site_of_line (parsed_files_of_view files.now) at.file at.line) (walk_state_of_builder files.now.tables.now self.now)
+            (lead_of_file_line (parsed_files_of_view files.now) at.file line) ≡ Err fault)) }
     {
-        let Some(line) = files.line(at.file, at.line) else {
+        let Some(line) = files.parsed_line_at(at.file, at.line) else {
             return Ok(Vec::new(alloc));
         };
-        let Some(lead) = lead_of(alloc, files.name(at.file), &line.node)? else {
+        let Some(lead) = lead_of_include_node(alloc, files.file_name_at(at.file), &line.node)?
+        else {
             return Ok(Vec::new(alloc));
         };
-        let Some(inner) = targets(alloc, files, &lead)? else {
-            return Err(not_loaded(alloc, files, at, lead)?);
+        let Some(inner) = find_lead_targets(alloc, files, &lead)? else {
+            return Err(fault_of_missing_include(alloc, files, at, lead)?);
         };
-        if let Some(file) = self.first_on(files, inner.as_slice()) {
-            return Err(twice(alloc, files, at, file)?);
+        if let Some(file) = self.find_visited_file(files, inner.as_slice()) {
+            return Err(fault_of_repeated_include(alloc, files, at, file)?);
         }
         Ok(inner)
     }
 
     /// Returns `Ok` if each line of the file with the number `file` parses, and else the fault of the first line that does not.
-    fn end(&self, alloc: Global, files: &Files<'_>, file: usize) -> Result<(), LoadFault>
+    fn check_parse_of_file(
+        &self,
+        alloc: Global,
+        files: &FilesInTables<'_>,
+        file: usize,
+    ) -> Result<(), LoadFault>
         ensures { MatchResult result
-            (λ _. fault_of (files_shown files.now) file ≡ None)
+            (λ _. fault_of_numbered_file (parsed_files_of_view files.now) file ≡ None)
             (λ fault. (fault ≡ NoMemory)
-            ⊎ (unless_in (the_name (files_shown files.now) file) (walked files.now.tables.now self.now)
-            (option_map syntax_fault (fault_of (files_shown files.now) file)) ≡ Err fault)) }
+            ⊎ (value_unless_file_fault (the_name (parsed_files_of_view files.now) file) (walk_state_of_builder files.now.tables.now self.now)
+            (option_map syntax_fault_as_read_fault (fault_of_numbered_file (parsed_files_of_view files.now) file)) ≡ Err fault)) }
     {
-        match files.fault(file) {
-            Some(fault) => Err(in_file(alloc, files, file, fault.into())),
+        match files.syntax_fault_of_file(file) {
+            Some(fault) => Err(make_load_fault_in_file(alloc, files, file, fault.into())),
             None => Ok(()),
         }
     }
@@ -228,82 +260,82 @@ impl Walking {
     #[cycle(walk)]
     /// Appends the lines of the file `file` to the walk, each include line followed by the lines of the files to which it leads. Below the
     /// file `file` files may be nested `left` levels deep.
-    fn take_file(
+    fn walk_lines_of_file(
         &mut self,
         alloc: Global,
-        files: &Files<'_>,
-        known: &Index,
+        files: &FilesInTables<'_>,
+        known: &AliasNameIndex,
         left: usize,
         file: usize,
     ) -> Result<(), LoadFault>
-        requires files { AreFiles files.now }
-        requires walking { IsWalking files.now known.now self.old }
-        ensures { Comes result files.now known.now self.new
-            (walk_lines (visit left (files_shown files.now)) (files_shown files.now) file 0 (lines_of (files_shown files.now) file)
-            (enter file (walked files.now.tables.now self.old))) }
+        requires files { HaveSoundFileRows files.now }
+        requires walking { IsSoundWalkBuilder files.now known.now self.old }
+        ensures { IsWalkStepOutcome result files.now known.now self.new
+            (walk_after_file_lines (walk_after_file_visit left (parsed_files_of_view files.now)) (parsed_files_of_view files.now) file 0 (lines_of_numbered_file (parsed_files_of_view files.now) file)
+            (walk_with_file_entered file (walk_state_of_builder files.now.tables.now self.old))) }
     {
         self.on.push(file)?;
         let mut row = 1;
         for line in 0..files.line_count(file) {
-            let at = Spot { file, line, row };
-            self.take(alloc, files, known, at)?;
-            self.follow(alloc, files, known, left, at)?;
-            row = files.row_behind(file, line, row);
+            let at = WalkLineSpot { file, line, row };
+            self.append_walk_line_at(alloc, files, known, at)?;
+            self.follow_include_at(alloc, files, known, left, at)?;
+            row = files.physical_line_number_after(file, line, row);
         }
-        self.end(alloc, files, file)
+        self.check_parse_of_file(alloc, files, file)
     }
 
     #[cycle(walk)]
     /// Appends to the walk the lines of the files to which the line at `at` leads. Below the file of that line, files may be nested `left`
     /// levels deep.
-    fn follow(
+    fn follow_include_at(
         &mut self,
         alloc: Global,
-        files: &Files<'_>,
-        known: &Index,
+        files: &FilesInTables<'_>,
+        known: &AliasNameIndex,
         left: usize,
-        at: Spot,
+        at: WalkLineSpot,
     ) -> Result<(), LoadFault>
-        requires files { AreFiles files.now }
-        requires walking { IsWalking files.now known.now self.old }
-        ensures { (line : LineOf) → slice_get (lines_of (files_shown files.now) at.file) at.line ≡ Some line
-            → Comes result files.now known.now self.new
-            (followed (visit left (files_shown files.now)) (files_shown files.now) at.file at.line line (walked files.now.tables.now self.old)) }
+        requires files { HaveSoundFileRows files.now }
+        requires walking { IsSoundWalkBuilder files.now known.now self.old }
+        ensures { (line : LineOf) → slice_get (lines_of_numbered_file (parsed_files_of_view files.now) at.file) at.line ≡ Some line
+            → IsWalkStepOutcome result files.now known.now self.new
+            (walk_after_included_files (walk_after_file_visit left (parsed_files_of_view files.now)) (parsed_files_of_view files.now) at.file at.line line (walk_state_of_builder files.now.tables.now self.old)) }
     {
-        if files.kind(at.file, at.line) != Some(LineKind::Include) {
+        if files.line_kind_at(at.file, at.line) != Some(LineKind::Include) {
             return Ok(());
         }
-        let inner = self.open(alloc, files, at)?;
+        let inner = self.find_files_included_at(alloc, files, at)?;
         for file in inner.as_slice() {
-            if self.is_on(files, *file) {
-                return Err(twice(alloc, files, at, *file)?);
+            if self.has_visited_file(files, *file) {
+                return Err(fault_of_repeated_include(alloc, files, at, *file)?);
             }
-            self.visit(alloc, files, known, left, at, *file)?;
+            self.visit_included_file(alloc, files, known, left, at, *file)?;
         }
         Ok(())
     }
 
-    #[tactic(auto, using(crate::proofs::Visits::visit_below))]
+    #[tactic(auto, using(crate::proofs::Visits::visit_below_limit_is_walk_of_file_lines))]
     #[cycle(walk)]
     /// Appends to the walk the lines of the file `file`, to which the line at `at` leads. Below the file of that line, files may be nested
     /// `left` levels deep.
-    fn visit(
+    fn visit_included_file(
         &mut self,
         alloc: Global,
-        files: &Files<'_>,
-        known: &Index,
+        files: &FilesInTables<'_>,
+        known: &AliasNameIndex,
         left: usize,
-        at: Spot,
+        at: WalkLineSpot,
         file: usize,
     ) -> Result<(), LoadFault>
-        requires files { AreFiles files.now }
-        requires walking { IsWalking files.now known.now self.old }
-        ensures { Comes result files.now known.now self.new
-            (visit left (files_shown files.now) (site (files_shown files.now) at.file at.line) file (walked files.now.tables.now self.old)) }
+        requires files { HaveSoundFileRows files.now }
+        requires walking { IsSoundWalkBuilder files.now known.now self.old }
+        ensures { IsWalkStepOutcome result files.now known.now self.new
+            (walk_after_file_visit left (parsed_files_of_view files.now) (include_site_of_line (parsed_files_of_view files.now) at.file at.line) file (walk_state_of_builder files.now.tables.now self.old)) }
     {
         if left == 0 {
-            return Err(too_deep(alloc, files, at)?);
+            return Err(fault_of_deep_include(alloc, files, at)?);
         }
-        self.take_file(alloc, files, known, left - 1, file)
+        self.walk_lines_of_file(alloc, files, known, left - 1, file)
     }
 }

@@ -3,22 +3,22 @@
 ghost use Rattle.std.specs.Prelude.{◌≡◌, ◌<◌, ◌≤◌, ◌⊎◌, ◌↔◌, IsTrue, length, IfOk, IfErr, IfSome};
 ghost use Rattle.std.specs.Option.{option_map};
 ghost use Rattle.sudoers_check.specs.Chains.{HasReachableCycle};
-ghost use Rattle.sudoers_match.specs.Answer.{IsAnswer, answer_shown, argument_limit, joined};
+ghost use Rattle.sudoers_match.specs.Answer.{IsAnswerToRequest, answer_of_view, joined_arguments_limit, words_joined_with_spaces};
 ghost use Rattle.sudoers_match.specs.Default.{IsRunasDefault};
-ghost use Rattle.sudoers_match.specs.Found.{IsFound, found_answer};
-ghost use Rattle.sudoers_match.specs.Groups.{AreHostGroups};
-ghost use Rattle.sudoers_line_rows.specs.View.{members_shown};
+ghost use Rattle.sudoers_match.specs.Found.{IsFoundInLines, answer_of_found};
+ghost use Rattle.sudoers_match.specs.Groups.{AreMatchingHostGroups};
+ghost use Rattle.sudoers_line_rows.specs.View.{members_of_view};
 ghost use Rattle.sudoers_match_list.specs.declared.verdict.AskFault.TheVariants.{Cycle, TooLong, NoMemory};
-ghost use Rattle.sudoers_match_list.specs.Cycle.{LeadsToCycle};
-ghost use Rattle.sudoers_match_list.specs.Flat.{IsVerdict};
+ghost use Rattle.sudoers_match_list.specs.Cycle.{ListLeadsToCyclicAlias};
+ghost use Rattle.sudoers_match_list.specs.Flat.{IsListVerdict};
 
 use std::alloc::{AllocError, Global};
-use sudoers_line_rows::{MemberRow, Rows};
+use sudoers_line_rows::{MemberRow, RowsOfTable};
 use sudoers_match::{
-    Answer, AskFault, Found, GroupPlace, Request, Who, answer, find_answer, host_groups,
-    runas_default,
+    Answer, AnswerWithCommand, AskFault, HostGroupPlace, Request, Who, answer, find_answer,
+    host_groups, runas_default,
 };
-use sudoers_match_list::{Acyclic, MemberKind, Verdict, decide, reachable_cycle};
+use sudoers_match_list::{AcyclicWalk, MemberKind, Verdict, decide, has_reachable_cycle_in_policy};
 use sudoers_tree::{Kind, Policy};
 
 /// Returns what a list of members says of what is asked.
@@ -30,13 +30,13 @@ pub fn decide_list<K: MemberKind>(
     alloc: Global,
     policy: &Policy,
     kind: Kind,
-    members: &Rows<'_, MemberRow>,
+    members: &RowsOfTable<'_, MemberRow>,
     asked: &K::Asked,
 ) -> Result<Verdict, AskFault>
-    ensures verdict { IfOk result (λ verdict. IsVerdict kind policy.now.walk.lines (K.test asked.now) (members_shown members.now) verdict) }
-    ensures straight { IfOk result (λ verdict. (HasReachableCycle policy.now.walk.lines ⊎ LeadsToCycle kind policy.now.walk.lines (members_shown members.now)) → ⊥) }
+    ensures verdict { IfOk result (λ verdict. IsListVerdict kind policy.now.walk.lines (K.test asked.now) (members_of_view members.now) verdict) }
+    ensures straight { IfOk result (λ verdict. (HasReachableCycle policy.now.walk.lines ⊎ ListLeadsToCyclicAlias kind policy.now.walk.lines (members_of_view members.now)) → ⊥) }
     ensures fault { IfErr result (λ fault. (fault ≡ NoMemory)
-        ⊎ ((fault ≡ Cycle) × (HasReachableCycle policy.now.walk.lines ⊎ LeadsToCycle kind policy.now.walk.lines (members_shown members.now)))) }
+        ⊎ ((fault ≡ Cycle) × (HasReachableCycle policy.now.walk.lines ⊎ ListLeadsToCyclicAlias kind policy.now.walk.lines (members_of_view members.now)))) }
 {
     decide::<K>(alloc, policy, kind, members, asked)
 }
@@ -49,7 +49,7 @@ pub fn decide_list<K: MemberKind>(
 pub fn find_cycle(alloc: Global, policy: &Policy) -> Result<bool, AllocError>
     ensures { IfOk result (λ cycle. IsTrue cycle ↔ HasReachableCycle policy.now.walk.lines) }
 {
-    reachable_cycle(alloc, policy)
+    has_reachable_cycle_in_policy(alloc, policy)
 }
 
 /// Returns the answer of `policy` to `request`: that of the last row that fits.
@@ -62,11 +62,11 @@ pub fn answer_request<'a>(
     policy: &'a Policy,
     request: &Request,
 ) -> Result<Option<Answer<'a>>, AskFault>
-    ensures answer { IfOk result (λ answer. IsAnswer policy.now.walk.lines request.now (option_map answer_shown answer)) }
+    ensures answer { IfOk result (λ answer. IsAnswerToRequest policy.now.walk.lines request.now (option_map answer_of_view answer)) }
     ensures straight { IfOk result (λ _. HasReachableCycle policy.now.walk.lines → ⊥) }
-    ensures short { IfOk result (λ _. length (joined request.now.args) ≤ argument_limit) }
+    ensures short { IfOk result (λ _. length (words_joined_with_spaces request.now.args) ≤ joined_arguments_limit) }
     ensures fault { IfErr result (λ fault. (fault ≡ NoMemory) ⊎ (((fault ≡ Cycle) × HasReachableCycle policy.now.walk.lines)
-        ⊎ ((fault ≡ TooLong) × (HasReachableCycle policy.now.walk.lines → ⊥) × (argument_limit < length (joined request.now.args))))) }
+        ⊎ ((fault ≡ TooLong) × (HasReachableCycle policy.now.walk.lines → ⊥) × (joined_arguments_limit < length (words_joined_with_spaces request.now.args))))) }
 {
     answer(alloc, policy, request)
 }
@@ -78,15 +78,15 @@ pub fn answer_request<'a>(
 /// `TooLong`: the arguments are. Or memory ran out.
 pub fn find_rule<'a>(
     alloc: Global,
-    policy: &Acyclic<'a>,
+    policy: &AcyclicWalk<'a>,
     request: &Request,
     default: &'a [u8],
-) -> Result<Option<Found<'a>>, AskFault>
+) -> Result<Option<AnswerWithCommand<'a>>, AskFault>
     requires { IsRunasDefault policy.now request.now.who default.now }
-    ensures answer { IfOk result (λ found. IsAnswer policy.now request.now (option_map found_answer found)) }
-    ensures found { IfOk result (λ found. IfSome found (IsFound policy.now)) }
-    ensures short { IfOk result (λ _. length (joined request.now.args) ≤ argument_limit) }
-    ensures fault { IfErr result (λ fault. (fault ≡ NoMemory) ⊎ ((fault ≡ TooLong) × (argument_limit < length (joined request.now.args)))) }
+    ensures answer { IfOk result (λ found. IsAnswerToRequest policy.now request.now (option_map answer_of_found found)) }
+    ensures found { IfOk result (λ found. IfSome found (IsFoundInLines policy.now)) }
+    ensures short { IfOk result (λ _. length (words_joined_with_spaces request.now.args) ≤ joined_arguments_limit) }
+    ensures fault { IfErr result (λ fault. (fault ≡ NoMemory) ⊎ ((fault ≡ TooLong) × (joined_arguments_limit < length (words_joined_with_spaces request.now.args)))) }
 {
     find_answer(alloc, policy, request, default)
 }
@@ -113,8 +113,8 @@ pub fn groups_of_hosts(
     alloc: Global,
     policy: &Policy,
     who: &Who,
-) -> Result<Vec<GroupPlace>, AskFault>
-    ensures groups { IfOk result (λ places. AreHostGroups policy.now.walk.lines who.now places.items) }
+) -> Result<Vec<HostGroupPlace>, AskFault>
+    ensures groups { IfOk result (λ places. AreMatchingHostGroups policy.now.walk.lines who.now places.items) }
     ensures straight { IfOk result (λ _. HasReachableCycle policy.now.walk.lines → ⊥) }
     ensures fault { IfErr result (λ fault. (fault ≡ NoMemory) ⊎ ((fault ≡ Cycle) × HasReachableCycle policy.now.walk.lines)) }
 {

@@ -3,9 +3,9 @@
 ghost use Rattle.std.specs.Prelude.{◌≡◌, ◌⊎◌, IfOk, IfErr};
 ghost use Rattle.std.specs.Option.{option_map};
 ghost use Rattle.sudoers_check.specs.Chains.{HasReachableCycle};
-ghost use Rattle.sudoers_list.specs.Listing.{IsListing};
-ghost use Rattle.sudoers_list.specs.Reason.{IsReason};
-ghost use Rattle.sudoers_match.specs.Answer.{IsAnswer, answer_shown};
+ghost use Rattle.sudoers_list.specs.Listing.{IsListingOfUser};
+ghost use Rattle.sudoers_list.specs.Reason.{IsReasonText};
+ghost use Rattle.sudoers_match.specs.Answer.{IsAnswerToRequest, answer_of_view};
 ghost use Rattle.sudoers_match_list.specs.declared.verdict.AskFault.TheVariants.{Cycle, NoMemory};
 
 use std::alloc::Global;
@@ -19,7 +19,7 @@ use sudoers_tree::Policy;
 ///
 /// `Cycle`: a reachable alias is cyclic. Or memory ran out.
 pub fn list_rules(alloc: Global, policy: &Policy, who: &Who) -> Result<Vec<u8>, AskFault>
-    ensures text { IfOk result (λ text. IsListing policy.now.walk.lines who.now text.items) }
+    ensures text { IfOk result (λ text. IsListingOfUser policy.now.walk.lines who.now text.items) }
     ensures straight { IfOk result (λ _. HasReachableCycle policy.now.walk.lines → ⊥) }
     ensures fault { IfErr result (λ fault. (fault ≡ NoMemory) ⊎ ((fault ≡ Cycle) × HasReachableCycle policy.now.walk.lines)) }
 {
@@ -37,8 +37,8 @@ pub fn explain_answer(
     request: &Request,
     answer: Option<Answer<'_>>,
 ) -> Result<Vec<u8>, AskFault>
-    requires { IsAnswer policy.now.walk.lines request.now (option_map answer_shown answer) }
-    ensures text { IfOk result (λ text. IsReason policy.now request.now (option_map answer_shown answer.entry) text.items) }
+    requires { IsAnswerToRequest policy.now.walk.lines request.now (option_map answer_of_view answer) }
+    ensures text { IfOk result (λ text. IsReasonText policy.now request.now (option_map answer_of_view answer.entry) text.items) }
     ensures straight { IfOk result (λ _. HasReachableCycle policy.now.walk.lines → ⊥) }
     ensures fault { IfErr result (λ fault. (fault ≡ NoMemory) ⊎ ((fault ≡ Cycle) × HasReachableCycle policy.now.walk.lines)) }
 {

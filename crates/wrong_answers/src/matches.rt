@@ -1,21 +1,21 @@
 //! What matches one member of a list.
 
 ghost use Rattle.std.specs.Prelude.{◌≡◌};
-ghost use Rattle.sudoers_match_member.specs.Hits.{command_hits, group_hits, host_hits, user_hits};
-ghost use Rattle.sudoers_match_member.specs.Network.{hits_network as network};
-ghost use Rattle.sudoers_match_member.specs.Wildcard.{matches};
-ghost use Rattle.sudoers_line_rows.specs.View.{atom_shown};
+ghost use Rattle.sudoers_match_member.specs.Hits.{is_command_atom_match, is_runas_group_atom_match, is_host_atom_match, is_user_atom_match};
+ghost use Rattle.sudoers_match_member.specs.Network.{is_any_interface_hit as network};
+ghost use Rattle.sudoers_match_member.specs.Wildcard.{is_pattern_match};
+ghost use Rattle.sudoers_line_rows.specs.View.{atom_of_view};
 
-use sudoers_line::{Address, Mask};
-use sudoers_line_rows::Atom;
+use sudoers_grammar::{Address, Mask};
+use sudoers_line_rows::BorrowedAtom;
 use sudoers_match_member::{
-    CommandLine, GlobMode, Group, Interface, Person, Who, command_hits, glob, group_hits,
-    host_hits, network_hits, user_hits,
+    CommandLine, GlobMode, Group, Interface, Person, Who, glob, matches_command_atom,
+    matches_host_atom, matches_runas_group_atom, matches_user_atom, network_hits,
 };
 
 /// Returns whether `text` matches `pattern`.
 pub fn matches_pattern(pattern: &[u8], text: &[u8], mode: GlobMode) -> bool
-    ensures { result ≡ matches mode pattern.now text.now }
+    ensures { result ≡ is_pattern_match mode pattern.now text.now }
 {
     glob(pattern, text, mode)
 }
@@ -28,29 +28,29 @@ pub fn hits_network(address: Address, mask: Option<Mask>, interfaces: &[Interfac
 }
 
 /// Returns whether `atom` matches the user `person`.
-pub fn matches_user(atom: &Atom<'_>, person: &Person) -> bool
-    ensures { result ≡ user_hits person.now (atom_shown atom.now) }
+pub fn matches_user(atom: &BorrowedAtom<'_>, person: &Person) -> bool
+    ensures { result ≡ is_user_atom_match person.now (atom_of_view atom.now) }
 {
-    user_hits(atom, person)
+    matches_user_atom(atom, person)
 }
 
 /// Returns whether `atom` matches `group`.
-pub fn matches_group(atom: &Atom<'_>, group: &Group) -> bool
-    ensures { result ≡ group_hits group.now (atom_shown atom.now) }
+pub fn matches_group(atom: &BorrowedAtom<'_>, group: &Group) -> bool
+    ensures { result ≡ is_runas_group_atom_match group.now (atom_of_view atom.now) }
 {
-    group_hits(atom, group)
+    matches_runas_group_atom(atom, group)
 }
 
 /// Returns whether `atom` matches the host of `who`.
-pub fn matches_host(atom: &Atom<'_>, who: &Who) -> bool
-    ensures { result ≡ host_hits who.now (atom_shown atom.now) }
+pub fn matches_host(atom: &BorrowedAtom<'_>, who: &Who) -> bool
+    ensures { result ≡ is_host_atom_match who.now (atom_of_view atom.now) }
 {
-    host_hits(atom, who)
+    matches_host_atom(atom, who)
 }
 
 /// Returns whether `atom` matches the command `asked`.
-pub fn matches_command(atom: &Atom<'_>, asked: &CommandLine) -> bool
-    ensures { result ≡ command_hits asked.now (atom_shown atom.now) }
+pub fn matches_command(atom: &BorrowedAtom<'_>, asked: &CommandLine) -> bool
+    ensures { result ≡ is_command_atom_match asked.now (atom_of_view atom.now) }
 {
-    command_hits(atom, asked)
+    matches_command_atom(atom, asked)
 }

@@ -2,7 +2,7 @@
 
 ghost use Rattle.std.specs.Prelude.{◌≡◌, [], take, Ok, IfErr, OnOk, OnErr, MatchResult, true, false};
 ghost use Rattle.sudoers_edit.specs.declared.fault.EditFault.TheVariants as EditFault;
-ghost use Rattle.sudoers_edit.specs.Redoing.{MakesAgain, undone_behind};
+ghost use Rattle.sudoers_edit.specs.Redoing.{RedoesLastUndone, undone_edits_after_edits};
 
 use sudoers_edit::{Edit, EditFault, Editor};
 
@@ -12,7 +12,7 @@ use sudoers_edit::{Edit, EditFault, Editor};
 ///
 /// Memory ran out. The editor is then as it was.
 pub fn redo_edit(editor: &mut Editor) -> Result<bool, EditFault>
-    ensures made { result ≡ Ok true → MakesAgain editor.old editor.new }
+    ensures made { result ≡ Ok true → RedoesLastUndone editor.old editor.new }
     ensures none { result ≡ Ok false → (editor.old.undone ≡ []) × (editor.new ≡ editor.old) }
     ensures refused { IfErr result (λ fault. fault ≡ EditFault.NoMemory) }
     ensures unchanged { OnErr result (editor.new ≡ editor.old) }
@@ -38,8 +38,8 @@ pub fn apply_anew(editor: &mut Editor, edit: &Edit) -> Result<(), EditFault>
 ///
 /// The place of the first edit that is refused, with the cause. The edits before it stay.
 pub fn apply_edits_anew(editor: &mut Editor, edits: &[Edit]) -> Result<(), (usize, EditFault)>
-    ensures { MatchResult result (λ _. editor.new.undone ≡ undone_behind edits.now editor.old.undone)
-        (λ refused. editor.new.undone ≡ undone_behind (take refused.0 edits.now) editor.old.undone) }
+    ensures { MatchResult result (λ _. editor.new.undone ≡ undone_edits_after_edits edits.now editor.old.undone)
+        (λ refused. editor.new.undone ≡ undone_edits_after_edits (take refused.0 edits.now) editor.old.undone) }
 {
     editor.apply_all(edits)
 }

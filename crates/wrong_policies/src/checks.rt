@@ -1,13 +1,14 @@
 //! What is noted of a policy, and which aliases are unused.
 
 ghost use Rattle.std.specs.Prelude.{◌≡◌, IfOk, map};
-ghost use Rattle.sudoers_check.specs.Led.{unused_of};
-ghost use Rattle.sudoers_check.specs.Report.{is_fine, report_of, report_text as text_of_report};
-ghost use Rattle.sudoers_tree.specs.Definition.{Definition};
+ghost use Rattle.sudoers_check.specs.Led.{unused_definitions_of_lines};
+ghost use Rattle.sudoers_check.specs.Report.{is_report_without_faults, report_of_walk, report_text as text_of_report};
+ghost use Rattle.sudoers_tree.specs.Definition.{PlacedDefinition};
+ghost use Rattle.sudoers_tree.specs.FilePlaces.{file_place_of_walk_place};
 
 use std::alloc::{AllocError, Global};
 use sudoers_check::{Report, check, report_text, unused};
-use sudoers_tree::{Kind, Place, Policy};
+use sudoers_tree::{DefinitionFilePlace, Kind, Policy};
 
 /// Returns what is noted of `policy`.
 ///
@@ -15,16 +16,16 @@ use sudoers_tree::{Kind, Place, Policy};
 ///
 /// Memory ran out.
 pub fn check_policy(alloc: Global, policy: &Policy) -> Result<Report, AllocError>
-    ensures { IfOk result (λ report. report ≡ report_of policy.now.walk) }
+    ensures { IfOk result (λ report. report ≡ report_of_walk policy.now.walk) }
 {
     check(alloc, policy)
 }
 
 /// Returns whether a policy with this report passes; with `strict`, undefined names and cyclic aliases count.
 pub fn is_fine_report(report: &Report, strict: bool) -> bool
-    ensures { result ≡ is_fine strict report.now }
+    ensures { result ≡ is_report_without_faults strict report.now }
 {
-    report.is_fine(strict)
+    report.has_no_faults(strict)
 }
 
 /// Returns the text of `report`, a report on `policy`.
@@ -48,8 +49,12 @@ pub fn report_of_policy(
 /// # Errors
 ///
 /// Memory ran out.
-pub fn unused_aliases(alloc: Global, policy: &Policy) -> Result<Vec<(Kind, Place)>, AllocError>
-    ensures { IfOk result (λ places. places.items ≡ map (λ (d : Definition). (d.kind, d.place)) (unused_of policy.now.walk.lines)) }
+pub fn unused_aliases(
+    alloc: Global,
+    policy: &Policy,
+) -> Result<Vec<(Kind, DefinitionFilePlace)>, AllocError>
+    ensures { IfOk result (λ places. places.items
+        ≡ map (λ (d : PlacedDefinition). (d.kind, file_place_of_walk_place policy.now.walk d.place)) (unused_definitions_of_lines policy.now.walk.lines)) }
 {
     unused(alloc, policy)
 }

@@ -4,14 +4,14 @@ ghost use Rattle.std.specs.Prelude.{◌≡◌, ◌⊎◌, ◌∷◌, [], MatchRe
 ghost use Rattle.sudoers_text.specs.Line.{join};
 ghost use Rattle.sudoers_tree.specs.declared.line_change.LineChange.TheVariants.{Put};
 ghost use Rattle.sudoers_tree.specs.declared.load_fault.LoadFault.TheVariants.{NoMemory};
-ghost use Rattle.sudoers_tree.specs.ChangedFiles.{CanBeMade, files_changed};
-ghost use Rattle.sudoers_tree.specs.Files.{lines_of};
-ghost use Rattle.sudoers_tree.specs.Load.{files_of, load_of, one_file};
-ghost use Rattle.sudoers_tree.specs.Policy.{texts};
+ghost use Rattle.sudoers_tree.specs.ChangedFiles.{AreApplicableChanges, files_after_changes};
+ghost use Rattle.sudoers_tree.specs.Files.{lines_of_numbered_file};
+ghost use Rattle.sudoers_tree.specs.Load.{named_files_of_policy, policy_or_load_fault, single_file_named_policy};
+ghost use Rattle.sudoers_tree.specs.Policy.{texts_of_lines};
 
 use std::alloc::{AllocError, Global};
 use sudoers_text::cut;
-use sudoers_tree::{Items, LineChange, LoadFault, NamedFile, Policy, Spot, leads};
+use sudoers_tree::{Items, LineChange, LoadFault, NamedFile, Policy, WalkLineSpot, leads};
 
 /// Whether the include lines of a file come behind its other lines. A wrong body says that they do.
 const INCLUDED_LAST: bool = false;
@@ -22,8 +22,8 @@ const INCLUDED_LAST: bool = false;
 ///
 /// The first fault of the files, or memory ran out.
 pub fn load_files(alloc: Global, files: &[NamedFile]) -> Result<Policy, LoadFault>
-    ensures { MatchResult result (λ policy. load_of files.now ≡ Ok policy)
-        (λ fault. (fault ≡ NoMemory) ⊎ (load_of files.now ≡ Err fault)) }
+    ensures { MatchResult result (λ policy. policy_or_load_fault files.now ≡ Ok policy)
+        (λ fault. (fault ≡ NoMemory) ⊎ (policy_or_load_fault files.now ≡ Err fault)) }
 {
     if INCLUDED_LAST {
         let moved = files_included_last(alloc, files)?;
@@ -38,17 +38,17 @@ pub fn load_files(alloc: Global, files: &[NamedFile]) -> Result<Policy, LoadFaul
 ///
 /// The first fault of the file, or memory ran out.
 pub fn load_text(alloc: Global, text: &[u8]) -> Result<Policy, LoadFault>
-    ensures { MatchResult result (λ policy. load_of (one_file text.now) ≡ Ok policy)
-        (λ fault. (fault ≡ NoMemory) ⊎ (load_of (one_file text.now) ≡ Err fault)) }
+    ensures { MatchResult result (λ policy. policy_or_load_fault (single_file_named_policy text.now) ≡ Ok policy)
+        (λ fault. (fault ≡ NoMemory) ⊎ (policy_or_load_fault (single_file_named_policy text.now) ≡ Err fault)) }
 {
     Policy::read(alloc, text)
 }
 
 /// Returns where each line of the walk stands.
-pub fn walk_spots(policy: &Policy) -> &[Spot]
+pub fn walk_spots(policy: &Policy) -> &[WalkLineSpot]
     ensures { result.now ≡ policy.now.walk.spots }
 {
-    policy.spots()
+    policy.spots_of_walk_lines()
 }
 
 /// Returns the text of the file with the number `file`.
@@ -57,7 +57,7 @@ pub fn walk_spots(policy: &Policy) -> &[Spot]
 ///
 /// Memory ran out.
 pub fn file_text(policy: &Policy, file: usize) -> Result<Vec<u8>, AllocError>
-    ensures { IfOk result (λ text. text.items ≡ join (texts (lines_of policy.now.files file))) }
+    ensures { IfOk result (λ text. text.items ≡ join (texts_of_lines (lines_of_numbered_file policy.now.files file))) }
 {
     policy.text(file)
 }
@@ -68,10 +68,10 @@ pub fn file_text(policy: &Policy, file: usize) -> Result<Vec<u8>, AllocError>
 ///
 /// The first fault of the changed files, or memory ran out. The policy is then as it was.
 pub fn change_files(policy: &mut Policy, changes: &[LineChange]) -> Result<(), LoadFault>
-    requires { CanBeMade changes.now policy.old.files }
-    ensures outcome { MatchResult result (λ _. load_of (files_changed changes.now policy.old.files) ≡ Ok policy.new)
-        (λ fault. (fault ≡ NoMemory) ⊎ (load_of (files_changed changes.now policy.old.files) ≡ Err fault)) }
-    ensures files { OnOk result (files_of policy.new ≡ files_changed changes.now policy.old.files) }
+    requires { AreApplicableChanges changes.now policy.old.files }
+    ensures outcome { MatchResult result (λ _. policy_or_load_fault (files_after_changes changes.now policy.old.files) ≡ Ok policy.new)
+        (λ fault. (fault ≡ NoMemory) ⊎ (policy_or_load_fault (files_after_changes changes.now policy.old.files) ≡ Err fault)) }
+    ensures files { OnOk result (named_files_of_policy policy.new ≡ files_after_changes changes.now policy.old.files) }
     ensures unchanged { OnErr result (policy.new ≡ policy.old) }
 {
     policy.changed(changes)
@@ -88,9 +88,9 @@ pub fn insert_line(
     at: usize,
     line: &[u8],
 ) -> Result<(), LoadFault>
-    requires { CanBeMade (Put file at line.now ∷ []) policy.old.files }
-    ensures outcome { MatchResult result (λ _. load_of (files_changed (Put file at line.now ∷ []) policy.old.files) ≡ Ok policy.new)
-        (λ fault. (fault ≡ NoMemory) ⊎ (load_of (files_changed (Put file at line.now ∷ []) policy.old.files) ≡ Err fault)) }
+    requires { AreApplicableChanges (Put file at line.now ∷ []) policy.old.files }
+    ensures outcome { MatchResult result (λ _. policy_or_load_fault (files_after_changes (Put file at line.now ∷ []) policy.old.files) ≡ Ok policy.new)
+        (λ fault. (fault ≡ NoMemory) ⊎ (policy_or_load_fault (files_after_changes (Put file at line.now ∷ []) policy.old.files) ≡ Err fault)) }
     ensures unchanged { OnErr result (policy.new ≡ policy.old) }
 {
     policy.with_line(file, at, line)

@@ -1,17 +1,17 @@
 //! The names of a policy: their definitions and mentions.
 
 ghost use Rattle.std.specs.Prelude.{◌≡◌, false, slice_get, Some, IfOk};
-ghost use Rattle.sudoers_tree.specs.FilePlaces.{file_mentions, file_place_of};
-ghost use Rattle.sudoers_tree.specs.Files.{lines_of};
+ghost use Rattle.sudoers_tree.specs.FilePlaces.{mention_file_spans, file_place_of_definition};
+ghost use Rattle.sudoers_tree.specs.Files.{lines_of_numbered_file};
 ghost use Rattle.sudoers_tree.specs.Line.{Line as LineOf};
-ghost use Rattle.sudoers_tree.specs.Standing.{IsAbsent};
+ghost use Rattle.sudoers_tree.specs.Standing.{IsAliasNameAbsent};
 
 use std::alloc::AllocError;
-use sudoers_tree::{FilePlace, FileSpan, Kind, NameBits, Policy};
+use sudoers_tree::{DefinitionFilePlace, FileSpan, Kind, NameFilterBits, Policy};
 
 /// Returns where the alias `name` of `kind` is defined.
-pub fn definition_of(policy: &Policy, kind: Kind, name: &[u8]) -> Option<FilePlace>
-    ensures { result ≡ file_place_of kind name.now policy.now.walk }
+pub fn definition_of(policy: &Policy, kind: Kind, name: &[u8]) -> Option<DefinitionFilePlace>
+    ensures { result ≡ file_place_of_definition kind name.now policy.now.walk }
 {
     policy.definition(kind, name)
 }
@@ -22,7 +22,7 @@ pub fn definition_of(policy: &Policy, kind: Kind, name: &[u8]) -> Option<FilePla
 ///
 /// Memory ran out.
 pub fn mentions_of(policy: &Policy, kind: Kind, name: &[u8]) -> Result<Vec<FileSpan>, AllocError>
-    ensures { IfOk result (λ spans. spans.items ≡ file_mentions kind name.now policy.now.walk) }
+    ensures { IfOk result (λ spans. spans.items ≡ mention_file_spans kind name.now policy.now.walk) }
 {
     policy.mentions(kind, name)
 }
@@ -30,7 +30,7 @@ pub fn mentions_of(policy: &Policy, kind: Kind, name: &[u8]) -> Result<Vec<FileS
 /// Returns whether an alias of the name `name` may stand in the line with the number `line` of the file with the number `file`, both
 /// from 0.
 pub fn may_stand(policy: &Policy, file: usize, line: usize, name: &[u8]) -> bool
-    ensures { (says : LineOf) → result ≡ false → slice_get (lines_of policy.now.files file) line ≡ Some says → IsAbsent name.now says.node }
+    ensures { (says : LineOf) → result ≡ false → slice_get (lines_of_numbered_file policy.now.files file) line ≡ Some says → IsAliasNameAbsent name.now says.node }
 {
-    policy.may_name(file, line, NameBits::of(name))
+    policy.may_have_alias_in_line(file, line, NameFilterBits::from_alias_name(name))
 }

@@ -1,8 +1,8 @@
 //! Tokens and words of a text.
 
 ghost use Rattle.std.specs.Prelude.{◌≡◌, IfOk};
-ghost use Rattle.sudoers_text.specs.Found.{tokens_of};
-ghost use Rattle.sudoers_text.specs.Value.{value_of};
+ghost use Rattle.sudoers_text.specs.Found.{tokens_of_line};
+ghost use Rattle.sudoers_text.specs.Value.{value_of_word};
 
 use std::alloc::{AllocError, Global};
 use sudoers_text::{Mode, TextFault, Token, tokens, value};
@@ -13,7 +13,7 @@ use sudoers_text::{Mode, TextFault, Token, tokens, value};
 ///
 /// Memory ran out.
 pub fn line_tokens(alloc: Global, line: &[u8], mode: Mode) -> Result<Vec<Token>, TextFault>
-    ensures { IfOk result (λ tokens. tokens.items ≡ tokens_of mode line.now) }
+    ensures { IfOk result (λ tokens. tokens.items ≡ tokens_of_line mode line.now) }
 {
     tokens(alloc, line, mode)
 }
@@ -24,7 +24,7 @@ pub fn line_tokens(alloc: Global, line: &[u8], mode: Mode) -> Result<Vec<Token>,
 ///
 /// Memory ran out.
 pub fn word_value(alloc: Global, word: &[u8]) -> Result<Vec<u8>, AllocError>
-    ensures { IfOk result (λ value. value.items ≡ value_of word.now) }
+    ensures { IfOk result (λ value. value.items ≡ value_of_word word.now) }
 {
     value(alloc, word)
 }

@@ -1,7 +1,7 @@
 //! The exit status of `check`.
 
 ghost use Rattle.std.specs.Prelude.{◌≡◌, Ok, IfOk, IfSome};
-ghost use Rattle.sudoers_run.specs.Check.{status_of};
+ghost use Rattle.sudoers_run.specs.Check.{check_status_from_root};
 
 use std::alloc::Global;
 use sudoers_files::Files;
@@ -19,7 +19,7 @@ pub fn check_policy<F: Files, W: Sink>(
     words: &CheckWords,
     writer: &mut W,
 ) -> Result<u8, ToolFault>
-    ensures status { IfOk result (λ status. IfSome (F.shelf files.old).files (λ known. status_of words.now.strict root.now known ≡ Ok status)) }
+    ensures status { IfOk result (λ status. IfSome (F.shelf files.old).files (λ known. check_status_from_root words.now.strict root.now known ≡ Ok status)) }
 {
     run_check(alloc, files, root, words, writer)
 }

@@ -2,7 +2,7 @@
 
 ghost use Rattle.std.specs.Io.KnownBytes.{Appends};
 ghost use Rattle.std.specs.Prelude.{◌≡◌, IfOk, IfSome, IsOkAnd};
-ghost use Rattle.sudoers_run.specs.Edit.{output_of};
+ghost use Rattle.sudoers_run.specs.Edit.{edit_output_of_input};
 
 use std::alloc::Global;
 use sudoers_run::{Sink, Source, ToolFault, run_edit};
@@ -20,7 +20,7 @@ pub fn edit_policy<R: Source, W: Sink>(
     writer: &mut W,
 ) -> Result<u8, ToolFault>
     ensures ok { IfOk result (λ status. (status ≡ 0) × IfSome (R.meter reader.old).remaining (λ input.
-        IsOkAnd (output_of undo redo input) (Appends (W.contents writer.old) (W.contents writer.new)))) }
+        IsOkAnd (edit_output_of_input undo redo input) (Appends (W.contents writer.old) (W.contents writer.new)))) }
 {
     run_edit(alloc, reader, undo, redo, writer)
 }

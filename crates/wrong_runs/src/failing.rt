@@ -1,6 +1,6 @@
 //! How a device that fails is reported.
 
-ghost use Rattle.sudoers_run.specs.Policy.{Searches};
+ghost use Rattle.sudoers_run.specs.Policy.{CommandLeavesFilesUnchanged};
 
 use std::alloc::Global;
 use sudoers_files::Files;
@@ -17,7 +17,7 @@ pub fn show_or_fail<F: Files, W: Sink>(
     root: &[u8],
     writer: &mut W,
 ) -> Result<u8, ToolFault>
-    ensures searches { Searches result (F.shelf files.old) (F.shelf files.new) }
+    ensures searches { CommandLeavesFilesUnchanged result (F.shelf files.old) (F.shelf files.new) }
 {
     run_show(alloc, files, root, writer)
 }

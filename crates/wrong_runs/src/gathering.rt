@@ -1,8 +1,8 @@
 //! Gathering the files of a policy.
 
 ghost use Rattle.std.specs.Prelude.{◌≡◌, ◌⊎◌, List, Some, Ok, Err, MatchResult};
-ghost use Rattle.sudoers_tree.specs.declared.load.NamedFile.{NamedFile as NamedFileOf};
-ghost use Rattle.sudoers_files.specs.Gather.{IsOutside, gathered};
+ghost use Rattle.sudoers_tree.specs.declared.named_files.NamedFile.{NamedFile as NamedFileOf};
+ghost use Rattle.sudoers_files.specs.Gather.{IsFaultOfDeviceOrMemory, gathered_files_or_fault};
 
 use std::alloc::Global;
 use sudoers_files::{FileFault, Files, GatherFault, gather};
@@ -34,12 +34,20 @@ impl<F: Files> Files for Passed<F> {
         self.files.names(alloc, dir)
     }
 
-    fn wanted(&mut self, alloc: Global, dir: &[u8]) -> Result<Vec<Items<u8>>, FileFault> {
-        self.files.wanted(alloc, dir)
+    fn list_included_names(
+        &mut self,
+        alloc: Global,
+        dir: &[u8],
+    ) -> Result<Vec<Items<u8>>, FileFault> {
+        self.files.list_included_names(alloc, dir)
     }
 
-    fn unread(&mut self, alloc: Global, dir: &[u8]) -> Result<Option<Vec<Items<u8>>>, FileFault> {
-        self.files.unread(alloc, dir)
+    fn list_skipped_names(
+        &mut self,
+        alloc: Global,
+        dir: &[u8],
+    ) -> Result<Option<Vec<Items<u8>>>, FileFault> {
+        self.files.list_skipped_names(alloc, dir)
     }
 
     fn failures(&self) -> u64 {
@@ -58,7 +66,7 @@ pub fn gather_files<F: Files>(
     root: &[u8],
 ) -> Result<Vec<NamedFile>, GatherFault>
     ensures gathers { (known : List NamedFileOf) → (F.shelf files.old).files ≡ Some known
-        → MatchResult result (λ found. gathered known root.now ≡ Ok found.items) (λ fault. IsOutside fault ⊎ (gathered known root.now ≡ Err fault)) }
+        → MatchResult result (λ found. gathered_files_or_fault known root.now ≡ Ok found.items) (λ fault. IsFaultOfDeviceOrMemory fault ⊎ (gathered_files_or_fault known root.now ≡ Err fault)) }
 {
     match gather(alloc, root, files) {
         Ok(found) => Ok(found),

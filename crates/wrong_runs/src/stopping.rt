@@ -1,7 +1,7 @@
 //! Where `edit` stops reading.
 
-ghost use Rattle.sudoers_run.specs.Edit.{input_limit};
-ghost use Rattle.sudoers_run.specs.Reading.{ReadsFile, reading_end};
+ghost use Rattle.sudoers_run.specs.Edit.{edit_input_limit};
+ghost use Rattle.sudoers_run.specs.Reading.{IsFileReadingEffect, reading_end_of_result};
 
 use std::alloc::Global;
 use sudoers_run::{Sink, Source, ToolFault, run_edit};
@@ -18,7 +18,7 @@ pub fn edit_within_limit<R: Source, W: Sink>(
     redo: u32,
     writer: &mut W,
 ) -> Result<u8, ToolFault>
-    ensures reads { ReadsFile input_limit (reading_end result) (R.meter reader.old) (R.meter reader.new) }
+    ensures reads { IsFileReadingEffect edit_input_limit (reading_end_of_result result) (R.meter reader.old) (R.meter reader.new) }
 {
     run_edit(alloc, reader, undo, redo, writer)
 }

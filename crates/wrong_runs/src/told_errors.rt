@@ -2,11 +2,11 @@
 
 ghost use Rattle.std.specs.Prelude.{◌≡◌, ℕ, List, Ok, Err, IfErr, IfSome, IsOkAnd};
 ghost use Rattle.sudoers_run.specs.Check.{check_output, IsCheckFault};
-ghost use Rattle.sudoers_run.specs.Convert.{convert_output, TellsConvert};
-ghost use Rattle.sudoers_run.specs.Device.{AppendsFront};
-ghost use Rattle.sudoers_run.specs.List.{OfTexts, IsListOutcome, TellsList};
-ghost use Rattle.sudoers_run.specs.Edit.{output_of, TellsTool};
-ghost use Rattle.sudoers_run.specs.Show.{show_output, TellsShow};
+ghost use Rattle.sudoers_run.specs.Convert.{convert_output, IsConvertFaultOfFiles};
+ghost use Rattle.sudoers_run.specs.Device.{AppendsPrefixOfBytes};
+ghost use Rattle.sudoers_run.specs.List.{HoldsOfPeopleTexts, IsListOutcome, IsListFaultOfFiles};
+ghost use Rattle.sudoers_run.specs.Edit.{edit_output_of_input, IsFaultOfEditInput};
+ghost use Rattle.sudoers_run.specs.Show.{show_output, IsShowFaultOfFiles};
 ghost use Rattle.sudoers_run.specs.declared.fault.ToolFault.TheVariants as ToolFault;
 
 use std::alloc::Global;
@@ -27,9 +27,9 @@ pub fn show_told_errors<F: Files, W: Sink>(
     root: &[u8],
     writer: &mut W,
 ) -> Result<u8, ToolFault>
-    ensures fault { IfErr result (λ fault. IfSome (F.shelf files.old).files (TellsShow root.now fault)) }
+    ensures fault { IfErr result (λ fault. IfSome (F.shelf files.old).files (IsShowFaultOfFiles root.now fault)) }
     ensures front { result ≡ Err ToolFault.Write → IfSome (F.shelf files.old).files (λ known.
-        IsOkAnd (show_output root.now known) (AppendsFront (W.contents writer.old) (W.contents writer.new))) }
+        IsOkAnd (show_output root.now known) (AppendsPrefixOfBytes (W.contents writer.old) (W.contents writer.new))) }
 {
     run_show(alloc, files, root, writer)
 }
@@ -46,9 +46,9 @@ pub fn edit_told_errors<R: Source, W: Sink>(
     redo: u32,
     writer: &mut W,
 ) -> Result<u8, ToolFault>
-    ensures fault { IfErr result (λ fault. IfSome (R.meter reader.old).remaining (TellsTool undo redo fault)) }
+    ensures fault { IfErr result (λ fault. IfSome (R.meter reader.old).remaining (IsFaultOfEditInput undo redo fault)) }
     ensures front { result ≡ Err ToolFault.Write → IfSome (R.meter reader.old).remaining (λ input.
-        IsOkAnd (output_of undo redo input) (AppendsFront (W.contents writer.old) (W.contents writer.new))) }
+        IsOkAnd (edit_output_of_input undo redo input) (AppendsPrefixOfBytes (W.contents writer.old) (W.contents writer.new))) }
 {
     run_edit(alloc, reader, undo, redo, writer)
 }
@@ -67,7 +67,7 @@ pub fn check_told_errors<F: Files, W: Sink>(
 ) -> Result<u8, ToolFault>
     ensures named { IfErr result IsCheckFault }
     ensures front { result ≡ Err ToolFault.Write → IfSome (F.shelf files.old).files (λ known.
-        IsOkAnd (check_output words.now root.now known) (AppendsFront (W.contents writer.old) (W.contents writer.new))) }
+        IsOkAnd (check_output words.now root.now known) (AppendsPrefixOfBytes (W.contents writer.old) (W.contents writer.new))) }
 {
     run_check(alloc, files, root, words, writer)
 }
@@ -85,9 +85,9 @@ pub fn convert_told_errors<F: Files, W: Sink>(
     words: &ConvertWords<'_>,
     writer: &mut W,
 ) -> Result<u8, ToolFault>
-    ensures fault { IfErr result (λ fault. IfSome (F.shelf files.old).files (TellsConvert words.now root.now fault)) }
+    ensures fault { IfErr result (λ fault. IfSome (F.shelf files.old).files (IsConvertFaultOfFiles words.now root.now fault)) }
     ensures front { result ≡ Err ToolFault.Write → IfSome (F.shelf files.old).files (λ known.
-        IsOkAnd (convert_output words.now root.now known) (AppendsFront (W.contents writer.old) (W.contents writer.new))) }
+        IsOkAnd (convert_output words.now root.now known) (AppendsPrefixOfBytes (W.contents writer.old) (W.contents writer.new))) }
 {
     run_convert(alloc, files, root, words, writer)
 }
@@ -107,9 +107,9 @@ pub fn list_told_errors<F: Files, U: Source, G: Source, W: Sink>(
     words: &ListWords<'_>,
     writer: &mut W,
 ) -> Result<u8, ToolFault>
-    ensures fault { IfErr result (λ fault. IfSome (F.shelf files.old).files (λ known. OfTexts (U.meter passwd.old) (G.meter group.old) (TellsList words.now root.now known fault))) }
-    ensures front { result ≡ Err ToolFault.Write → IfSome (F.shelf files.old).files (λ known. OfTexts (U.meter passwd.old) (G.meter group.old) (λ u g.
-        (text : List ℕ) × ((status : ℕ) × IsListOutcome words.now root.now known u g (Ok (text, status))) × AppendsFront (W.contents writer.old) (W.contents writer.new) text)) }
+    ensures fault { IfErr result (λ fault. IfSome (F.shelf files.old).files (λ known. HoldsOfPeopleTexts (U.meter passwd.old) (G.meter group.old) (IsListFaultOfFiles words.now root.now known fault))) }
+    ensures front { result ≡ Err ToolFault.Write → IfSome (F.shelf files.old).files (λ known. HoldsOfPeopleTexts (U.meter passwd.old) (G.meter group.old) (λ u g.
+        (text : List ℕ) × ((status : ℕ) × IsListOutcome words.now root.now known u g (Ok (text, status))) × AppendsPrefixOfBytes (W.contents writer.old) (W.contents writer.new) text)) }
 {
     run_list(alloc, files, root, passwd, group, words, writer)
 }

@@ -2,45 +2,45 @@
 use Rattle.std.specs.Prelude.{◌≡◌, ◌||◌, ℕ, Bool, true, false, List, length, Option, Some, slice_get}
 use Rattle.std.specs.List.{list_any}
 use Rattle.std.specs.Option.{is_some}
-use Rattle.sudoers_line.specs.declared.node.Kind.{Kind}
-use Rattle.sudoers_line.specs.declared.node.Kind.TheVariants.{User, Host}
-use Rattle.sudoers_line.specs.declared.node.Atom.{Atom}
-use Rattle.sudoers_line.specs.Node.{Member}
+use Rattle.sudoers_grammar.specs.declared.node.Kind.{Kind}
+use Rattle.sudoers_grammar.specs.declared.node.Kind.TheVariants.{User, Host}
+use Rattle.sudoers_grammar.specs.declared.node.Atom.{Atom}
+use Rattle.sudoers_grammar.specs.Node.{Member}
 use Rattle.sudoers_tree.specs.Line.{Line}
-use Rattle.sudoers_match_list.specs.declared.verdict.Hit.{Hit}
-use Rattle.sudoers_match_list.specs.declared.walk.Verdicts.{Verdicts}
-use Rattle.sudoers_match_list.specs.Search.{Remembers}
+use Rattle.sudoers_match_list.specs.declared.verdict.MemberHit.{MemberHit}
+use Rattle.sudoers_match_list.specs.declared.alias_verdicts.AliasVerdictCache.{AliasVerdictCache}
+use Rattle.sudoers_match_list.specs.Search.{IsValidVerdictCache}
 use Rattle.sudoers_cvt_rewrite.specs.declared.filter.Filter.{Filter}
-use Rattle.sudoers_cvt_rewrite.specs.declared.matching.Matcher.{Matcher}
-use Rattle.sudoers_cvt_rewrite.specs.Filter.{is_user, is_in_group, is_host, is_allowing, said}
+use Rattle.sudoers_cvt_rewrite.specs.declared.matching.FilterMatcher.{FilterMatcher}
+use Rattle.sudoers_cvt_rewrite.specs.Filter.{is_atom_of_named_user, is_atom_of_group_user, is_atom_of_named_host, is_allowing_hit, last_hit_in_expanded_list}
 
 -- There are verdicts for each value, at its place.
-pub record AreRemembered {X : Type 0} (k : Kind) (lines : List Line) (test : X → Atom → Bool) (values : List X) (verdicts : List Verdicts) : Type 0 where
+pub record AreValidVerdictCaches {X : Type 0} (k : Kind) (lines : List Line) (test : X → Atom → Bool) (values : List X) (verdicts : List AliasVerdictCache) : Type 0 where
   pub size : length verdicts ≡ length values
-  pub each : (n : ℕ) (value : X) (of_value : Verdicts) → slice_get values n ≡ Some value → slice_get verdicts n ≡ Some of_value
-      → Remembers k lines (test value) of_value
+  pub each : (n : ℕ) (value : X) (of_value : AliasVerdictCache) → slice_get values n ≡ Some value → slice_get verdicts n ≡ Some of_value
+      → IsValidVerdictCache k lines (test value) of_value
 
 -- The verdicts serve for any kind and any test.
-abbrev pub AreFresh : List Line → Verdicts → Type 0
-AreFresh lines verdicts = (k : Kind) (test : Atom → Bool) → Remembers k lines test verdicts
+abbrev pub IsFreshVerdictCache : List Line → AliasVerdictCache → Type 0
+IsFreshVerdictCache lines verdicts = (k : Kind) (test : Atom → Bool) → IsValidVerdictCache k lines test verdicts
 
 -- what the last matching member says is wanted: that it allows, or that there is one
-abbrev pub is_wanted : Bool → Option Hit → Bool
-is_wanted true hit = is_allowing hit
-is_wanted false hit = is_some hit
+abbrev pub is_hit_wanted : Bool → Option MemberHit → Bool
+is_hit_wanted true hit = is_allowing_hit hit
+is_hit_wanted false hit = is_some hit
 
 -- Of one of the values the list says what is wanted.
-abbrev pub says_one : {X : Type 0} → Bool → List Line → Kind → (X → Atom → Bool) → List X → List Member → Bool
-says_one allowing lines k test values ms = list_any (λ value. is_wanted allowing (said lines k (test value) ms)) values
+abbrev pub is_any_value_hit_wanted : {X : Type 0} → Bool → List Line → Kind → (X → Atom → Bool) → List X → List Member → Bool
+is_any_value_hit_wanted allowing lines k test values ms = list_any (λ value. is_hit_wanted allowing (last_hit_in_expanded_list lines k (test value) ms)) values
 
-abbrev pub says_of_users : Bool → List Line → Filter → List Member → Bool
-says_of_users allowing lines f ms = says_one allowing lines User is_user f.users ms || says_one allowing lines User is_in_group f.groups ms
+abbrev pub is_user_list_hit_wanted : Bool → List Line → Filter → List Member → Bool
+is_user_list_hit_wanted allowing lines f ms = is_any_value_hit_wanted allowing lines User is_atom_of_named_user f.users ms || is_any_value_hit_wanted allowing lines User is_atom_of_group_user f.groups ms
 
-abbrev pub says_of_hosts : Bool → List Line → Filter → List Member → Bool
-says_of_hosts allowing lines f ms = says_one allowing lines Host is_host f.hosts ms
+abbrev pub is_host_list_hit_wanted : Bool → List Line → Filter → List Member → Bool
+is_host_list_hit_wanted allowing lines f ms = is_any_value_hit_wanted allowing lines Host is_atom_of_named_host f.hosts ms
 
 -- It serves for lists of these lines and the values of the filter.
-pub record IsMatcher (lines : List Line) (f : Filter) (m : Matcher) : Type 0 where
-  pub users : AreRemembered User lines is_user f.users m.users.items
-  pub groups : AreRemembered User lines is_in_group f.groups m.groups.items
-  pub hosts : AreRemembered Host lines is_host f.hosts m.hosts.items
+pub record IsValidFilterMatcher (lines : List Line) (f : Filter) (m : FilterMatcher) : Type 0 where
+  pub users : AreValidVerdictCaches User lines is_atom_of_named_user f.users m.users.items
+  pub groups : AreValidVerdictCaches User lines is_atom_of_group_user f.groups m.groups.items
+  pub hosts : AreValidVerdictCaches Host lines is_atom_of_named_host f.hosts m.hosts.items

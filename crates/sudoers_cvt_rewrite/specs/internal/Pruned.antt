@@ -1,26 +1,26 @@
 -- Members that match a filter (cvtsudoers(1), -p). A device of the proof, which no public contract cites.
 use Rattle.std.specs.Prelude.{◌||◌, Bool, true, false, List, [], ◌∷◌, if◌then◌else◌}
-use Rattle.sudoers_line.specs.declared.node.Kind.{Kind}
-use Rattle.sudoers_line.specs.declared.node.Kind.TheVariants.{User, Runas, Host, Cmnd}
-use Rattle.sudoers_line.specs.Node.{Member}
+use Rattle.sudoers_grammar.specs.declared.node.Kind.{Kind}
+use Rattle.sudoers_grammar.specs.declared.node.Kind.TheVariants.{User, Runas, Host, Cmnd}
+use Rattle.sudoers_grammar.specs.Node.{Member}
 use Rattle.sudoers_tree.specs.Line.{Line}
 use Rattle.sudoers_cvt_rewrite.specs.declared.filter.Filter.{Filter}
-use Rattle.sudoers_cvt_rewrite.specs.Filter.{hosts_left, is_none, names_no_user, users_left}
-use Rattle.sudoers_cvt_rewrite.specs.internal.Matcher.{says_of_users, says_of_hosts}
+use Rattle.sudoers_cvt_rewrite.specs.Filter.{hosts_left_by_filter, is_list_without_items, is_filter_without_users, users_left_by_filter}
+use Rattle.sudoers_cvt_rewrite.specs.internal.Matcher.{is_user_list_hit_wanted, is_host_list_hit_wanted}
 
 -- A list of this kind names what the filter asks for, or the filter asks for nothing of that kind.
-abbrev pub keeps : Kind → List Line → Filter → List Member → Bool
-keeps User lines f ms = names_no_user f || says_of_users false lines f ms
-keeps Host lines f ms = is_none f.hosts || says_of_hosts false lines f ms
-keeps Runas lines f ms = true
-keeps Cmnd lines f ms = true
+abbrev pub is_list_kept_by_filter : Kind → List Line → Filter → List Member → Bool
+is_list_kept_by_filter User lines f ms = is_filter_without_users f || is_user_list_hit_wanted false lines f ms
+is_list_kept_by_filter Host lines f ms = is_list_without_items f.hosts || is_host_list_hit_wanted false lines f ms
+is_list_kept_by_filter Runas lines f ms = true
+is_list_kept_by_filter Cmnd lines f ms = true
 
-abbrev pub keeps_member : Kind → List Line → Filter → Member → Bool
-keeps_member k lines f m = keeps k lines f (m ∷ [])
+abbrev pub is_member_kept_by_filter : Kind → List Line → Filter → Member → Bool
+is_member_kept_by_filter k lines f m = is_list_kept_by_filter k lines f (m ∷ [])
 
 -- the members of a list of this kind that are left, or all if none is to fall
-abbrev pub members_left : Kind → List Line → Filter → Bool → List Member → List Member
-members_left User lines f prune ms = if prune then users_left lines f ms else ms
-members_left Host lines f prune ms = if prune then hosts_left lines f ms else ms
-members_left Runas lines f prune ms = ms
-members_left Cmnd lines f prune ms = ms
+abbrev pub members_left_by_filter : Kind → List Line → Filter → Bool → List Member → List Member
+members_left_by_filter User lines f prune ms = if prune then users_left_by_filter lines f ms else ms
+members_left_by_filter Host lines f prune ms = if prune then hosts_left_by_filter lines f ms else ms
+members_left_by_filter Runas lines f prune ms = ms
+members_left_by_filter Cmnd lines f prune ms = ms

@@ -1,39 +1,39 @@
 -- A device of the proof of reading, which no public contract cites: where the code stands, as the definitions have it.
 use Rattle.std.specs.Prelude.{ℕ, ◌+◌, List, [], ◌∷◌, ◌++◌, length, Result, Ok, Err}
-use Rattle.sudoers_edit_script.specs.ScriptReading.{Standing, Between, Filed, Begun, Going, Rest, words, edits_from}
+use Rattle.sudoers_edit_script.specs.ScriptReading.{ScriptPosition, Between, Filed, Begun, Going, ReadingOfRemainingLines, words_between_spaces, edits_from_position}
 use Rattle.sudoers_edit_script.specs.declared.edit.Edit.{Edit}
-use Rattle.sudoers_edit_script.specs.declared.script.Open.{Open}
-use Rattle.sudoers_edit_script.specs.declared.script.Open.TheVariants as open_at
-use Rattle.sudoers_edit_script.specs.declared.script.Reading.{Reading}
+use Rattle.sudoers_edit_script.specs.declared.script.ScriptReaderState.{ScriptReaderState}
+use Rattle.sudoers_edit_script.specs.declared.script.ScriptReaderState.TheVariants as open_at
+use Rattle.sudoers_edit_script.specs.declared.script.ScriptReader.{ScriptReader}
 use Rattle.sudoers_edit_script.specs.declared.script.ScriptFault.{ScriptFault}
 
 -- the words behind the first, of a rest that is empty or begins with a space
-abbrev pub words_behind : List ℕ → List (List ℕ)
-words_behind [] = []
-words_behind (b ∷ bytes) = words bytes
+abbrev pub words_after_first : List ℕ → List (List ℕ)
+words_after_first [] = []
+words_after_first (b ∷ bytes) = words_between_spaces bytes
 
-abbrev pub standing : Open → Standing
-standing open_at.Nothing = Between
-standing (open_at.Filed file line) = Filed file line
-standing (open_at.Begun begun line) = Begun begun line
-standing (open_at.Going begun text) = Going begun text
+abbrev pub position_of_reader_state : ScriptReaderState → ScriptPosition
+position_of_reader_state open_at.Nothing = Between
+position_of_reader_state (open_at.Filed file line) = Filed file line
+position_of_reader_state (open_at.Begun begun line) = Begun begun line
+position_of_reader_state (open_at.Going begun text) = Going begun text
 
 -- an edit whose text is being read counts as a command, and is no edit yet
-abbrev pub open_count : Open → ℕ → ℕ
-open_count open_at.Nothing count = count
-open_count (open_at.Filed file line) count = count
-open_count (open_at.Begun begun line) count = count + 1
-open_count (open_at.Going begun text) count = count + 1
+abbrev pub command_count_with_open : ScriptReaderState → ℕ → ℕ
+command_count_with_open open_at.Nothing count = count
+command_count_with_open (open_at.Filed file line) count = count
+command_count_with_open (open_at.Begun begun line) count = count + 1
+command_count_with_open (open_at.Going begun text) count = count + 1
 
 -- these edits, and then those that the lines behind give
-abbrev pub behind : List Edit → Result (List Edit) ScriptFault → Result (List Edit) ScriptFault
-behind edits (Ok more) = Ok (edits ++ more)
-behind edits (Err fault) = Err fault
+abbrev pub result_after_edits : List Edit → Result (List Edit) ScriptFault → Result (List Edit) ScriptFault
+result_after_edits edits (Ok more) = Ok (edits ++ more)
+result_after_edits edits (Err fault) = Err fault
 
 -- the edits read so far, and then those that the rest gives from here
-abbrev pub next : Rest → Reading → Result (List Edit) ScriptFault
-next rest reading = behind reading.edits (rest (standing reading.pending) reading.file (open_count reading.pending (length reading.edits)))
+abbrev pub result_from_reader_state : ReadingOfRemainingLines → ScriptReader → Result (List Edit) ScriptFault
+result_from_reader_state rest reading = result_after_edits reading.edits (rest (position_of_reader_state reading.pending) reading.file (command_count_with_open reading.pending (length reading.edits)))
 
 -- the edits read so far, and then those of these lines
-abbrev pub outcome : Reading → List (List ℕ) → Result (List Edit) ScriptFault
-outcome reading lines = next (edits_from lines reading.line) reading
+abbrev pub result_of_remaining_lines : ScriptReader → List (List ℕ) → Result (List Edit) ScriptFault
+result_of_remaining_lines reading lines = result_from_reader_state (edits_from_position lines reading.line) reading

@@ -1,35 +1,35 @@
 -- Devices of the proof, which no public contract cites.
 use Rattle.std.specs.Prelude.{◌≡◌, ℕ, false, List, [], ◌∷◌, ◌++◌, codes, Option, Some}
-use Rattle.sudoers_line.specs.declared.node.Kind.TheVariants.{Runas}
-use Rattle.sudoers_line.specs.Node.{Member}
-use Rattle.sudoers_line_rows.specs.View.{member_shown}
-use Rattle.sudoers_tree.specs.Line.{Line, line_shown}
-use Rattle.sudoers_match.specs.Heads.{Head}
-use Rattle.sudoers_match.specs.IsHead.{IsHead}
-use Rattle.sudoers_cvt_spell.specs.Members.{printed_list}
+use Rattle.sudoers_grammar.specs.declared.node.Kind.TheVariants.{Runas}
+use Rattle.sudoers_grammar.specs.Node.{Member}
+use Rattle.sudoers_line_rows.specs.View.{member_of_view}
+use Rattle.sudoers_tree.specs.Line.{Line, line_of_view}
+use Rattle.sudoers_match.specs.Heads.{SettingsOfCommand}
+use Rattle.sudoers_match.specs.IsHead.{HoldsCommandSettings}
+use Rattle.sudoers_cvt_spell.specs.Members.{printed_member_list}
 use Rattle.sudoers_cvt_rules.specs.Effective.{effective_command}
-use Rattle.sudoers_list.specs.declared.inner.Inner.{Inner as InnerHeld}
-use Rattle.sudoers_list.specs.declared.rule.LineAt.{LineAt}
-use Rattle.sudoers_list.specs.declared.rule.Rule.{Rule as RuleHeld}
-use Rattle.sudoers_list.specs.Inner.{Inner}
-use Rattle.sudoers_list.specs.Rule.{Rule}
+use Rattle.sudoers_list.specs.declared.deciding_member.DecidingAliasMember.{DecidingAliasMember as InnerHeld}
+use Rattle.sudoers_list.specs.declared.deciding_rule.NumberedLine.{NumberedLine}
+use Rattle.sudoers_list.specs.declared.deciding_rule.DecidingRule.{DecidingRule as RuleHeld}
+use Rattle.sudoers_list.specs.Inner.{InnerAliasMember}
+use Rattle.sudoers_list.specs.Rule.{DecidingRuleOnLine}
 
 -- what stands in parentheses, in two parts
-abbrev pub printed_behind : List Member → List ℕ
-printed_behind [] = []
-printed_behind (g ∷ gs) = codes " : " ++ printed_list false Runas (g ∷ gs)
+abbrev pub printed_runas_groups_part : List Member → List ℕ
+printed_runas_groups_part [] = []
+printed_runas_groups_part (g ∷ gs) = codes " : " ++ printed_member_list false Runas (g ∷ gs)
 
 -- what is held of a line
-abbrev pub numbered_shown : LineAt → ℕ × Line
-numbered_shown l = (l.number, line_shown l.line)
+abbrev pub numbered_line_of_view : NumberedLine → ℕ × Line
+numbered_line_of_view l = (l.number, line_of_view l.line)
 
 -- what is held of a member of an alias
-abbrev pub inner_shown : InnerHeld → Inner
-inner_shown inner = record { name = inner.name.now; member = member_shown inner.member }
+abbrev pub alias_member_of_view : InnerHeld → InnerAliasMember
+alias_member_of_view inner = record { name = inner.name.now; member = member_of_view inner.member }
 
-abbrev pub rule_held : RuleHeld → Head → Rule
-rule_held r h = record { line = r.at.number; text = r.at.line.text.now; command = effective_command (h, member_shown r.command.member) }
+abbrev pub rule_of_view_and_settings : RuleHeld → SettingsOfCommand → DecidingRuleOnLine
+rule_of_view_and_settings r h = record { line = r.at.number; text = r.at.line.text.now; command = effective_command (h, member_of_view r.command.member) }
 
 -- It is held of the rule that is wanted.
-abbrev pub IsRule : RuleHeld → Option Rule → Type 0
-IsRule r wanted = (h : Head) × IsHead r.command.head h × (wanted ≡ Some (rule_held r h))
+abbrev pub IsHeldDecidingRule : RuleHeld → Option DecidingRuleOnLine → Type 0
+IsHeldDecidingRule r wanted = (h : SettingsOfCommand) × HoldsCommandSettings r.command.head h × (wanted ≡ Some (rule_of_view_and_settings r h))

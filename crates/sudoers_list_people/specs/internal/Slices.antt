@@ -2,5 +2,5 @@
 use Rattle.std.specs.Prelude.{ℕ, List, map}
 use Rattle.std.specs.Borrow.{Bor}
 
-abbrev pub texts_shown : List (Bor (List ℕ)) → List (List ℕ)
-texts_shown texts = map (λ (text : Bor (List ℕ)). text.now) texts
+abbrev pub texts_of_view : List (Bor (List ℕ)) → List (List ℕ)
+texts_of_view texts = map (λ (text : Bor (List ℕ)). text.now) texts

@@ -2,40 +2,40 @@
 use Rattle.std.specs.Prelude.{ℕ, List, [], ◌∷◌, ◌++◌, Option, None, Some}
 use Rattle.std.specs.Int.Bits.{bit_or}
 use Rattle.std.specs.List.{flat_map}
-use Rattle.sudoers_line.specs.declared.node.Atom.{Atom}
-use Rattle.sudoers_line.specs.declared.node.Atom.TheVariants as atom
-use Rattle.sudoers_line.specs.Node.{CmdSpec, HostGroup, Member, Node, RunasSpec, Scope}
-use Rattle.sudoers_tree.specs.NameBits.{bits_of}
-use Rattle.sudoers_tree.specs.Standing.{standing}
+use Rattle.sudoers_grammar.specs.declared.node.Atom.{Atom}
+use Rattle.sudoers_grammar.specs.declared.node.Atom.TheVariants as atom
+use Rattle.sudoers_grammar.specs.Node.{CmdSpec, HostGroup, Member, Node, RunasSpec, Scope}
+use Rattle.sudoers_tree.specs.NameBits.{bits_of_name}
+use Rattle.sudoers_tree.specs.Standing.{alias_names_in_line}
 
 -- the bits `bits` with those of these names
-abbrev pub with_bits : ℕ → List (List ℕ) → ℕ
-with_bits bits [] = bits
-with_bits bits (name ∷ names) = with_bits (bit_or bits (bits_of name)) names
+abbrev pub bits_with_names_added : ℕ → List (List ℕ) → ℕ
+bits_with_names_added bits [] = bits
+bits_with_names_added bits (name ∷ names) = bits_with_names_added (bit_or bits (bits_of_name name)) names
 
 -- the bits of the names that stand in a line which says this
-abbrev pub bits_in : Node → ℕ
-bits_in says = with_bits 0 (standing says)
+abbrev pub bits_of_alias_names_in : Node → ℕ
+bits_of_alias_names_in says = bits_with_names_added 0 (alias_names_in_line says)
 
 -- ---- the names of the aliases among members, in their order
 
-abbrev pub atom_names : Atom → List (List ℕ)
-atom_names (atom.Alias name) = name ∷ []
-atom_names other = []
+abbrev pub alias_names_in_atom : Atom → List (List ℕ)
+alias_names_in_atom (atom.Alias name) = name ∷ []
+alias_names_in_atom other = []
 
-abbrev pub names_of : List Member → List (List ℕ)
-names_of members = flat_map (λ (m : Member). atom_names m.atom) members
+abbrev pub alias_names_in_members : List Member → List (List ℕ)
+alias_names_in_members members = flat_map (λ (m : Member). alias_names_in_atom m.atom) members
 
-abbrev pub runas_names : Option RunasSpec → List (List ℕ)
-runas_names None = []
-runas_names (Some r) = names_of r.users ++ names_of r.groups
+abbrev pub alias_names_in_runas : Option RunasSpec → List (List ℕ)
+alias_names_in_runas None = []
+alias_names_in_runas (Some r) = alias_names_in_members r.users ++ alias_names_in_members r.groups
 
-abbrev pub command_names : CmdSpec → List (List ℕ)
-command_names c = runas_names c.runas ++ atom_names c.member.atom
+abbrev pub alias_names_in_command : CmdSpec → List (List ℕ)
+alias_names_in_command c = alias_names_in_runas c.runas ++ alias_names_in_atom c.member.atom
 
-abbrev pub group_names : HostGroup → List (List ℕ)
-group_names g = names_of g.hosts ++ flat_map command_names g.commands
+abbrev pub alias_names_in_host_group : HostGroup → List (List ℕ)
+alias_names_in_host_group g = alias_names_in_members g.hosts ++ flat_map alias_names_in_command g.commands
 
-abbrev pub scope_names : Option Scope → List (List ℕ)
-scope_names None = []
-scope_names (Some s) = names_of s.members
+abbrev pub alias_names_in_scope : Option Scope → List (List ℕ)
+alias_names_in_scope None = []
+alias_names_in_scope (Some s) = alias_names_in_members s.members

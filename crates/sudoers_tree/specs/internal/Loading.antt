@@ -2,60 +2,60 @@
 use Rattle.std.specs.Prelude.{◌≡◌, ◌⊎◌, ℕ, List, map, Result, Ok, Err}
 use Rattle.std.specs.List.{All}
 use Rattle.sudoers_line_rows.specs.declared.rows.Tables.{Tables}
-use Rattle.sudoers_tree.specs.declared.index.Index.{Index}
+use Rattle.sudoers_tree.specs.declared.alias_index.AliasNameIndex.{AliasNameIndex}
 use Rattle.sudoers_tree.specs.declared.load_fault.LoadFault.{LoadFault}
 use Rattle.sudoers_tree.specs.declared.load_fault.LoadFault.TheVariants.{NoMemory}
-use Rattle.sudoers_tree.specs.declared.walked.WalkedFiles.{WalkedFiles}
-use Rattle.sudoers_tree.specs.declared.walked.WalkedAnew.{WalkedAnew}
-use Rattle.sudoers_tree.specs.declared.walked.NewWalk.{NewWalk}
-use Rattle.sudoers_tree.specs.declared.walked.NewWalk.TheVariants.{Kept, Anew}
-use Rattle.sudoers_tree.specs.declared.kept.WalkBefore.{WalkBefore}
-use Rattle.sudoers_tree.specs.declared.place.Spot.{Spot}
-use Rattle.sudoers_tree.specs.Definition.{definitions}
-use Rattle.sudoers_tree.specs.Files.{FileReading}
-use Rattle.sudoers_tree.specs.internal.Index.{Indexes, renewed_index}
-use Rattle.sudoers_tree.specs.Line.{Line, line_in}
-use Rattle.sudoers_tree.specs.Load.{Loaded, loaded_over, walked_over}
-use Rattle.sudoers_tree.specs.Walk.{and_then}
-use Rattle.sudoers_tree.specs.internal.Files.{IsFile, reading_in}
-use Rattle.sudoers_tree.specs.internal.KeptLines.{IsFresh, HasFresh}
-use Rattle.sudoers_tree.specs.internal.Tree.{Stands}
-use Rattle.sudoers_tree.specs.internal.Walking.{walked}
+use Rattle.sudoers_tree.specs.declared.files_and_walk.WalkedFiles.{WalkedFiles}
+use Rattle.sudoers_tree.specs.declared.files_and_walk.FilesAndWalkAfterChange.{FilesAndWalkAfterChange}
+use Rattle.sudoers_tree.specs.declared.files_and_walk.WalkAfterChange.{WalkAfterChange}
+use Rattle.sudoers_tree.specs.declared.files_and_walk.WalkAfterChange.TheVariants.{Kept, Anew}
+use Rattle.sudoers_tree.specs.declared.in_place_update.WalkBeforeChange.{WalkBeforeChange}
+use Rattle.sudoers_tree.specs.declared.place.WalkLineSpot.{WalkLineSpot}
+use Rattle.sudoers_tree.specs.Definition.{definitions_of_lines}
+use Rattle.sudoers_tree.specs.Files.{ParsedFile}
+use Rattle.sudoers_tree.specs.internal.Index.{IsIndexOfDefinitions, index_after_update}
+use Rattle.sudoers_tree.specs.Line.{Line, line_of_row}
+use Rattle.sudoers_tree.specs.Load.{LoadedPolicy, policy_of_parsed_files, walk_or_first_fault}
+use Rattle.sudoers_tree.specs.Walk.{load_result_and_then}
+use Rattle.sudoers_tree.specs.internal.Files.{HasSoundFileRows, parsed_file_of_rows}
+use Rattle.sudoers_tree.specs.internal.KeptLines.{IsNewAliasNameFree, HasAliasRenamed}
+use Rattle.sudoers_tree.specs.internal.Tree.{IsLastingLineRow}
+use Rattle.sudoers_tree.specs.internal.Walking.{walk_state_of_builder}
 
 -- the lines of the walk
-abbrev pub walk_lines_in : WalkedFiles → List Line
-walk_lines_in w = map (line_in w.tables) w.lines.items
+abbrev pub lines_of_kept_walk : WalkedFiles → List Line
+lines_of_kept_walk w = map (line_of_row w.tables) w.lines.items
 
 -- the policy that is kept
-abbrev pub loaded_in : WalkedFiles → Loaded
-loaded_in w = record {
-  files = map (reading_in w.tables) w.files.items;
-  walk = record { lines = walk_lines_in w; spots = w.spots.items; on = w.on.items };
+abbrev pub policy_of_walked_files : WalkedFiles → LoadedPolicy
+policy_of_walked_files w = record {
+  files = map (parsed_file_of_rows w.tables) w.files.items;
+  walk = record { lines = lines_of_kept_walk w; spots = w.spots.items; on = w.on.items };
 }
 
 -- The rows go on holding the lines of the files and of the walk, and the index has the names that the lines of the walk define.
-pub record AreWalked (w : WalkedFiles) : Type 0 where
-  pub files : All (IsFile w.tables) w.files.items
-  pub stand : All (Stands w.tables) w.lines.items
-  pub named : Indexes w.index (definitions (walk_lines_in w))
+pub record AreSoundWalkedFiles (w : WalkedFiles) : Type 0 where
+  pub files : All (HasSoundFileRows w.tables) w.files.items
+  pub stand : All (IsLastingLineRow w.tables) w.lines.items
+  pub named : IsIndexOfDefinitions w.index (definitions_of_lines (lines_of_kept_walk w))
 
 -- This is the walk over the files, where it was before over these spots and files with the names of this index: it stays, or is made anew. The
 -- rows go on holding its lines, and the index has their names then.
-abbrev pub IsNewWalk : Tables → List Spot → List ℕ → Index → List FileReading → NewWalk → Type 0
-IsNewWalk t spots on index files (Kept new) =
-    (walked_over files ≡ Ok (record { lines = map (line_in t) new.lines.items; spots = spots; on = on }))
-    × All (Stands t) new.lines.items
-    × IsFresh index new.fresh
-    × ((after : Index) → HasFresh index new.fresh after → Indexes after (definitions (map (line_in t) new.lines.items)))
-IsNewWalk t spots on index files (Anew walking) =
-    (walked_over files ≡ Ok (walked t walking))
-    × All (Stands t) walking.lines.items
-    × Indexes (renewed_index index walking.names) (definitions (map (line_in t) walking.lines.items))
+abbrev pub IsWalkAfterChange : Tables → List WalkLineSpot → List ℕ → AliasNameIndex → List ParsedFile → WalkAfterChange → Type 0
+IsWalkAfterChange t spots on index files (Kept new) =
+    (walk_or_first_fault files ≡ Ok (record { lines = map (line_of_row t) new.lines.items; spots = spots; on = on }))
+    × All (IsLastingLineRow t) new.lines.items
+    × IsNewAliasNameFree index new.fresh
+    × ((after : AliasNameIndex) → HasAliasRenamed index new.fresh after → IsIndexOfDefinitions after (definitions_of_lines (map (line_of_row t) new.lines.items)))
+IsWalkAfterChange t spots on index files (Anew walking) =
+    (walk_or_first_fault files ≡ Ok (walk_state_of_builder t walking))
+    × All (IsLastingLineRow t) walking.lines.items
+    × IsIndexOfDefinitions (index_after_update index walking.names) (definitions_of_lines (map (line_of_row t) walking.lines.items))
 
 -- Files are read in these tables, with the walk over them; or the fault is that of the reading, or of the walk, or `NoMemory`.
-abbrev pub WalksChanged : Result WalkedAnew LoadFault → Tables → WalkBefore → Result (List FileReading) LoadFault → Type 0
-WalksChanged (Ok new) t b read =
-    (read ≡ Ok (map (reading_in t) new.files.items))
-    × All (IsFile t) new.files.items
-    × IsNewWalk t b.spots.now b.on.now b.index.now (map (reading_in t) new.files.items) new.walk
-WalksChanged (Err fault) t b read = (fault ≡ NoMemory) ⊎ (and_then read loaded_over ≡ Err fault)
+abbrev pub IsChangedWalkOutcome : Result FilesAndWalkAfterChange LoadFault → Tables → WalkBeforeChange → Result (List ParsedFile) LoadFault → Type 0
+IsChangedWalkOutcome (Ok new) t b read =
+    (read ≡ Ok (map (parsed_file_of_rows t) new.files.items))
+    × All (HasSoundFileRows t) new.files.items
+    × IsWalkAfterChange t b.spots.now b.on.now b.index.now (map (parsed_file_of_rows t) new.files.items) new.walk
+IsChangedWalkOutcome (Err fault) t b read = (fault ≡ NoMemory) ⊎ (load_result_and_then read policy_of_parsed_files ≡ Err fault)

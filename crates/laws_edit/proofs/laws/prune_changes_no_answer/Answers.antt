@@ -1,17 +1,17 @@
 use Rattle.std.proofs.Common.{◌≡◌, [], ◌∷◌, ap, Ok}
-use Rattle.sudoers_tree.specs.Load.{Loaded, files_of, load_of}
+use Rattle.sudoers_tree.specs.Load.{LoadedPolicy, named_files_of_policy, policy_or_load_fault}
 use Rattle.sudoers_edit_script.specs.declared.edit.Edit.TheVariants.{Prune}
-use Rattle.sudoers_edit.specs.Editing.{run_all, step, then_or}
-use Rattle.sudoers_match.specs.Beside.{KeepsReachable}
-use Rattle.laws_edit.proofs.LeftDefinitions.{left_keeps}
+use Rattle.sudoers_edit.specs.Editing.{policy_or_first_refusal, step, next_or_placed_refusal}
+use Rattle.sudoers_match.specs.Beside.{KeepsReachableAliases}
+use Rattle.laws_edit.proofs.LeftDefinitions.{definitions_left_keep_reachable_aliases}
 use Rattle.laws_edit.proofs.PrunedLines.{pruned_left}
 use Rattle.laws_edit.proofs.laws.prune_changes_no_answer.Goals as goal
 
 -- what a prune leaves
-keeps : (c : goal.After-unreachable_definitions_change_no_answer) → (policy new : Loaded) → load_of (files_of policy) ≡ Ok policy → step Prune policy ≡ Ok new
-    → KeepsReachable policy.walk.lines new.walk.lines
+keeps : (c : goal.After-unreachable_definitions_change_no_answer) → (policy new : LoadedPolicy) → policy_or_load_fault (named_files_of_policy policy) ≡ Ok policy → step Prune policy ≡ Ok new
+    → KeepsReachableAliases policy.walk.lines new.walk.lines
 keeps c policy new loaded is =
-    left_keeps policy.walk.lines new.walk.lines
+    definitions_left_keep_reachable_aliases policy.walk.lines new.walk.lines
     (pruned_left policy.walk.lines c.chains_are.ensures.unused c.chains_are.ensures.used new.walk.lines (c.prune_leaves_the_used.ensures policy new loaded is)).left
 
 pub returns-clause-answer : goal.returns-clause-answer
@@ -29,5 +29,5 @@ returns-clause-groups c policy new loaded is =
 pub returns-clause-cycle : goal.returns-clause-cycle
 returns-clause-cycle c policy new loaded is =
     c.unreachable_definitions_change_no_answer.ensures.cycle policy.walk.lines new.walk.lines (keeps c policy new loaded is)
-    (c.loaded_is_walk.ensures (files_of policy) policy loaded)
-    (c.loaded_is_walk.ensures (files_of new) new (c.inverse_leads_back.ensures.back (Prune ∷ []) policy new loaded (ap (then_or (run_all 1 []) 0) is)).loaded)
+    (c.loaded_is_walk.ensures (named_files_of_policy policy) policy loaded)
+    (c.loaded_is_walk.ensures (named_files_of_policy new) new (c.inverse_leads_back.ensures.back (Prune ∷ []) policy new loaded (ap (next_or_placed_refusal (policy_or_first_refusal 1 []) 0) is)).loaded)

@@ -1,14 +1,14 @@
 use Rattle.sudoers_text.specs.Line.{join}
-use Rattle.sudoers_tree.specs.Files.{lines_of}
-use Rattle.sudoers_tree.specs.Load.{files_of}
-use Rattle.sudoers_tree.specs.Policy.{texts}
-use Rattle.laws_program.proofs.EditLeadsBack.{leads_back}
+use Rattle.sudoers_tree.specs.Files.{lines_of_numbered_file}
+use Rattle.sudoers_tree.specs.Load.{named_files_of_policy}
+use Rattle.sudoers_tree.specs.Policy.{texts_of_lines}
+use Rattle.laws_program.proofs.EditLeadsBack.{edit_output_restores_policy}
 use Rattle.laws_program.proofs.way_back.edit_leads_back.Goals as goal
 
 pub returns : goal.returns
-returns c = leads_back (record {
+returns c = edit_output_restores_policy (record {
   bytes = c.loaded_files_are.ensures.bytes;
-  fit = λ policy loaded f. (c.lines_stand_alone.ensures (join (texts (lines_of policy.files f))) (texts (lines_of policy.files f)) (c.loaded_files_are_cut.ensures (files_of policy) policy loaded f)).3;
+  fit = λ policy loaded f. (c.lines_stand_alone.ensures (join (texts_of_lines (lines_of_numbered_file policy.files f))) (texts_of_lines (lines_of_numbered_file policy.files f)) (c.loaded_files_are_cut.ensures (named_files_of_policy policy) policy loaded f)).3;
   bundled = c.bundle_is_read.ensures;
   unbundled = c.read_is_bundle.ensures.bundle;
   held = c.read_is_bundle.ensures.held;

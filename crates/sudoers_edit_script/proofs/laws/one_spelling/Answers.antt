@@ -1,5 +1,5 @@
-use Rattle.sudoers_edit_script.proofs.OneSpelling.{spelling_injective}
+use Rattle.sudoers_edit_script.proofs.OneSpelling.{spelling_of_edits_is_injective}
 use Rattle.sudoers_edit_script.proofs.laws.one_spelling.Goals as goal
 
 pub returns : goal.returns
-returns c = spelling_injective
+returns c = spelling_of_edits_is_injective

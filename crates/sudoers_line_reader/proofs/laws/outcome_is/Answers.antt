@@ -1,5 +1,5 @@
-use Rattle.sudoers_line_reader.proofs.Contract.{outcome_is}
+use Rattle.sudoers_line_reader.proofs.Contract.{computed_outcome_is_outcome_of_line}
 use Rattle.sudoers_line_reader.proofs.laws.outcome_is.Goals as goal
 
 pub returns : goal.returns
-returns c = outcome_is c.tokens_are.ensures
+returns c = computed_outcome_is_outcome_of_line c.tokens_are.ensures

@@ -1,5 +1,5 @@
-use Rattle.sudoers_list.proofs.OneReason.{one_text}
+use Rattle.sudoers_list.proofs.OneReason.{reason_text_is_unique}
 use Rattle.sudoers_list.proofs.laws.one_reason.Goals as goal
 
 pub returns : goal.returns
-returns c = one_text c.one_runas_default.ensures
+returns c = reason_text_is_unique c.one_runas_default.ensures

@@ -1,5 +1,5 @@
-use Rattle.sudoers_text.proofs.LastLine.{lf_from}
+use Rattle.sudoers_text.proofs.LastLine.{removing_last_lf_keeps_cut_lines}
 use Rattle.sudoers_text.proofs.laws.lf_from_last_line.Goals as goal
 
 pub returns : goal.returns
-returns c = lf_from
+returns c = removing_last_lf_keeps_cut_lines

@@ -1,5 +1,5 @@
-use Rattle.sudoers_text.proofs.Local.{line_local}
+use Rattle.sudoers_text.proofs.Local.{inner_line_is_line_anywhere}
 use Rattle.sudoers_text.proofs.laws.line_anywhere.Goals as goal
 
 pub returns : goal.returns
-returns c = line_local
+returns c = inner_line_is_line_anywhere

@@ -1,5 +1,5 @@
-use Rattle.sudoers_text.proofs.Alone.{lines_of_join}
+use Rattle.sudoers_text.proofs.Alone.{join_is_cut_into_its_lines}
 use Rattle.sudoers_text.proofs.laws.lines_of_join.Goals as goal
 
 pub returns : goal.returns
-returns c = lines_of_join
+returns c = join_is_cut_into_its_lines

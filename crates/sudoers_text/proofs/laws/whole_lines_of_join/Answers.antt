@@ -1,5 +1,5 @@
-use Rattle.sudoers_text.proofs.WholeAlone.{whole_lines}
+use Rattle.sudoers_text.proofs.WholeAlone.{logical_lines_are_lines_of_their_join}
 use Rattle.sudoers_text.proofs.laws.whole_lines_of_join.Goals as goal
 
 pub returns : goal.returns
-returns c = whole_lines c.closed_line_anywhere.ensures
+returns c = logical_lines_are_lines_of_their_join c.closed_line_anywhere.ensures

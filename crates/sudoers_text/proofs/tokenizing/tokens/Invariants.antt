@@ -1,13 +1,13 @@
 use Rattle.std.proofs.Common.{◌-◌, ◌≤◌, length}
-use Rattle.sudoers_text.specs.internal.Reached.{Reaches}
-use Rattle.sudoers_text.proofs.Standing.{Standing}
+use Rattle.sudoers_text.specs.internal.Reached.{DescribesLeftAtOffset}
+use Rattle.sudoers_text.proofs.Standing.{HasReadTokensUpToPlace}
 use Rattle.sudoers_text.proofs.tokenizing.tokens.Given as goal
 
 abbrev pub invariant-loop-start : goal.invariant-loop-start
 invariant-loop-start l = record {
-  standing : Standing l.fn.mode l.line l.here l.at l.tokens.items;
+  standing : HasReadTokensUpToPlace l.fn.mode l.line l.here l.at l.tokens.items;
   below : l.reached.at ≤ l.at;
-  knows : Reaches l.line l.reached;
+  knows : DescribesLeftAtOffset l.line l.reached;
 }
 
 abbrev pub decreases-loop-start : goal.decreases-loop-start

@@ -1,0 +1,188 @@
+//! Users, hosts, commands and requests, as the parts of a body have them.
+
+use crate::case_frames::{eight_byte_number_of, first_part_of, words_of_parts};
+use std::alloc::{AllocError, Global};
+use sudoers_grammar::{Address, Items, Mask};
+use sudoers_match::Request;
+use sudoers_match_member::{CommandLine, Group, Interface, Person, Who};
+
+/// Returns the number that four bytes are, the first highest: 0 if there are fewer.
+fn four_byte_id_of(bytes: &[u8]) -> u32 {
+    match bytes.split_first_chunk::<4>() {
+        Some((number, _)) => u32::from_be_bytes(*number),
+        None => 0,
+    }
+}
+
+/// Returns the mask that five bytes are: a number of bits, or 255 and a dotted mask. `None` if there is no byte.
+fn mask_of_bytes(bytes: &[u8]) -> Option<Mask> {
+    let (bits, dotted) = bytes.split_first()?;
+    Some(match *bits {
+        255 => Mask::Dotted(Address {
+            number: four_byte_id_of(dotted),
+        }),
+        bits => Mask::Bits(bits),
+    })
+}
+
+/// Returns the address that four bytes are, and the mask behind it if there is one.
+pub fn address_and_mask_of(bytes: &[u8]) -> (Address, Option<Mask>) {
+    let address = Address {
+        number: four_byte_id_of(bytes),
+    };
+    let (_, mask) = bytes.split_at_checked(4).unwrap_or((b"", b""));
+    (address, mask_of_bytes(mask))
+}
+
+/// Returns the interfaces that are nine bytes each: an address and a mask.
+///
+/// # Errors
+///
+/// Memory ran out.
+pub fn interfaces_of_bytes(alloc: Global, bytes: &[u8]) -> Result<Vec<Interface>, AllocError> {
+    let mut interfaces = Vec::new(alloc);
+    for piece in bytes.chunks_exact(9) {
+        if let (address, Some(mask)) = address_and_mask_of(piece) {
+            interfaces.push(Interface { address, mask })?;
+        }
+    }
+    Ok(interfaces)
+}
+
+/// Returns the group that the first two parts are: a name, and a number of four bytes.
+///
+/// # Errors
+///
+/// Memory ran out.
+pub fn group_of_parts(alloc: Global, bytes: &[u8]) -> Result<Group, AllocError> {
+    let (name, rest) = first_part_of(bytes);
+    let (number, _) = first_part_of(rest);
+    Ok(Group {
+        gid: four_byte_id_of(number),
+        name: Items::from_slice(alloc, name)?,
+    })
+}
+
+/// Returns the user that the parts are: a name, a number of four bytes, and groups.
+///
+/// # Errors
+///
+/// Memory ran out.
+pub fn user_of_parts(alloc: Global, bytes: &[u8]) -> Result<Person, AllocError> {
+    let (name, rest) = first_part_of(bytes);
+    let (number, rest) = first_part_of(rest);
+    Ok(Person {
+        name: Items::from_slice(alloc, name)?,
+        uid: four_byte_id_of(number),
+        groups: groups_of_parts(alloc, rest)?,
+    })
+}
+
+/// Returns the groups that the parts are, two for each.
+fn groups_of_parts(alloc: Global, bytes: &[u8]) -> Result<Items<Group>, AllocError> {
+    let mut groups = Vec::new(alloc);
+    let mut left = bytes;
+    for _ in 0..bytes.len() {
+        if left.is_empty() {
+            break;
+        }
+        groups.push(group_of_parts(alloc, left)?)?;
+        let (_, rest) = first_part_of(left);
+        let (_, others) = first_part_of(rest);
+        left = others;
+    }
+    Ok(Items::from_vec(groups))
+}
+
+/// Returns `user` on the host that three parts are, its short name, its long name and its interfaces.
+///
+/// # Errors
+///
+/// Memory ran out.
+pub fn who_of_user_and_host(alloc: Global, user: Person, host: &[u8]) -> Result<Who, AllocError> {
+    let (short, rest) = first_part_of(host);
+    let (long, rest) = first_part_of(rest);
+    let (interfaces, _) = first_part_of(rest);
+    Ok(Who {
+        user,
+        long_host: Items::from_slice(alloc, long)?,
+        short_host: Items::from_slice(alloc, short)?,
+        interfaces: Items::from_vec(interfaces_of_bytes(alloc, interfaces)?),
+    })
+}
+
+/// Returns the user on a host that two parts are: the host, and the user.
+///
+/// # Errors
+///
+/// Memory ran out.
+pub fn who_of_parts(alloc: Global, bytes: &[u8]) -> Result<Who, AllocError> {
+    let (host, rest) = first_part_of(bytes);
+    let (user, _) = first_part_of(rest);
+    who_of_user_and_host(alloc, user_of_parts(alloc, user)?, host)
+}
+
+/// Returns the command that two parts are: its path and its arguments.
+///
+/// # Errors
+///
+/// Memory ran out.
+pub fn command_line_of_parts(alloc: Global, bytes: &[u8]) -> Result<CommandLine, AllocError> {
+    let (path, rest) = first_part_of(bytes);
+    let (args, _) = first_part_of(rest);
+    Ok(CommandLine {
+        path: Items::from_slice(alloc, path)?,
+        args: Items::from_slice(alloc, args)?,
+    })
+}
+
+/// Returns the request that seven parts are: the host, the user, the target, its group, the command, its arguments and the moment.
+///
+/// # Errors
+///
+/// Memory ran out.
+pub fn request_of_parts(alloc: Global, bytes: &[u8]) -> Result<Request, AllocError> {
+    let (_, rest) = first_part_of(bytes);
+    let (_, rest) = first_part_of(rest);
+    let (target, rest) = first_part_of(rest);
+    let (group, rest) = first_part_of(rest);
+    let (command, rest) = first_part_of(rest);
+    let (args, rest) = first_part_of(rest);
+    let (moment, _) = first_part_of(rest);
+    let who = who_of_parts(alloc, bytes)?;
+    let (target, target_group) = target_user_and_group_of(alloc, target, group)?;
+    let (command, args) = path_and_arguments_of(alloc, command, args)?;
+    Ok(Request {
+        who,
+        target,
+        target_group,
+        command,
+        args,
+        moment: eight_byte_number_of(moment).0,
+    })
+}
+
+/// Returns the user as whom a command is to run, and the group; `None` if `group` has no byte.
+fn target_user_and_group_of(
+    alloc: Global,
+    target: &[u8],
+    group: &[u8],
+) -> Result<(Person, Option<Group>), AllocError> {
+    let target = user_of_parts(alloc, target)?;
+    if group.is_empty() {
+        return Ok((target, None));
+    }
+    let group = group_of_parts(alloc, group)?;
+    Ok((target, Some(group)))
+}
+
+/// Returns the path of a command, and its arguments, which are parts.
+fn path_and_arguments_of(
+    alloc: Global,
+    path: &[u8],
+    args: &[u8],
+) -> Result<(Items<u8>, Items<Items<u8>>), AllocError> {
+    let args = words_of_parts(alloc, args)?;
+    let path = Items::from_slice(alloc, path)?;
+    Ok((path, Items::from_vec(args)))
+}

@@ -1,7 +1,0 @@
-use Rattle.std.proofs.Common.{◌≡◌, ◌++◌, drop}
-use Rattle.sudoers_check.specs.internal.Noting.{places_from}
-use Rattle.sudoers_check.proofs.checking.append_places.Given as goal
-
-abbrev pub invariant-loop-def : goal.invariant-loop-def
-invariant-loop-def l =
-    l.places.items ++ places_from l.line l.kind l.def (drop l.def l.marks) ≡ l.initial.places.items ++ places_from l.line l.kind 0 l.marks

@@ -1,0 +1,136 @@
+//! Words and patterns as they are spelled (sudoers(5), Other special characters and reserved words).
+
+ghost use Rattle.std.specs.Prelude.{◌≡◌, ◌<◌, ◌≤◌, ◌++◌, OnOk, length, List, ℕ};
+ghost use Rattle.sudoers_grammar.specs.Pattern.{is_dropped_backslash_before};
+ghost use Rattle.sudoers_cvt_spell.specs.Spelling.{is_word_escape_needed, is_control, lower_hex_digit, spelled_word_byte, spelled_word, escaped_pattern_byte, escaped_pattern, backslash_guarded_text};
+
+use std::alloc::AllocError;
+use sudoers_grammar::PatternSpelling;
+
+/// Returns whether a backslash stands before `byte` in a word.
+fn is_escaped_in_word(byte: u8) -> bool
+    ensures { result ≡ is_word_escape_needed byte }
+{
+    matches!(
+        byte,
+        b'!' | b'=' | b':' | b',' | b'(' | b')' | b'\\' | b'"' | b'#' | b' ' | b'\t'
+    )
+}
+
+/// Returns whether `byte` is spelled by hexadecimal digits.
+pub fn is_control(byte: u8) -> bool
+    ensures { result ≡ is_control byte }
+{
+    byte < 32 || byte == 127
+}
+
+/// Returns a hexadecimal digit.
+fn hex_digit_of_number(number: u8) -> u8
+    requires { number < 16 }
+    ensures { result ≡ lower_hex_digit number }
+{
+    if number < 10 {
+        b'0' + number
+    } else {
+        b'W' + number
+    }
+}
+
+/// Appends a byte of a word.
+fn append_word_byte(out: &mut Vec<u8>, byte: u8) -> Result<(), AllocError>
+    ensures { OnOk result (out.new.items ≡ out.old.items ++ spelled_word_byte byte) }
+{
+    if is_escaped_in_word(byte) {
+        out.extend_from_slice(&[b'\\', byte])
+    } else if is_control(byte) {
+        out.extend_from_slice(&[
+            b'\\',
+            b'x',
+            hex_digit_of_number(byte / 16),
+            hex_digit_of_number(byte % 16),
+        ])
+    } else {
+        out.extend_from_slice(&[byte])
+    }
+}
+
+/// Appends the word that has the value `value`.
+///
+/// # Errors
+///
+/// Memory ran out.
+pub fn append_spelled_word(out: &mut Vec<u8>, value: &[u8]) -> Result<(), AllocError>
+    ensures { OnOk result (out.new.items ≡ out.old.items ++ spelled_word value.now) }
+{
+    for byte in value {
+        append_word_byte(out, *byte)?;
+    }
+    Ok(())
+}
+
+/// Returns whether reading drops a backslash before `byte` in such a pattern.
+fn loses_backslash(spelling: PatternSpelling, byte: u8) -> bool
+    ensures { result ≡ is_dropped_backslash_before spelling byte }
+{
+    match spelling {
+        PatternSpelling::Command => matches!(byte, b',' | b':' | b'=' | b'#' | b'"' | b' ' | b'\t'),
+        PatternSpelling::Host => matches!(
+            byte,
+            b',' | b':' | b'=' | b'#' | b'"' | b' ' | b'\t' | b'!' | b'(' | b')'
+        ),
+        PatternSpelling::QuotedHost => byte == b'"',
+    }
+}
+
+/// Appends a byte of a pattern.
+pub fn append_pattern_byte(
+    out: &mut Vec<u8>,
+    spelling: PatternSpelling,
+    byte: u8,
+) -> Result<(), AllocError>
+    ensures { OnOk result (out.new.items ≡ out.old.items ++ escaped_pattern_byte spelling byte) }
+{
+    if loses_backslash(spelling, byte) {
+        out.extend_from_slice(&[b'\\', byte])
+    } else {
+        out.extend_from_slice(&[byte])
+    }
+}
+
+/// Appends a pattern.
+///
+/// # Errors
+///
+/// Memory ran out.
+pub fn append_escaped_pattern(
+    out: &mut Vec<u8>,
+    spelling: PatternSpelling,
+    pattern: &[u8],
+) -> Result<(), AllocError>
+    ensures { OnOk result (out.new.items ≡ out.old.items ++ escaped_pattern spelling pattern.now) }
+{
+    for byte in pattern {
+        append_pattern_byte(out, spelling, *byte)?;
+    }
+    Ok(())
+}
+
+/// Inserts a backslash before the text that begins at `start`, if it would be read as something else.
+///
+/// # Errors
+///
+/// Memory ran out.
+pub fn guard_with_backslash(
+    out: &mut Vec<u8>,
+    start: usize,
+    reads_else: bool,
+) -> Result<(), AllocError>
+    requires { start ≤ length out.old.items }
+    ensures { OnOk result ((front text : List ℕ) → length front ≡ start → out.old.items ≡ front ++ text
+        → out.new.items ≡ front ++ backslash_guarded_text reads_else text) }
+{
+    if reads_else {
+        out.insert(start, b'\\')?;
+    }
+    Ok(())
+}

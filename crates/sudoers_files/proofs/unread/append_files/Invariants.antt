@@ -1,6 +1,0 @@
-use Rattle.std.proofs.Common.{◌≡◌, ◌++◌, map}
-use Rattle.sudoers_files.specs.declared.unread.Unread.TheVariants.{File}
-use Rattle.sudoers_files.proofs.unread.append_files.Given as goal
-
-abbrev pub invariant-loop-name : goal.invariant-loop-name
-invariant-loop-name l = l.all.items ≡ l.fn.all.items ++ map File l.yielded

@@ -1,0 +1,51 @@
+//! Commands with arguments.
+
+ghost use Rattle.std.specs.Prelude.{◌≡◌, ◌++◌, ◌∷◌, IfOk};
+ghost use Rattle.sudoers_grammar.specs.declared.pattern.PatternSpelling.TheVariants as Spelling;
+ghost use Rattle.sudoers_grammar.specs.Pattern.{pattern_of_text};
+ghost use Rattle.sudoers_grammar.specs.Atom.{is_argument_of_empty_quotes};
+ghost use Rattle.sudoers_grammar.specs.Arguments.{args_with_one_more};
+
+use crate::items::Items;
+use crate::node::Args;
+use crate::pattern::{PatternSpelling, make_pattern_of_text};
+use crate::token_with_text::begins_with_byte;
+use std::alloc::{AllocError, Global};
+
+/// What is to be run with arguments.
+#[derive(Drop)]
+pub enum ArglessCommand {
+    Path(Items<u8>),
+    Sudoedit,
+}
+
+/// Whether the argument is `""`, with continuations in it or not.
+fn is_empty_quotes_argument(text: &[u8], pattern: &[u8]) -> bool
+    requires { pattern.now ≡ pattern_of_text Spelling.Command text.now }
+    ensures { result ≡ is_argument_of_empty_quotes text.now }
+{
+    begins_with_byte(b'"', text) && pattern == b"\"\"".as_slice()
+}
+
+/// The arguments with one more.
+pub fn append_argument_to_args(alloc: Global, args: Args, text: &[u8]) -> Result<Args, AllocError>
+    ensures { IfOk result (λ more. more ≡ args_with_one_more args text.now) }
+{
+    let pattern = make_pattern_of_text(alloc, PatternSpelling::Command, text)?;
+    match args {
+        Args::Any if is_empty_quotes_argument(text, pattern.as_slice()) => Ok(Args::Nothing),
+        Args::Any => Ok(Args::Pattern(pattern)),
+        Args::Nothing => join_args_with_blank(Items::from_slice(alloc, b"\"\"")?, pattern),
+        Args::Pattern(first) => join_args_with_blank(first, pattern),
+    }
+}
+
+/// Arguments with a blank between them.
+fn join_args_with_blank(first: Items<u8>, last: Items<u8>) -> Result<Args, AllocError>
+    ensures { IfOk result (λ args. args ≡ Args.Pattern (first ++ 32 ∷ last)) }
+{
+    let mut all = first;
+    all.push(b' ')?;
+    all.extend_from_slice(last.as_slice())?;
+    Ok(Args::Pattern(all))
+}

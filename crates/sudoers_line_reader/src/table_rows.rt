@@ -1,0 +1,103 @@
+//! Rows that stand in tables, each kind in its own.
+
+ghost use Rattle.std.specs.Prelude.{◌≡◌, ◌++◌, List, length, IfOk};
+ghost use Rattle.sudoers_line_rows.specs.declared.rows.Tables.{Tables as TablesOf};
+ghost use Rattle.sudoers_line_rows.specs.Tables.{TablesHaveGrown, IsExtendedList, IsRowRangeFromTo};
+
+use std::alloc::AllocError;
+use sudoers_line_rows::{
+    AliasDefinitionRow, CommandRow, DigestRow, HostGroupRow, MemberRow, OptionRow, ParamRow,
+    RowRange, Tables, TagRow, append_table_rows,
+};
+
+/// A row that stands in a table of its kind.
+pub trait TableRow: Copy + Drop {
+    ghost table: { TablesOf → List Self };
+
+    /// Appends rows to their table.
+    fn keep(tables: &mut Tables, rows: &[Self]) -> Result<RowRange, AllocError>
+        ensures kept { IfOk result (λ r. (table tables.new ≡ table tables.old ++ rows.now) × IsRowRangeFromTo r (length (table tables.old)) (length (table tables.new))) }
+        ensures grown { TablesHaveGrown tables.old tables.new };
+
+    ghost grows: { (t u : TablesOf) → TablesHaveGrown t u → IsExtendedList (table t) (table u) };
+}
+
+impl TableRow for DigestRow {
+    ghost table = { λ t. t.digests.items };
+
+    ghost grows = { λ t u g. g.digests };
+
+    fn keep(tables: &mut Tables, rows: &[Self]) -> Result<RowRange, AllocError> {
+        append_table_rows(&mut tables.digests, rows)
+    }
+}
+
+impl TableRow for MemberRow {
+    ghost table = { λ t. t.members.items };
+
+    ghost grows = { λ t u g. g.members };
+
+    fn keep(tables: &mut Tables, rows: &[Self]) -> Result<RowRange, AllocError> {
+        append_table_rows(&mut tables.members, rows)
+    }
+}
+
+impl TableRow for OptionRow {
+    ghost table = { λ t. t.options.items };
+
+    ghost grows = { λ t u g. g.options };
+
+    fn keep(tables: &mut Tables, rows: &[Self]) -> Result<RowRange, AllocError> {
+        append_table_rows(&mut tables.options, rows)
+    }
+}
+
+impl TableRow for TagRow {
+    ghost table = { λ t. t.tags.items };
+
+    ghost grows = { λ t u g. g.tags };
+
+    fn keep(tables: &mut Tables, rows: &[Self]) -> Result<RowRange, AllocError> {
+        append_table_rows(&mut tables.tags, rows)
+    }
+}
+
+impl TableRow for CommandRow {
+    ghost table = { λ t. t.commands.items };
+
+    ghost grows = { λ t u g. g.commands };
+
+    fn keep(tables: &mut Tables, rows: &[Self]) -> Result<RowRange, AllocError> {
+        append_table_rows(&mut tables.commands, rows)
+    }
+}
+
+impl TableRow for HostGroupRow {
+    ghost table = { λ t. t.groups.items };
+
+    ghost grows = { λ t u g. g.groups };
+
+    fn keep(tables: &mut Tables, rows: &[Self]) -> Result<RowRange, AllocError> {
+        append_table_rows(&mut tables.groups, rows)
+    }
+}
+
+impl TableRow for AliasDefinitionRow {
+    ghost table = { λ t. t.defs.items };
+
+    ghost grows = { λ t u g. g.defs };
+
+    fn keep(tables: &mut Tables, rows: &[Self]) -> Result<RowRange, AllocError> {
+        append_table_rows(&mut tables.defs, rows)
+    }
+}
+
+impl TableRow for ParamRow {
+    ghost table = { λ t. t.params.items };
+
+    ghost grows = { λ t u g. g.params };
+
+    fn keep(tables: &mut Tables, rows: &[Self]) -> Result<RowRange, AllocError> {
+        append_table_rows(&mut tables.params, rows)
+    }
+}

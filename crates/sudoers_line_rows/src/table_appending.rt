@@ -1,0 +1,126 @@
+//! What is kept in tables.
+
+ghost use Rattle.std.specs.Prelude.{◌≡◌, ◌++◌, length, IfOk, OnOk};
+ghost use Rattle.sudoers_grammar.specs.Seen.{model_of_token_part};
+ghost use Rattle.sudoers_grammar.specs.Atom.{atom_of_token};
+ghost use Rattle.sudoers_line_rows.specs.Tables.{IsExtendedList, TablesHaveGrown, RowMeansForGood, IsRowRangeFromTo, OptionalRowMeansForGood, text_in_tables, args_in_tables, atom_in_tables};
+
+use crate::rows::{ArgsRow, AtomRow, ByteRange, RowRange, Tables};
+use std::alloc::{AllocError, Global};
+use sudoers_grammar::{Args, Atom, Kind, TokenWithText, parse_single_token_atom};
+
+impl Tables {
+    /// Returns tables without rows.
+    pub fn new(alloc: Global) -> Self {
+        Tables {
+            bytes: Vec::new(alloc),
+            digests: Vec::new(alloc),
+            members: Vec::new(alloc),
+            options: Vec::new(alloc),
+            tags: Vec::new(alloc),
+            commands: Vec::new(alloc),
+            groups: Vec::new(alloc),
+            defs: Vec::new(alloc),
+            params: Vec::new(alloc),
+        }
+    }
+}
+
+/// Returns the rows from one count to another. More than 2^32 rows are want of memory.
+fn make_row_range(from: usize, to: usize) -> Result<RowRange, AllocError>
+    ensures { IfOk result (λ r. IsRowRangeFromTo r from to) }
+{
+    match (u32::try_from(from), u32::try_from(to)) {
+        (Ok(from), Ok(to)) => Ok(RowRange { from, to }),
+        _ => Err(AllocError),
+    }
+}
+
+/// Appends rows to a table, and returns where they stand.
+pub fn append_table_rows<T: Copy>(table: &mut Vec<T>, rows: &[T]) -> Result<RowRange, AllocError>
+    ensures kept { IfOk result (λ r. (table.new.items ≡ table.old.items ++ rows.now) × IsRowRangeFromTo r (length table.old.items) (length table.new.items)) }
+    ensures grown { IsExtendedList table.old.items table.new.items }
+{
+    let from = table.len();
+    table.extend_from_slice(rows)?;
+    make_row_range(from, table.len())
+}
+
+/// Keeps the bytes.
+pub fn store_text(tables: &mut Tables, text: &[u8]) -> Result<ByteRange, AllocError>
+    ensures keeps { IfOk result (λ x. RowMeansForGood text_in_tables tables.new x text.now) }
+    ensures grown { TablesHaveGrown tables.old tables.new }
+{
+    let range = append_table_rows(&mut tables.bytes, text)?;
+    Ok(ByteRange {
+        from: range.from,
+        to: range.to,
+    })
+}
+
+/// Keeps the arguments of a command.
+pub fn store_command_args(tables: &mut Tables, args: &Args) -> Result<ArgsRow, AllocError>
+    ensures keeps { IfOk result (λ r. RowMeansForGood args_in_tables tables.new r args.now) }
+    ensures grown { TablesHaveGrown tables.old tables.new }
+{
+    match args {
+        Args::Any => Ok(ArgsRow::Any),
+        Args::Nothing => Ok(ArgsRow::Nothing),
+        Args::Pattern(pattern) => Ok(ArgsRow::Pattern(store_text(tables, pattern.as_slice())?)),
+    }
+}
+
+/// Keeps what a member is.
+pub fn store_atom(tables: &mut Tables, atom: &Atom) -> Result<AtomRow, AllocError>
+    ensures keeps { IfOk result (λ r. RowMeansForGood atom_in_tables tables.new r atom.now) }
+    ensures grown { TablesHaveGrown tables.old tables.new }
+{
+    match atom {
+        Atom::All => Ok(AtomRow::All),
+        Atom::Alias(name) => Ok(AtomRow::Alias(store_text(tables, name.as_slice())?)),
+        Atom::Name(name) => Ok(AtomRow::Name(store_text(tables, name.as_slice())?)),
+        Atom::Id(number) => Ok(AtomRow::Id(*number)),
+        Atom::Group(name) => Ok(AtomRow::Group(store_text(tables, name.as_slice())?)),
+        Atom::GroupId(number) => Ok(AtomRow::GroupId(*number)),
+        Atom::NonUnix(name) => Ok(AtomRow::NonUnix(store_text(tables, name.as_slice())?)),
+        Atom::Netgroup(name) => Ok(AtomRow::Netgroup(store_text(tables, name.as_slice())?)),
+        Atom::Host(name) => Ok(AtomRow::Host(store_text(tables, name.as_slice())?)),
+        Atom::Address(address) => Ok(AtomRow::Address(*address)),
+        Atom::Network(address, mask) => Ok(AtomRow::Network(*address, *mask)),
+        Atom::Listing => Ok(AtomRow::Listing),
+        Atom::Path { path, args } => {
+            let path = store_text(tables, path.as_slice())?;
+            let args = store_command_args(tables, args)?;
+            Ok(AtomRow::Path { path, args })
+        }
+        Atom::Sudoedit { args } => Ok(AtomRow::Sudoedit {
+            args: store_command_args(tables, args)?,
+        }),
+    }
+}
+
+/// Keeps what the token is as a member of a list of this kind, if it is one.
+pub fn store_member_atom(
+    alloc: Global,
+    tables: &mut Tables,
+    kind: Kind,
+    part: &TokenWithText<'_>,
+) -> Result<Option<AtomRow>, AllocError>
+    ensures keeps { IfOk result (λ row. OptionalRowMeansForGood atom_in_tables tables.new row (atom_of_token kind (model_of_token_part part.now))) }
+    ensures grown { TablesHaveGrown tables.old tables.new }
+{
+    match parse_single_token_atom(alloc, kind, part)? {
+        Some(atom) => Ok(Some(store_atom(tables, &atom)?)),
+        None => Ok(None),
+    }
+}
+
+/// Returns a byte's place as rows hold it. A place past 2^32 is want of memory.
+pub fn convert_offset_to_u32(at: usize) -> Result<u32, AllocError>
+    ensures { IfOk result (λ n. n ≡ at) }
+{
+    match u32::try_from(at) {
+        Ok(at) => Ok(at),
+        Err(_) => Err(AllocError),
+    }
+}

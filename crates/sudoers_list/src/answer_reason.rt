@@ -1,0 +1,185 @@
+//! Why a request is answered as it is.
+
+ghost use Rattle.std.specs.Prelude.{◌≡◌, ◌⊎◌, ◌++◌, slice_get, Some, IfOk, IfErr, IfSome, OnOk};
+ghost use Rattle.std.specs.Option.{option_map};
+ghost use Rattle.sudoers_tree.specs.Line.{line_of_view};
+ghost use Rattle.sudoers_check.specs.Chains.{HasReachableCycle};
+ghost use Rattle.sudoers_match_list.specs.declared.verdict.AskFault.TheVariants.{Cycle, NoMemory};
+ghost use Rattle.sudoers_match.specs.Answer.{IsAnswerToRequest, answer_of_view};
+ghost use Rattle.sudoers_match.specs.Default.{IsRunasDefault};
+ghost use Rattle.sudoers_match.specs.Found.{IsFoundInLines, answer_of_found};
+ghost use Rattle.sudoers_match.specs.Heads.{SettingsOfCommand as HeadOf};
+ghost use Rattle.sudoers_match.specs.IsHead.{HoldsCommandSettings};
+ghost use Rattle.sudoers_list.specs.internal.Inside.{alias_member_of_view, rule_of_view_and_settings};
+ghost use Rattle.sudoers_list.specs.Reason.{IsReasonText, IsReasonByDecidingRule, alias_member_reason_text, no_rule_matches_text, deciding_rule_text, allowed_or_denied_words as words_of};
+
+use crate::byte_place::append_byte_place;
+use crate::deciding_member::{DecidingAliasMember, find_deciding_alias_member};
+use crate::deciding_rule::{DecidingRule, find_deciding_rule, find_walk_line};
+use crate::listed_commands::{ListingNames, append_listed_command};
+use std::alloc::{AllocError, Global};
+use sudoers_cvt_spell::append_member;
+use sudoers_grammar::Kind;
+use sudoers_match::{
+    Answer, AnswerWithCommand, find_answer_without_args_limit, find_runas_default_for,
+};
+use sudoers_match_list::{AcyclicWalk, AskFault};
+use sudoers_match_member::Request;
+use sudoers_tree::Policy;
+
+/// Returns what stands before the rule.
+fn choose_verdict_words(allow: bool) -> &'static [u8]
+    ensures { result.now ≡ words_of allow }
+{
+    if allow {
+        b": allowed by: "
+    } else {
+        b": denied by: "
+    }
+}
+
+/// Returns what is said where no rule decides.
+fn make_no_rule_text(alloc: Global) -> Result<Vec<u8>, AllocError>
+    ensures { IfOk result (λ text. text.items ≡ no_rule_matches_text) }
+{
+    Vec::from_slice(alloc, b"no rule matches\n")
+}
+
+/// Returns the rule as a text.
+fn make_deciding_rule_text(
+    alloc: Global,
+    policy: &Policy,
+    names: &ListingNames<'_>,
+    rule: &DecidingRule<'_>,
+    allow: bool,
+) -> Result<Vec<u8>, AllocError>
+    requires { slice_get policy.now.walk.lines rule.now.at.number ≡ Some (line_of_view rule.now.at.line) }
+    ensures { IfOk result (λ text. (h : HeadOf) → HoldsCommandSettings rule.now.command.head h → text.items ≡ deciding_rule_text policy.now names.now.user.now names.now.default.now allow (rule_of_view_and_settings rule.now h)) }
+{
+    let mut text = Vec::new(alloc);
+    append_byte_place(
+        alloc,
+        &mut text,
+        policy,
+        &rule.at,
+        rule.command.member.start,
+    )?;
+    text.extend_from_slice(choose_verdict_words(allow))?;
+    append_listed_command(
+        alloc,
+        &mut text,
+        names,
+        &rule.command.head,
+        &rule.command.member,
+    )?;
+    text.extend_from_slice(b"\n")?;
+    Ok(text)
+}
+
+/// Appends the member of an alias that decides, with its place.
+fn append_alias_member_reason(
+    alloc: Global,
+    out: &mut Vec<u8>,
+    policy: &Policy,
+    inner: &DecidingAliasMember<'_>,
+) -> Result<(), AllocError>
+    ensures { OnOk result (out.new.items ≡ out.old.items ++ alias_member_reason_text policy.now (Some (alias_member_of_view inner.now))) }
+{
+    let Some(place) = policy.walk().place_of_definition(Kind::Cmnd, inner.name) else {
+        return Ok(());
+    };
+    let Some(at) = find_walk_line(policy, place.line) else {
+        return Ok(());
+    };
+    append_byte_place(alloc, out, policy, &at, inner.member.start)?;
+    out.extend_from_slice(b": in Cmnd_Alias ")?;
+    out.extend_from_slice(inner.name)?;
+    out.extend_from_slice(b": ")?;
+    append_member(alloc, out, false, Kind::Cmnd, &inner.member)?;
+    out.extend_from_slice(b"\n")
+}
+
+/// Returns the rule that gives an answer as a text, and the member that decides if an alias hides it.
+fn make_answer_reason_text<'a>(
+    alloc: Global,
+    policy: &'a Policy,
+    acyclic: &AcyclicWalk<'a>,
+    request: &Request,
+    names: &ListingNames<'_>,
+    found: &AnswerWithCommand<'a>,
+) -> Result<Vec<u8>, AllocError>
+    requires same { acyclic.now ≡ policy.now.walk.lines }
+    requires answer { IsAnswerToRequest policy.now.walk.lines request.now (Some (answer_of_found found.now)) }
+    requires found { IsFoundInLines policy.now.walk.lines found.now }
+    requires user { names.now.user.now ≡ request.now.who.user.name }
+    ensures { IfOk result (λ text. IsReasonByDecidingRule policy.now request.now names.now.default.now (answer_of_found found.now) text.items) }
+{
+    let rule = find_deciding_rule(policy, found);
+    let mut text = make_deciding_rule_text(alloc, policy, names, &rule, found.answer.allow)?;
+    if let Some(inner) = find_deciding_alias_member(
+        alloc,
+        acyclic,
+        request,
+        &rule.command.member,
+    )? {
+        append_alias_member_reason(alloc, &mut text, policy, &inner)?;
+    }
+    Ok(text)
+}
+
+/// Returns why `request` has this answer, as a text. Its line names the file of the rule that decides, the place of its command there,
+/// whether it allows or denies, and the command as it is listed, with the tags of the answer. If the command names an alias, a second
+/// line names the innermost alias and its member that decides, with the file and the place of this member. Without an answer no rule
+/// matches.
+///
+/// # Errors
+///
+/// `Cycle`: a reachable alias is cyclic. `NoMemory`: memory ran out.
+pub fn explain(
+    alloc: Global,
+    policy: &Policy,
+    request: &Request,
+    answer: Option<Answer<'_>>,
+) -> Result<Vec<u8>, AskFault>
+    requires { IsAnswerToRequest policy.now.walk.lines request.now (option_map answer_of_view answer) }
+    ensures text { IfOk result (λ text. IsReasonText policy.now request.now (option_map answer_of_view answer.entry) text.items) }
+    ensures straight { IfOk result (λ _. HasReachableCycle policy.now.walk.lines → ⊥) }
+    ensures fault { IfErr result (λ fault. (fault ≡ NoMemory) ⊎ ((fault ≡ Cycle) × HasReachableCycle policy.now.walk.lines)) }
+{
+    // A request has one answer, so the row that is found has the one that is given.
+    let acyclic = AcyclicWalk::new(alloc, policy.walk())?;
+    let default = find_runas_default_for(alloc, &acyclic, &request.who)?;
+    let found = find_answer_without_args_limit(alloc, &acyclic, request, default)?;
+    let text = explain_answer(alloc, policy, &acyclic, request, default, found)?;
+    Ok(text)
+}
+
+/// Returns why `request` has its answer, as [`explain`] does, from the row `found` that gives it. `acyclic` is the walk of `policy`, and
+/// `default` the user as whom a command runs where nothing else is said.
+///
+/// # Errors
+///
+/// Memory ran out.
+pub fn explain_answer<'a>(
+    alloc: Global,
+    policy: &'a Policy,
+    acyclic: &AcyclicWalk<'a>,
+    request: &Request,
+    default: &[u8],
+    found: Option<AnswerWithCommand<'a>>,
+) -> Result<Vec<u8>, AllocError>
+    requires same { acyclic.now ≡ policy.now.walk.lines }
+    requires default { IsRunasDefault policy.now.walk.lines request.now.who default.now }
+    requires answer { IsAnswerToRequest policy.now.walk.lines request.now (option_map answer_of_found found) }
+    requires found { IfSome found (IsFoundInLines policy.now.walk.lines) }
+    ensures { IfOk result (λ text. IsReasonText policy.now request.now (option_map answer_of_found found.entry) text.items) }
+{
+    let names = ListingNames {
+        user: request.who.user.name.as_slice(),
+        default,
+    };
+    match found {
+        Some(found) => make_answer_reason_text(alloc, policy, acyclic, request, &names, &found),
+        None => make_no_rule_text(alloc),
+    }
+}

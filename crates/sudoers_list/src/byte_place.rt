@@ -1,0 +1,52 @@
+//! Where bytes of a policy stand.
+
+ghost use Rattle.std.specs.Prelude.{◌≡◌, ◌++◌, slice_get, Some, OnOk};
+ghost use Rattle.sudoers_tree.specs.Line.{line_of_view};
+ghost use Rattle.sudoers_tree.specs.Walk.{spot_of_walk_line};
+ghost use Rattle.sudoers_list.specs.Reason.{file_row_column_text};
+
+use crate::deciding_rule::NumberedLine;
+use std::alloc::{AllocError, Global};
+use sudoers_text::append_decimal_number;
+use sudoers_tree::{Policy, WalkLineSpot, column_behind, lf_count};
+
+/// Returns where the line with the number `number` of the walk, from 0, stands.
+fn walk_line_spot_at(policy: &Policy, number: usize) -> WalkLineSpot
+    ensures { result ≡ spot_of_walk_line policy.now.walk number }
+{
+    match policy.spots_of_walk_lines().get(number) {
+        Some(spot) => *spot,
+        None => WalkLineSpot {
+            file: 0,
+            line: 0,
+            row: 1,
+        },
+    }
+}
+
+/// Appends the place of the byte `start` of a line, from 0: its file, its physical line there and its column.
+///
+/// # Errors
+///
+/// Memory ran out.
+pub fn append_byte_place(
+    alloc: Global,
+    out: &mut Vec<u8>,
+    policy: &Policy,
+    at: &NumberedLine<'_>,
+    start: usize,
+) -> Result<(), AllocError>
+    requires { slice_get policy.now.walk.lines at.now.number ≡ Some (line_of_view at.now.line) }
+    ensures { OnOk result (out.new.items ≡ out.old.items ++ file_row_column_text policy.now at.now.number at.now.line.text.now start) }
+{
+    // laws
+    policy.lines_stand();
+    let text = at.line.text;
+    let before = &text[..start.min(text.len())];
+    let spot = walk_line_spot_at(policy, at.number);
+    out.extend_from_slice(policy.file_name(spot.file))?;
+    out.extend_from_slice(b":")?;
+    append_decimal_number(alloc, out, spot.row + lf_count(before))?;
+    out.extend_from_slice(b":")?;
+    append_decimal_number(alloc, out, column_behind(before))
+}

@@ -1,0 +1,45 @@
+//! Numbers of groups that were seen.
+
+ghost use Rattle.std.specs.Prelude.{◌≡◌, [], ◌∷◌, ◌++◌, not, ◌==◌, if◌then◌else◌, IfOk, OnOk};
+ghost use Rattle.std.specs.List.{list_any};
+
+use indexmap::IndexSet;
+use std::alloc::{AllocError, Global};
+use std::marker::Model;
+
+/// Numbers, each once.
+#[derive(Drop)]
+pub struct GroupNumberSet {
+    numbers: IndexSet<u32>,
+}
+
+impl Model for GroupNumberSet {
+    ghost use Rattle.std.specs.Prelude.{ℕ, List};
+
+    ghost Value = { List ℕ };
+
+    ghost view = { λ seen. seen.numbers.keys };
+}
+
+impl GroupNumberSet {
+    /// Returns no numbers.
+    pub fn new(alloc: Global) -> GroupNumberSet
+        ensures { result ≡ [] }
+    {
+        GroupNumberSet {
+            numbers: IndexSet::new(alloc),
+        }
+    }
+
+    /// Adds `number`. Returns whether it is new.
+    ///
+    /// # Errors
+    ///
+    /// Memory ran out.
+    pub fn add(&mut self, number: u32) -> Result<bool, AllocError>
+        ensures new { IfOk result (λ is_new. is_new ≡ not (list_any (λ n. number == n) self.old)) }
+        ensures added { OnOk result (self.new ≡ (if list_any (λ n. number == n) self.old then self.old else self.old ++ number ∷ [])) }
+    {
+        Ok(self.numbers.insert(number)?)
+    }
+}

@@ -1,0 +1,192 @@
+//! What is known of the sets of a pattern, so that none is read again for each byte of a text.
+
+ghost use Rattle.std.specs.Prelude.{◌≡◌, ◌≢◌, ◌<◌, ◌≤◌, ◌+◌, ◌-◌, Bool, List, ℕ, length, drop, get_or, None, IfSome, IsTrue};
+ghost use Rattle.sudoers_match_member.specs.declared.wildcards.GlobMode.{GlobMode as GlobModeOf};
+ghost use Rattle.sudoers_match_member.specs.Wildcard.{is_byte_taken_by_item, bracket_item, pattern_item_at as item_of, Star, Byte};
+ghost use Rattle.sudoers_match_member.specs.Sets.{bracket_set_at};
+ghost use Rattle.sudoers_match_member.specs.Folded.{case_folded_bytes};
+ghost use Rattle.sudoers_match_member.specs.internal.Known.{IsCorrectSetCache, IsFirstItemMatch, IsBracketlessTail};
+
+use crate::byte_classes::fold_byte_case;
+use crate::byte_sets::read_set_item;
+use crate::pattern_front::{PatternItemMatch, match_first_item};
+use crate::wildcards::GlobMode;
+
+/// What is known of the sets of a pattern.
+#[derive(Drop)]
+pub struct SetMatchCache {
+    /// How many last bytes of the pattern have no `]`, so that no set ends there.
+    tail: usize,
+    /// Where the one set begins of which more is known.
+    at: usize,
+    /// How long it is.
+    len: usize,
+    /// Which bytes it takes, as far as that was asked.
+    takes: [Option<bool>; 256],
+    /// Where an item begins of a set that nothing closes, if one is known.
+    unclosed: Option<usize>,
+}
+
+impl SetMatchCache {
+    /// Returns what is known of the sets of `pattern` before one is read.
+    pub fn make_for_pattern(pattern: &[u8]) -> SetMatchCache
+        ensures { (mode : GlobModeOf) (lower : Bool) → IsCorrectSetCache mode lower pattern.now result }
+    {
+        SetMatchCache {
+            tail: bracketless_tail_len(pattern),
+            at: 0,
+            len: 0,
+            takes: make_empty_cache_table(),
+            unclosed: None,
+        }
+    }
+
+    /// Forgets the sets. What is left is right of each pattern with such last bytes.
+    pub fn forget_cached_sets(&mut self)
+        ensures known { (mode : GlobModeOf) (lower : Bool) (pattern : List ℕ) → IsBracketlessTail self.old.tail pattern → IsCorrectSetCache mode lower pattern self.new }
+        ensures tail { self.new.tail ≡ self.old.tail }
+    {
+        self.takes = make_empty_cache_table();
+        self.unclosed = None;
+    }
+
+    /// Returns what begins at `at`, as `match_first_item` does. A set is read once for each byte that it is asked of, and none is read where no
+    /// `]` follows, or where it is known that none closes it.
+    pub fn match_item_at(
+        &mut self,
+        pattern: &[u8],
+        at: usize,
+        byte: u8,
+        mode: GlobMode,
+        lower: bool,
+    ) -> PatternItemMatch
+        requires within { at < length pattern.now }
+        requires no_star { (item_of (case_folded_bytes lower (drop at pattern.now))).0 ≢ Star }
+        requires known { IsCorrectSetCache mode lower pattern.now self.old }
+        ensures front { IsFirstItemMatch mode lower (drop at pattern.now) byte result }
+        ensures known { IsCorrectSetCache mode lower pattern.now self.new }
+        ensures tail { self.new.tail ≡ self.old.tail }
+    {
+        let rest = &pattern[at..];
+        if fold_byte_case(lower, rest[0]) != b'[' {
+            return match_first_item(rest, byte, mode, lower);
+        }
+        if rest.len() <= self.tail {
+            return PatternItemMatch::make_one_byte_item(byte == b'[');
+        }
+        if let Some(front) = self.find(at, byte) {
+            return front;
+        }
+        let first = find_first_set_item(pattern, at, lower);
+        if self.is_known_unclosed_set(pattern, first, mode, lower) {
+            return PatternItemMatch::make_one_byte_item(byte == b'[');
+        }
+        let front = match_first_item(rest, byte, mode, lower);
+        self.keep_item_match(at, byte, front);
+        if front.len == 1 {
+            self.unclosed = Some(first);
+        }
+        front
+    }
+
+    /// Returns whether it is known that nothing closes a set whose first item begins at `first`.
+    fn is_known_unclosed_set(
+        &mut self,
+        pattern: &[u8],
+        first: usize,
+        mode: GlobMode,
+        lower: bool,
+    ) -> bool
+        requires within { first ≤ length pattern.now }
+        requires known { IsCorrectSetCache mode lower pattern.now self.old }
+        ensures unclosed { IsTrue result → bracket_set_at (case_folded_bytes lower (drop first pattern.now)) ≡ None }
+        ensures known { IsCorrectSetCache mode lower pattern.now self.new }
+        ensures tail { self.new.tail ≡ self.old.tail }
+    {
+        let Some(place) = self.unclosed else {
+            return false;
+        };
+        let place = skip_set_items(pattern, place, first, lower);
+        self.unclosed = Some(place);
+        place == first
+    }
+
+    /// Returns the set that begins at `at`, if it is known whether it takes `byte`.
+    fn find(&self, at: usize, byte: u8) -> Option<PatternItemMatch>
+        ensures { (mode : GlobModeOf) (lower : Bool) (pattern : List ℕ) → IsCorrectSetCache mode lower pattern self.now
+            → IfSome result (IsFirstItemMatch mode lower (drop at pattern) byte) }
+    {
+        if self.at != at {
+            return None;
+        }
+        match self.takes[byte as usize] {
+            Some(takes) => {
+                Some(PatternItemMatch {
+                    len: self.len,
+                    takes,
+                })
+            }
+            None => None,
+        }
+    }
+
+    /// Keeps what is known of the set that begins at `at`, in place of what is known of another.
+    fn keep_item_match(&mut self, at: usize, byte: u8, front: PatternItemMatch)
+        ensures known { (mode : GlobModeOf) (lower : Bool) (pattern : List ℕ) → IsCorrectSetCache mode lower pattern self.old
+            → IsFirstItemMatch mode lower (drop at pattern) byte front → IsCorrectSetCache mode lower pattern self.new }
+        ensures tail { self.new.tail ≡ self.old.tail }
+    {
+        if self.at != at {
+            self.at = at;
+            self.takes = make_empty_cache_table();
+        }
+        self.len = front.len;
+        self.takes[byte as usize] = Some(front.takes);
+    }
+}
+
+/// Returns where the first item of a set begins whose `[` stands at `at`.
+fn find_first_set_item(pattern: &[u8], at: usize, lower: bool) -> usize
+    requires { at < length pattern.now }
+    ensures within { result ≤ length pattern.now }
+    ensures unclosed { bracket_set_at (case_folded_bytes lower (drop result pattern.now)) ≡ None → bracket_item (case_folded_bytes lower (drop (at + 1) pattern.now)) ≡ (Byte 91, 1) }
+    ensures closed { (bracket_item (case_folded_bytes lower (drop (at + 1) pattern.now))).1 ≡ 1 → bracket_set_at (case_folded_bytes lower (drop result pattern.now)) ≡ None }
+{
+    if at + 1 < pattern.len() && fold_byte_case(lower, pattern[at + 1]) == b'!' {
+        at + 2
+    } else {
+        at + 1
+    }
+}
+
+/// Returns where an item of a set begins that nothing closes, at `first` or behind it. One of its items begins at `place`.
+fn skip_set_items(pattern: &[u8], place: usize, first: usize, lower: bool) -> usize
+    requires within { first ≤ length pattern.now }
+    requires unclosed { bracket_set_at (case_folded_bytes lower (drop place pattern.now)) ≡ None }
+    ensures { bracket_set_at (case_folded_bytes lower (drop result pattern.now)) ≡ None }
+{
+    let mut place = place;
+    while place < first {
+        let (_, len) = read_set_item(&pattern[place..], lower);
+        place += len;
+    }
+    place
+}
+
+/// Returns a table in which no byte is known.
+fn make_empty_cache_table() -> [Option<bool>; 256]
+    ensures { (b : ℕ) → get_or result b None ≡ None }
+{
+    [None; 256]
+}
+
+/// Returns how many bytes at the end of `pattern` have no `]`.
+fn bracketless_tail_len(pattern: &[u8]) -> usize
+    ensures { IsBracketlessTail result pattern.now }
+{
+    let mut at = pattern.len();
+    while at > 0 && pattern[at - 1] != b']' {
+        at -= 1;
+    }
+    pattern.len() - at
+}

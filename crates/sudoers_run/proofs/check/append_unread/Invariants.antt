@@ -1,7 +1,0 @@
-use Rattle.std.proofs.Common.{◌≡◌, ◌++◌, drop}
-use Rattle.sudoers_run.specs.Check.{unread_text}
-use Rattle.sudoers_run.proofs.check.append_unread.Given as goal
-
--- What is written, and the lines on what is left.
-abbrev pub invariant-loop-one : goal.invariant-loop-one
-invariant-loop-one l = l.out.items ++ unread_text l.found (drop l.one-index l.all) ≡ l.fn.out.items ++ unread_text l.found l.all

@@ -1,7 +1,0 @@
-use Rattle.std.proofs.Common.{◌≡◌, ◌+◌, drop}
-use Rattle.sudoers_text.specs.Value.{blanks_size}
-use Rattle.sudoers_text.proofs.meaning.blanks_len.Given as goal
-
--- what has been passed are blanks, and what is left begins with the others
-abbrev pub invariant-loop-i : goal.invariant-loop-i
-invariant-loop-i l = l.i + blanks_size (drop l.i l.bytes) ≡ blanks_size l.bytes

@@ -1,7 +1,0 @@
-use Rattle.std.proofs.Common.{◌≡◌, drop, false}
-use Rattle.sudoers_text.specs.Line.{ends_behind_backslash}
-use Rattle.sudoers_text.proofs.unit.ends_behind_backslash.Given as goal
-
--- what is left ends as the whole does
-abbrev pub invariant-loop-byte : goal.invariant-loop-byte
-invariant-loop-byte l = ends_behind_backslash l.behind_backslash (drop l.byte-index l.bytes) ≡ ends_behind_backslash false l.bytes

@@ -1,0 +1,82 @@
+//! Runs of plain bytes, which are read at once.
+
+ghost use Rattle.std.specs.Prelude.{◌≡◌, ◌+◌, ◌<◌, ◌^◌, ◌==◌, ◌&&◌, [], length, if◌then◌else◌};
+ghost use Rattle.sudoers_text.specs.Unit.{is_empty};
+ghost use Rattle.sudoers_text.specs.internal.Run.{is_plain_unit_byte, plain_prefix_of_bytes, is_blank_or_sign_byte, is_id_position_after_run};
+
+use crate::text_units::{LeftContext, is_blank, is_prefix_sign, is_separator};
+
+/// Whether the byte is a unit of its own, wherever it stands behind a line's beginning, and asks for nothing left of it.
+#[inline(always)]
+fn is_plain_byte(byte: u8) -> bool
+    ensures { result ≡ is_plain_unit_byte byte }
+{
+    !matches!(byte, b'\n' | b'\r' | b'\\' | b'"' | b'#' | b'>')
+}
+
+/// The plain bytes that begin the text, up to the first that is none.
+#[inline(always)]
+fn take_plain_prefix(text: &[u8]) -> &[u8]
+    ensures { result.now ≡ plain_prefix_of_bytes text.now }
+{
+    for (i, byte) in text.iter().enumerate() {
+        if !is_plain_byte(*byte) {
+            return &text[..i];
+        }
+    }
+    text
+}
+
+/// Whether an ID may begin behind the byte where it may before it.
+#[inline(always)]
+fn is_blank_or_sign(byte: u8) -> bool
+    ensures { result ≡ is_blank_or_sign_byte byte }
+{
+    is_blank(byte) || is_prefix_sign(byte)
+}
+
+/// Returns whether an ID may begin behind plain bytes, where `item` says whether it may before them.
+#[inline(always)]
+fn may_id_begin_after_run(item: bool, run: &[u8]) -> bool
+    ensures { result ≡ is_id_position_after_run item run.now }
+{
+    let mut end = run.len();
+    while end > 0 {
+        let byte = run[end - 1];
+        if !is_blank_or_sign(byte) {
+            return is_separator(byte);
+        }
+        end -= 1;
+    }
+    item
+}
+
+impl LeftContext {
+    /// The plain bytes that begin the text and can be passed at once. Before the line has begun there are none: a blank
+    /// counts there for nothing.
+    #[inline(always)]
+    pub fn take_plain_run<'a>(self, text: &'a [u8]) -> &'a [u8]
+        ensures { result.now ≡ (if self.begun == 0 then [] else plain_prefix_of_bytes text.now) }
+    {
+        if self.begun == 0 {
+            &text[..0]
+        } else {
+            take_plain_prefix(text)
+        }
+    }
+
+    /// What stands left behind plain bytes.
+    #[inline(always)]
+    pub fn pass_plain_run(self, run: &[u8]) -> Self
+        requires { self.begun + length run.now < 2 ^ 64 }
+        ensures item { result.item ≡ is_id_position_after_run self.item run.now }
+        ensures continues { result.continues ≡ (is_empty run.now && self.continues) }
+        ensures begun { result.begun ≡ self.begun + length run.now }
+    {
+        LeftContext {
+            item: may_id_begin_after_run(self.item, run),
+            continues: run.is_empty() && self.continues,
+            begun: self.begun + run.len(),
+        }
+    }
+}

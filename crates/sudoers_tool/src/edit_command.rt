@@ -1,0 +1,221 @@
+//! The subcommand `edit`: its command line, and its run.
+
+use crate::also_option::{
+    ALSO, add_also_files, make_also_option, print_files_not_included, trouble_of_gather_fault,
+};
+use crate::file_trouble::FileTrouble;
+use crate::files::{STDIN, open_disk_files, open_named_file};
+use crate::read_budget::ReadBudget;
+use crate::terminal::open_standard_output;
+use clap::{Arg, ArgMatches, Command};
+use std::alloc::{AllocError, Global};
+use std::io::{Read, Write};
+use sudoers_files::gather;
+use sudoers_run::{
+    Counted, EditInputShape, INPUT_LIMIT, ToolFault, edit_given_files, read_all_within_limit,
+    run_edit,
+};
+use sudoers_tree::NamedFile;
+
+/// The name of the subcommand.
+pub const EDIT: &str = "edit";
+
+/// The two forms of the command line.
+const USAGE: &str =
+    "sudoers_tool edit [--undo <N>] [--redo <N>]\n       sudoers_tool edit [OPTIONS] --files <SCRIPT> <POLICY>";
+
+/// The option that says how many edits to take back.
+const UNDO: &str = "undo";
+
+/// The option that says how many of these to make again.
+const REDO: &str = "redo";
+
+/// The option that names a script for the files of the disk.
+pub const SCRIPT: &str = "SCRIPT";
+
+/// The argument that names the policy.
+const POLICY: &str = "POLICY";
+
+/// Returns the command line of `edit`.
+pub fn make_edit_command<'a>(alloc: Global, top: Arg<'a>) -> Result<Command<'a>, AllocError> {
+    let undo = make_number_option(alloc, UNDO).help(
+        "After the script, take back up to N of its edits, the last first",
+    );
+    let redo = make_number_option(alloc, REDO).help("Then make up to N of these edits again");
+    Command::new(alloc, EDIT)
+        .about(
+            "Apply an edit script to a policy. Read SCRIPT, `%%`, POLICY on standard input; write UNDO, `%%`, POLICY. With --files, edit a policy with the files that it includes. UNDO fits that policy only. EDIT SCRIPTS of sudoers_tool(8) has the commands",
+        )
+        .override_usage(USAGE)
+        .arg(undo)?
+        .arg(redo)?
+        .arg(make_script_option(alloc)?)?
+        .arg(make_also_option(alloc)?)?
+        .arg(top.requires_arg(SCRIPT)?)?
+        .arg(make_policy_argument(alloc)?)
+}
+
+/// Returns the option `name`, whose value is a number of edits.
+fn make_number_option<'a>(alloc: Global, name: &'a str) -> Arg<'a> {
+    Arg::new(alloc, name)
+        .long(name)
+        .value_name("N")
+        .value_parser(clap::value_parser!(u32))
+}
+
+/// Returns the option that names the script for the files of the disk.
+fn make_script_option<'a>(alloc: Global) -> Result<Arg<'a>, AllocError> {
+    Arg::new(alloc, SCRIPT)
+        .long("files")
+        .help(
+            "Apply SCRIPT, or `-` for standard input, to POLICY and the files that it includes, numbered as `show` has them; write UNDO and a bundle: each file behind a line `%% LENGTH NAME`",
+        )
+        .requires_arg(POLICY)
+}
+
+/// Returns the argument that names the policy. It takes further words, so that they get an error of their own.
+fn make_policy_argument<'a>(alloc: Global) -> Result<Arg<'a>, AllocError> {
+    Arg::new(alloc, POLICY)
+        .num_args(1..)
+        .help("With --files, the policy file, or `-` for standard input")
+        .requires_arg(SCRIPT)
+}
+
+/// Returns what is wrong with the words of `edit`.
+pub fn find_edit_usage_error(words: &ArgMatches<'_>) -> Option<&'static str> {
+    let Some(files) = words.get_strs(POLICY) else {
+        return None;
+    };
+    if files.len() > 1 {
+        return Some(
+            "--files takes one POLICY and finds the files that it includes; write `--also NAME` for a file that no line includes",
+        );
+    }
+    if words.get_str(SCRIPT) == Some(STDIN) && files.first() == Some(&STDIN) {
+        return Some("standard input cannot be both SCRIPT and POLICY");
+    }
+    if has_empty_word(words.get_strs(ALSO)) {
+        return Some("invalid value '' for '--also <NAME>': a file has a name");
+    }
+    None
+}
+
+/// Returns whether one of the words `words` is empty.
+fn has_empty_word(words: Option<&[&str]>) -> bool {
+    match words {
+        Some(words) => words.iter().any(|word| word.is_empty()),
+        None => false,
+    }
+}
+
+/// Edits the files of the policy that `words` name, or the policy on standard input. Writes to standard output.
+pub fn edit_policy_or_stdin(rt: &HostRuntime, words: &ArgMatches<'_>) -> Result<u8, FileTrouble> {
+    let (undo, redo) = (number_of_option(words, UNDO), number_of_option(words, REDO));
+    let Some(script) = words.get_str(SCRIPT) else {
+        return Ok(edit_standard_input(rt, undo, redo)?);
+    };
+    let script = read_script_file(rt, script)?;
+    let files = gather_files_to_edit(rt, words, script.len())?;
+    let edited = edit_given_files(
+        rt.alloc(),
+        script.as_slice(),
+        EditInputShape::Bundle,
+        files.as_slice(),
+        undo,
+        redo,
+    )?;
+    print_files_not_included(rt, words, root_of_edit_words(words), edited.as_slice())?;
+    match open_standard_output(rt).write_all(edited.as_slice()) {
+        Ok(()) => Ok(0),
+        Err(_) => Err(FileTrouble::from(ToolFault::Write)),
+    }
+}
+
+/// Returns the number that `words` gives for the option `name`, or 0.
+fn number_of_option(words: &ArgMatches<'_>, name: &str) -> u32 {
+    words.get_one::<u32>(name).unwrap_or(0)
+}
+
+/// Returns the name of the policy that `words` name.
+fn root_of_edit_words<'a>(words: &ArgMatches<'a>) -> &'a str {
+    match words.get_strs(POLICY) {
+        Some([root, ..]) => *root,
+        _ => STDIN,
+    }
+}
+
+/// Edits the policy that the standard input gives after its script, takes back up to `undo` edits and makes up to `redo` of these again.
+/// Writes to standard output.
+pub fn edit_standard_input(rt: &HostRuntime, undo: u32, redo: u32) -> Result<u8, ToolFault> {
+    let mut reader = Counted::new(rt.stdin());
+    let mut writer = Counted::new(open_standard_output(rt));
+    run_edit(rt.alloc(), &mut reader, undo, redo, &mut writer)
+}
+
+/// Returns the bytes of the script `script`.
+fn read_script_file(rt: &HostRuntime, script: &str) -> Result<Vec<u8>, FileTrouble> {
+    let read = if script == STDIN {
+        read_whole_input(rt, rt.stdin())
+    } else {
+        match open_named_file(rt, script) {
+            Ok(file) => read_whole_input(rt, file),
+            Err(fault) => Err(fault),
+        }
+    };
+    let (alloc, script) = (rt.alloc(), script.as_bytes());
+    match read {
+        Ok(bytes) => Ok(bytes),
+        Err(ToolFault::Read) => Err(FileTrouble::from_fault_in_file(
+            alloc,
+            script,
+            ToolFault::Read,
+        )),
+        Err(ToolFault::NoEnd) => Err(FileTrouble::from_fault_in_file(
+            alloc,
+            script,
+            ToolFault::NoEnd,
+        )),
+        Err(fault) => Err(FileTrouble::from(fault)),
+    }
+}
+
+/// Returns all that `reader` gives.
+fn read_whole_input<R: Read + Drop>(rt: &HostRuntime, reader: R) -> Result<Vec<u8>, ToolFault> {
+    read_all_within_limit(rt.alloc(), &mut Counted::new(reader), INPUT_LIMIT)
+}
+
+/// Returns the files of the policy that `words` name, in the order of `show`, and those of `--also`. `used` bytes of the input are read
+/// already.
+fn gather_files_to_edit(
+    rt: &HostRuntime,
+    words: &ArgMatches<'_>,
+    used: usize,
+) -> Result<Vec<NamedFile>, FileTrouble> {
+    let alloc = rt.alloc();
+    let root = root_of_edit_words(words);
+    let mut files = ReadBudget::new(
+        open_disk_files(rt, words, root)?,
+        INPUT_LIMIT.saturating_sub(used),
+    );
+    let mut found = match gather(alloc, root.as_bytes(), &mut files) {
+        Ok(found) => found,
+        Err(fault) => return Err(trouble_of_gather_fault(alloc, &files, fault)),
+    };
+    if let Some(names) = words.get_strs(ALSO) {
+        add_also_files(alloc, &mut files, names, &mut found)?;
+    }
+    check_bundle_file_names(alloc, found.as_slice())?;
+    Ok(found)
+}
+
+/// Returns an error if a bundle cannot hold one of the names of the files `found`.
+fn check_bundle_file_names(alloc: Global, found: &[NamedFile]) -> Result<(), FileTrouble> {
+    for (number, file) in found.iter().enumerate() {
+        let name = file.name.as_slice();
+        if name.is_empty() || name.contains(&b'\n') {
+            let fault = ToolFault::BadBundle { file: number + 1 };
+            return Err(FileTrouble::from_fault_in_file(alloc, name, fault));
+        }
+    }
+    Ok(())
+}

@@ -1,9 +1,0 @@
-use Rattle.std.proofs.Common.{sym}
-use Rattle.sudoers_tree.proofs.Folders.{folder_last, folder_none}
-use Rattle.sudoers_tree.proofs.lead.folder_of.Goals as goal
-
-pub returns-in-Some : goal.returns-in-Some
-returns-in-Some c = folder_last c.args.name.now c.in-Some.at c.in-Some.ensures.0 c.in-Some.ensures.1
-
-pub returns-in-None : goal.returns-in-None
-returns-in-None c = sym (folder_none c.args.name.now c.in-None.ensures)
