@@ -1,4 +1,4 @@
-"""The inputs of `edit` that the rows of tests/rows make: a script and a policy, or a script and files in a bundle."""
+"""The inputs of `edit` that the rows of tests/rows make: a script and a policy, or a script and files in a bundle; and bundles."""
 
 from dataclasses import replace
 
@@ -27,6 +27,19 @@ def files_of(cell):
     if not all(colon and rest[:1] in (b"", b" ") for _, colon, rest in files):
         raise NoRow(f"no files: {cell!r}")
     return [(name, rest[1:]) for name, _, rest in files]
+
+
+def files_of_output(output):
+    """The bundle of an output or an input of `edit`: its files, from the first line `%% LENGTH NAME` on, as names and texts."""
+    at, files = (b"\n" + output).find(b"\n%% "), []
+    if at < 0:
+        return files
+    while at < len(output):
+        _, size, name = output[at : output.index(b"\n", at)].split(b" ", 2)
+        at = output.index(b"\n", at) + 1
+        files.append((name, output[at : at + int(size)]))
+        at += int(size)
+    return files
 
 
 def with_files(script, cell):

@@ -5,8 +5,6 @@ the number counted up until nothing was met any more; the run in which nothing
 was met has to answer as the program does with ample memory and honest devices.
 """
 
-import subprocess
-
 import cases
 import real_devices
 from chosen import (
@@ -26,13 +24,12 @@ from chosen import (
     many_rewritten_lines_case,
     read_fault,
 )
-from preload import Preloaded
+from preload import with_library
 from program import Wanted, fault
 
 READ_CALLS = 4_194_304
 NAMES = {PASSWD: "passwd", GROUP: "group"}
 PIECES = (1, 2, 3, 7)
-MOST = 100_000
 
 
 class Stand:
@@ -47,6 +44,10 @@ class Stand:
         """One run of a case under these settings: the answer and the counts."""
         return self.library.run(self.program, case, input=case.device, **settings)
 
+    def run_each(self, case, setting, **settings):
+        """Runs of a case for each value of a setting from 1 up, until one meets nothing."""
+        return self.library.run_each(self.program, case, setting, input=case.device, **settings)
+
     def note(self, case, what, problems):
         """Counts one run, named after its case, the file that fails if it is not standard input, and what was done."""
         name = f"{case.name}, file {case.device}" if case.device else case.name
@@ -58,13 +59,9 @@ class Stand:
         If a run met something, it has to answer what `wanted_of` makes of its
         counts. The last run has to answer as the case says.
         """
-        for number in range(1, MOST):
-            answer, report = self.run(case, **{setting: number}, **settings)
+        for number, (answer, report) in enumerate(self.run_each(case, setting, **settings), 1):
             wanted = wanted_of(report) if report.met else case.wanted
             self.note(case, f"{what} {number}", wanted.problems(answer))
-            if not report.met:
-                return
-        self.note(case, what, [f"still met at {MOST}"])
 
 
 # ---- memory --------------------------------------------------------------------
@@ -95,13 +92,8 @@ def refuse_growths(stand, case, wanted, **settings):
     how = "".join(f"{name} {value}, " for name, value in settings.items())
     stand.note(case, f"{how}ample memory", wanted.problems(ample))
     for refusal in ("refuse_growth", "refuse_from"):
-        for number in range(1, MOST):
-            answer, report = stand.run(case, **settings, **{refusal: number})
+        for number, (answer, report) in enumerate(stand.run_each(case, refusal, **settings), 1):
             stand.note(case, f"{how}{refusal} {number}", memory_problems(answer, ample, report))
-            if not report.refused:
-                break
-        else:
-            stand.note(case, refusal, [f"still met at {MOST}"])
 
 
 def refuse_growths_and_more(stand, case, given):
@@ -277,13 +269,7 @@ def check_library(stand, case):
 def run_under_library(program, tally, check):
     """Builds the library and runs one of the checks above under it."""
     chosen = Chosen.load()
-    try:
-        library = Preloaded()
-    except (OSError, subprocess.CalledProcessError) as error:
-        tally.note("the library that is preloaded", [f"it cannot be built: {error}"])
-        return
-    with library:
-        check(Stand(program, library, tally), chosen)
+    with_library(tally, lambda library: check(Stand(program, library, tally), chosen))
 
 
 def run_pieces(program, tally):

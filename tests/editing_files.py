@@ -7,7 +7,7 @@ the next input of `edit`, and has to give back each file as it was.
 import os
 from dataclasses import replace
 
-from bundles import bundle
+from bundles import bundle, files_of_output
 from program import Wanted, fault, run
 from stand import EMPTY_FOLDER, PIPE, Closed, Folder, Link, Stand, stand_of_nobody
 from tally import difference
@@ -366,19 +366,6 @@ NOT_READABLE = (
 )
 
 
-def files_of(output):
-    """The bundle of an output: its files, from the first line `%% LENGTH NAME` on, as names and texts."""
-    at, files = (b"\n" + output).find(b"\n%% "), []
-    if at < 0:
-        return files
-    while at < len(output):
-        _, size, name = output[at : output.index(b"\n", at)].split(b" ", 2)
-        at = output.index(b"\n", at) + 1
-        files.append((name, output[at : at + int(size)]))
-        at += int(size)
-    return files
-
-
 def on_disk(folder, words, stdin, name):
     """The text of the file of this name before the edits: empty where it is missing."""
     if name == b"-":
@@ -397,8 +384,8 @@ def on_disk(folder, words, stdin, name):
 def note_way_back(stand, name, folder, words, stdin, output):
     """The output as an input of `edit` gives each file back. `stdin` is the policy, where that was standard input."""
     back = stand.run("edit", folder, output)
-    wanted = [(one, on_disk(folder, words, stdin, one)) for one, _ in files_of(output)]
-    problems = Wanted(None).problems(back) or difference("files", wanted, files_of(back.stdout))
+    wanted = [(one, on_disk(folder, words, stdin, one)) for one, _ in files_of_output(output)]
+    problems = Wanted(None).problems(back) or difference("files", wanted, files_of_output(back.stdout))
     stand.tally.note(f"{PART}: {name}, way back", problems)
 
 
@@ -417,7 +404,7 @@ def run_numbers(stand):
     tree = {"main": "@include e\n@includedir d/\n", "e": "@includedir d/e\n", "d/b": "# b\n", "d/a": "@include f/g\n"}
     with Folder({**tree, "d/f/g": "# g\n", "d/e/h": "# h\n", "d/e/i.j": ""}) as folder:
         shown = stand.run("show main", folder).stdout.splitlines()
-        edited = files_of(stand.run("edit --files - main", folder).stdout)
+        edited = files_of_output(stand.run("edit --files - main", folder).stdout)
     heads = [b"file %d %s" % (number, name) for number, (name, _) in enumerate(edited, 1)]
     wanted = [line for line in shown if line.startswith(b"file ")]
     stand.tally.note(f"{PART}: numbers_of_show", difference("files", wanted, heads))

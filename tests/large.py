@@ -15,6 +15,7 @@ import converting
 import way_back
 from cases import Case
 from program import Wanted, fault, run
+from small_stack import on_small_stack
 
 INPUT_LIMIT = 4_000_000
 POLICY_LIMIT = 1_048_576
@@ -93,25 +94,53 @@ def chain(kind, count):
     return b"".join(lines) + b"%s A%d = ALL\n" % (kind, count)
 
 
+def used_chain(last=b"ALL"):
+    """As many aliases of commands as there may be, of which each mentions the next, and a rule with the first. The last has this member."""
+    return chain(b"Cmnd_Alias", ALIAS_LIMIT).replace(b"= ALL", b"= " + last) + b"bob ALL=A1\n"
+
+
+def cycle(kind, count):
+    """So many aliases of a kind: each mentions the next, and the last mentions the first."""
+    return b"".join(b"%s A%d = A%d\n" % (kind, number, number % count + 1) for number in range(1, count + 1))
+
+
+def doubled(kind, count, last):
+    """So many aliases of a kind: each mentions the next one twice, and the last one has one member."""
+    lines = (b"%s A%d = A%d, A%d\n" % (kind, number, number + 1, number + 1) for number in range(1, count))
+    return b"".join(lines) + b"%s A%d = %s\n" % (kind, count, last)
+
+
 def many_edits(count=EDIT_LIMIT):
     """A script of so many edits, an even number, that undoes itself. Without a number it has as many as it may."""
     return b"insert 1\n|\ndelete 1\n" * (count // 2)
 
 
-def run_all(program, tally):
-    """Runs each case of each module, the way back of each accepted edit, and what is printed of a policy once more."""
+def load_cases():
+    """Returns the functions of all modules, each of which makes a case."""
     for path in sorted(glob.glob(os.path.join(os.path.dirname(os.path.abspath(__file__)), "large_*.py"))):
         importlib.import_module(os.path.basename(path).removesuffix(".py"))
-    for make in CASES:
-        run_large(program, tally, make)
+    return CASES
+
+
+def made_case(make):
+    """Returns the case that a function makes."""
+    made = make()
+    if isinstance(made, Case):
+        return made
+    stdin, wanted, *words = made
+    return Case(make.__name__, tuple(words), stdin, wanted)
+
+
+def run_all(program, tally):
+    """Runs each case of each module with a small stack, the way back of each accepted edit, and what is printed of a policy once more."""
+    with on_small_stack(program) as small:
+        for make in load_cases():
+            run_large(small, tally, make)
 
 
 def run_large(program, tally, make):
     """Runs the case that a function makes."""
-    made = make()
-    if not isinstance(made, Case):
-        stdin, wanted, *words = made
-        made = Case(make.__name__, tuple(words), stdin, wanted)
+    made = made_case(make)
     words, wanted = made.words, made.wanted
     problems = wanted.problems(run(program, words, made.stdin, files=made.files)) or converting.problems(program, words, wanted)
     if way_back.is_accepted(words, wanted) and not problems:

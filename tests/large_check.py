@@ -9,8 +9,10 @@ from large import (
     case,
     chain,
     comment,
+    cycle,
     definitions,
     full_policy,
+    used_chain,
 )
 from program import Wanted
 
@@ -29,11 +31,6 @@ def checked_strictly(policy, notes):
 def not_checked(policy, text):
     """A policy with an error: `check` prints this text on standard output."""
     return policy, Wanted(text.encode() + b"\n", status=1), "check", "-"
-
-
-def cycle(kind, count):
-    """So many aliases of a kind: each mentions the next, and the last mentions the first."""
-    return b"".join(b"%s A%d = A%d\n" % (kind, number, number % count + 1) for number in range(1, count + 1))
 
 
 def noted(word, kind, count, before=0):
@@ -89,7 +86,7 @@ def check_of_very_many_lines():
 
 @case
 def check_of_a_chain_of_as_many_aliases_as_allowed():
-    return checked(chain(b"Cmnd_Alias", ALIAS_LIMIT) + b"bob ALL=A1\n", [])
+    return checked(used_chain(), [])
 
 
 @case

@@ -1,6 +1,6 @@
 """`convert -e` at its limits: the members of all lists of the result, each command counted as one."""
 
-from large import ALIAS_LIMIT, case, chain
+from large import case, doubled, used_chain
 from large_convert_json import command, specification, text_of
 from program import Wanted, fault
 
@@ -8,12 +8,6 @@ MEMBER_LIMIT = 65_536
 GREAT = 16_000
 SUDOERS = ("convert", "-f", "sudoers", "-e", "-")
 JSON = ("convert", "-f", "json", "-e", "-")
-
-
-def doubled(kind, count, last):
-    """So many aliases of a kind: each mentions the next one twice, and the last one has one member."""
-    lines = (b"%s A%d = A%d, A%d\n" % (kind, number, number + 1, number + 1) for number in range(1, count))
-    return b"".join(lines) + b"%s A%d = %s\n" % (kind, count, last)
 
 
 def alias(kind, number, member, count):
@@ -119,8 +113,7 @@ def expand_to_a_line_past_the_limit():
 
 @case
 def expand_of_a_chain_of_as_many_aliases_as_there_may_be():
-    policy = chain(b"Cmnd_Alias", ALIAS_LIMIT).replace(b"= ALL", b"= /bin/a") + b"bob ALL=A1\n"
-    return policy, Wanted(b"bob ALL = /bin/a\n"), *SUDOERS
+    return used_chain(b"/bin/a"), Wanted(b"bob ALL = /bin/a\n"), *SUDOERS
 
 
 @case

@@ -1,7 +1,6 @@
 """`convert -m` with aliases in long chains and doubled many times."""
 
-from large import ALIAS_LIMIT, case, chain, full_policy
-from large_expand import doubled
+from large import ALIAS_LIMIT, case, chain, doubled, full_policy
 from program import Wanted, fault
 
 

@@ -1,7 +1,7 @@
 """`list` at the limits of its three files, of a command and of the aliases that it looks into."""
 
 from cases import Case
-from large import ALIAS_LIMIT, LINE_LIMIT, POLICY_LIMIT, case, chain, definitions_in_one_line, full_policy
+from large import ALIAS_LIMIT, LINE_LIMIT, POLICY_LIMIT, case, definitions_in_one_line, doubled, full_policy, used_chain
 from program import Wanted, fault
 
 FILES = ("--passwd", "passwd", "--group-file", "group")
@@ -155,22 +155,16 @@ def list_of_very_many_rules():
     return answered(listed(*([b"/a"] * 100_000)), policy=b"bob h1=/a\n" * 100_000)
 
 
-def doubled(kind, last):
-    """Forty aliases, each of which names the next one twice."""
-    links = b"".join(b"%s C%02d = C%02d, C%02d\n" % (kind, number, number + 1, number + 1) for number in range(1, 40))
-    return links + b"%s C40 = %s\n" % (kind, last)
-
-
 @case
 def command_of_forty_aliases_of_two_members():
-    policy = doubled(b"Cmnd_Alias", b"/bin/a") + b"bob ALL=C01\n"
+    policy = doubled(b"Cmnd_Alias", 40, b"/bin/a") + b"bob ALL=A1\n"
     return answered(Wanted(b"/bin/a\n"), ("-", "/bin/a"), policy)
 
 
 @case
 def why_of_forty_aliases_of_two_members():
-    policy = doubled(b"Cmnd_Alias", b"/bin/a") + b"bob ALL=C01\n"
-    wanted = Wanted(b"-:41:9: allowed by: (root) C01\n-:40:18: in Cmnd_Alias C40: /bin/a\n")
+    policy = doubled(b"Cmnd_Alias", 40, b"/bin/a") + b"bob ALL=A1\n"
+    wanted = Wanted(b"-:41:9: allowed by: (root) A1\n-:40:18: in Cmnd_Alias A40: /bin/a\n")
     return answered(wanted, ("--why", "-", "/bin/a"), policy)
 
 
@@ -188,21 +182,24 @@ def why_of_forty_aliases_beside_forty_that_say_nothing():
 
 @case
 def list_of_forty_aliases_of_users_of_two_members():
-    policy = doubled(b"User_Alias", b"bob") + b"C01 ALL=/bin/a\n"
+    policy = doubled(b"User_Alias", 40, b"bob") + b"A1 ALL=/bin/a\n"
     return answered(listed(b"/bin/a"), policy=policy)
 
 
 @case
 def command_after_a_chain_of_aliases():
-    policy = chain(b"Cmnd_Alias", 4_096) + b"bob ALL=A1\n"
-    return answered(Wanted(b"/bin/a\n"), ("-", "/bin/a"), policy)
+    return answered(Wanted(b"/bin/a\n"), ("-", "/bin/a"), used_chain())
+
+
+@case
+def listing_of_a_chain_of_aliases():
+    return answered(listed(b"A1"), policy=used_chain())
 
 
 @case
 def why_after_a_chain_of_aliases():
-    policy = chain(b"Cmnd_Alias", 4_096) + b"bob ALL=A1\n"
     wanted = Wanted(b"-:4097:9: allowed by: (root) SETENV: A1\n-:4096:20: in Cmnd_Alias A4096: ALL\n")
-    return answered(wanted, ("--why", "-", "/bin/a"), policy)
+    return answered(wanted, ("--why", "-", "/bin/a"), used_chain())
 
 
 @case

@@ -223,7 +223,7 @@ def notes():
     """Returns the texts of the notes and of the last line of `check`, as Report.antt states them."""
     source = read("crates/sudoers_check/specs/Report.antt")
     words = re.findall(r'note_text policy \(codes "(\w+)"\)', source)
-    verdicts = re.findall(r'^verdict_line_text \w+ = codes "(.*)\\n"', source, re.M)
+    verdicts = re.findall(r'^parsed_ok_or_faults_found_ending \w+ = codes "(.*)\\n"', source, re.M)
     return [f"FILE:LINE:COL: {word} KIND NAME" for word in words] + ["FILE" + verdict for verdict in verdicts]
 
 

@@ -1,5 +1,6 @@
 """Runs the built program once and holds what it answered."""
 
+import contextlib
 import os
 import subprocess
 import tempfile
@@ -53,23 +54,36 @@ def fault(text):
     return Wanted(stderr=NAME + text.encode() + b"\n", status=1)
 
 
+@contextlib.contextmanager
+def folder_with(files, folder=None):
+    """Makes a folder with these files, each a name and a text, and removes it. Without files it is `folder`."""
+    if not files:
+        yield folder
+        return
+    with tempfile.TemporaryDirectory(prefix="sudoers_tool_tests_") as made:
+        for name, text in files:
+            path = os.path.join(made, name)
+            os.makedirs(os.path.dirname(path), exist_ok=True)
+            with open(path, "wb") as file:
+                file.write(text)
+        yield made
+
+
 def run(program, words=(), stdin=b"", environment=None, stdout=subprocess.PIPE, folder=None, files=()):
     """Runs `program` with these words, in `folder` or in a new folder with `files`, where one is given.
 
     `stdin` is bytes or an open file. Where `stdout` is an open file, the answer holds nothing of what went there.
     """
-    if files:
-        with tempfile.TemporaryDirectory(prefix="sudoers_tool_tests_") as made:
-            for name, text in files:
-                path = os.path.join(made, name)
-                os.makedirs(os.path.dirname(path), exist_ok=True)
-                with open(path, "wb") as file:
-                    file.write(text)
-            return run(program, words, stdin, environment, stdout, made)
+    with folder_with(files, folder) as where:
+        return run_in(where, [program, *words], stdin, environment, stdout)
+
+
+def run_in(folder, command, stdin, environment, stdout):
+    """Runs a command in a folder."""
     how = {"input": stdin} if isinstance(stdin, bytes) else {"stdin": stdin}
     try:
         done = subprocess.run(
-            [program, *words],
+            command,
             stdout=stdout,
             stderr=subprocess.PIPE,
             env=environment or {},

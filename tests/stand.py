@@ -42,7 +42,7 @@ def put(path, what):
         os.makedirs(path, exist_ok=True)
     elif not isinstance(what, Closed):
         with open(path, "wb") as file:
-            file.write(what.encode(errors="surrogateescape"))
+            file.write(what if isinstance(what, bytes) else what.encode(errors="surrogateescape"))
     else:
         put(path, EMPTY_FOLDER if what.text is None else what.text)
 

@@ -47,7 +47,7 @@ FOLDERS = {
 PICTURES = {"␊": b"\n", "␍": b"\r", "␉": b"\t", "␀": b"\0", "␠": b" "}
 DRAWN = {bytes_[0]: picture for picture, bytes_ in PICTURES.items()}
 NUMBER = re.compile(r"\{(\d*)n([+-]\d+)?\}")
-SIGN = re.compile(r"⟨(\d+)×|⟨((?:[0-9a-f]{2})*)⟩|(⟩)|([^⟨⟩])|(⟨)")
+SIGN = re.compile(r"⟨(\d+)×|⟨((?:[0-9a-f]{2})*)⟩|(⟩)|([^⟨⟩]+)|(⟨)")
 
 
 class NoRow(Exception):

@@ -30,7 +30,6 @@ Rows of another form:
     time                a piece, and what follows: a policy of 4096 pieces takes about as long to check as 16 of 256
     undefined           a policy, and then names, which it defines in no kind
     unmentioned         the same, with names that it mentions in no kind
-    fronts              policies: each text that one begins with is kept byte for byte, or has an error
     frames NAME         no case: two rows are a policy and its answer, both with a hole `~`
     says in NAME        words with blanks between them: each fills the holes of each frame of that name
     rewritten           scripts, each of which is written as it was read
@@ -49,13 +48,10 @@ import subprocess
 
 from policies import (
     KINDS,
-    bytes_of,
     drawn_bytes,
     drawn_definition,
-    drawn_line_fault,
     drawn_outcome,
     drawn_spans,
-    is_fault,
 )
 from table_calls import (
     CALLS,
@@ -73,11 +69,6 @@ from table_runs import is_run_alone, run_edits, run_times
 from tables import TABLES, TOP, NoRow, call, groups_of, programs, run_tables, text_of
 
 
-def kept_or_fault(text):
-    """How the text of a policy is drawn: `kept` if it is this one, or if it has an error."""
-    return lambda line: "kept" if is_fault(line) and drawn_line_fault(line) or bytes_of(line) == text else line
-
-
 def cases_of_names(group):
     """The cases of names that a policy does not define, or does not mention, in any kind."""
     text, names = first_and_rest(group)
@@ -90,17 +81,6 @@ def cases_of_names(group):
             if "unmentioned" in group.words:
                 calls.append((f"mentions {kind} {row}", call(b"m", body), "none", drawn_spans))
     yield from cases_of_calls(name_of(group, names[0][0], "names"), b"p", text, calls)
-
-
-def cases_of_fronts(group):
-    """The cases of each text that a policy begins with, and of the policy itself."""
-    for at, row in group.rows:
-        text = text_of(row)
-        yield from cases_of_calls(name_of(group, at, row), b"p", text, [("text", call(b"t"), text, drawn_bytes)])
-        for length in range(len(text)):
-            front = text[:length]
-            name = f"{name_of(group, at, row)}: {length} bytes"
-            yield from cases_of_calls(name, b"p", front, [("text", call(b"t"), "kept", kept_or_fault(front))])
 
 
 def cases_in_frames(group, frames):
@@ -177,8 +157,6 @@ def cases_of_group(group, frames):
         yield from cases_of_reports(group)
     elif set(group.words) <= {"undefined", "unmentioned"}:
         yield from cases_of_names(group)
-    elif group.words == ("fronts",):
-        yield from cases_of_fronts(group)
     elif word == "frames" and len(words) == 1:
         enter_frames(group, frames)
     elif word == "says" and words[:1] == ["in"] and len(words) == 2:

@@ -9,7 +9,7 @@ use Rattle.sudoers_text.specs.Whole.{IsLogicalLine}
 use Rattle.sudoers_tree.specs.declared.line_change.LineChange.{LineChange}
 use Rattle.sudoers_tree.specs.declared.line_change.LineChange.TheVariants.{Put, Swap, Take}
 use Rattle.sudoers_tree.specs.Changed.{AreChangesInOrder, texts_of_changes, file_number_of_change}
-use Rattle.sudoers_tree.specs.ChangedFiles.{AreApplicableChanges, AreChangesInFileOrder, changes_of_file}
+use Rattle.sudoers_tree.specs.ChangedFiles.{AreApplicableChanges, AreFileNumbersOfChangesInOrder, changes_of_file}
 use Rattle.sudoers_tree.specs.Files.{ParsedFile, lines_of_optional_file, lines_of_numbered_file}
 use Rattle.sudoers_tree.specs.Line.{Line}
 use Rattle.sudoers_tree.specs.Policy.{texts_of_lines}
@@ -44,7 +44,7 @@ changes_of_file_are_ended f (Take file at ∷ changes) ended =
     changes_with_or_without_first_are_ended (file == f) (Take file at) (changes_of_file f changes) rest rest
 
 -- No change is of a file that is not there.
-missing_file_has_no_changes : (f g : ℕ) (changes : List LineChange) (count : ℕ) → AreChangesInFileOrder g changes count → count ≤ f → changes_of_file f changes ≡ []
+missing_file_has_no_changes : (f g : ℕ) (changes : List LineChange) (count : ℕ) → AreFileNumbersOfChangesInOrder g changes count → count ≤ f → changes_of_file f changes ≡ []
 missing_file_has_no_changes f g [] count by_files past = refl
 missing_file_has_no_changes f g (change ∷ changes) count by_files past = by (file_number_of_change change == f) refl (missing_file_has_no_changes f (file_number_of_change change) changes count by_files.2 past)
   where
@@ -59,7 +59,7 @@ missing_file_has_no_lines : (files : List ParsedFile) (f : ℕ) → length files
 missing_file_has_no_lines files f past = ap lines_of_optional_file (slice_get_past files f past)
 
 -- If the changes are in order in each file that is there, they are in each.
-changes_in_present_files_are_in_order : (changes : List LineChange) (files : List ParsedFile) → AreChangesInFileOrder 0 changes (length files)
+changes_in_present_files_are_in_order : (changes : List LineChange) (files : List ParsedFile) → AreFileNumbersOfChangesInOrder 0 changes (length files)
     → ((f : ℕ) → f < length files → AreChangesInOrder 0 (changes_of_file f changes) (length (lines_of_numbered_file files f)))
     → (f : ℕ) → AreChangesInOrder 0 (changes_of_file f changes) (length (lines_of_numbered_file files f))
 changes_in_present_files_are_in_order changes files by_files order f = by (slice_get_cases files f).1
@@ -82,7 +82,7 @@ lines_of_present_files_are_ended files ended f = by (slice_get_cases files f).1
     by (inr (past, is)) = rw (missing_file_has_no_lines files f past) tt
 
 -- Such changes can be made of files of which each line ends in LF.
-pub ended_changes_in_order_are_applicable : (changes : List LineChange) (files : List ParsedFile) → AreChangesInFileOrder 0 changes (length files)
+pub ended_changes_in_order_are_applicable : (changes : List LineChange) (files : List ParsedFile) → AreFileNumbersOfChangesInOrder 0 changes (length files)
     → ((f : ℕ) → f < length files → AreChangesInOrder 0 (changes_of_file f changes) (length (lines_of_numbered_file files f)))
     → AllByRecursion IsLogicalLine (texts_of_changes changes) → AreLinesEndedInLf (texts_of_changes changes)
     → ((f : ℕ) → f < length files → AreLinesEndedInLf (texts_of_lines (lines_of_numbered_file files f))) → AreApplicableChanges changes files

@@ -77,7 +77,10 @@ fn push_group_name_and_id(group: &Group, answers: &mut String) -> Result<(), All
 }
 
 /// Adds a user, and behind ` @ ` the short name of his host, its long name and its interfaces.
-pub fn push_user_and_host(who: &Who, answers: &mut String) -> Result<(), AllocError> {
+pub fn push_user_groups_host_and_interfaces(
+    who: &Who,
+    answers: &mut String,
+) -> Result<(), AllocError> {
     push_user_and_groups(&who.user, answers)?;
     answers.push_str(" @ ")?;
     push_escaped_text(who.short_host.as_slice(), answers)?;
@@ -106,7 +109,10 @@ fn push_address(address: Address, answers: &mut String) -> Result<(), AllocError
 }
 
 /// Adds a request: `as TARGET group GROUP at MOMENT runs [WORD] [WORD]`.
-pub fn push_request(request: &Request, answers: &mut String) -> Result<(), AllocError> {
+pub fn push_target_moment_and_command_of_request(
+    request: &Request,
+    answers: &mut String,
+) -> Result<(), AllocError> {
     answers.push_str("as ")?;
     push_user_and_groups(&request.target, answers)?;
     if let Some(group) = &request.target_group {
@@ -159,7 +165,7 @@ pub fn push_ask_fault(fault: AskFault, answers: &mut String) -> Result<(), Alloc
 }
 
 /// Adds `places` as `SPEC.GROUP`, with a space between; `none` if there is none.
-pub fn push_host_group_places(
+pub fn push_spec_and_host_group_numbers_of_places(
     places: &[HostGroupPlace],
     answers: &mut String,
 ) -> Result<(), AllocError> {

@@ -6,29 +6,38 @@ ghost use Rattle.std.specs.Prelude.{◌≡◌, ◌≤◌, ℕ, List, length, IfO
 ghost use Rattle.sudoers_text.specs.Fault.{IsFaultlessCut};
 
 use crate::answer_output::push_display_format;
-use crate::case_frames::{CaseCall, eight_byte_number_of};
+use crate::case_frames::{CaseCall, split_eight_byte_number};
 use std::alloc::{AllocError, Global};
 use sudoers_line_reader::read_line;
 use sudoers_line_rows::Tables;
 use sudoers_text::{Lines, TextFault, choose_line_mode, cut, tokens};
 
 /// Adds the last count; `unknown` if the work is not known.
-pub fn push_answer(
+pub fn push_answer_of_benchmark_call(
     alloc: Global,
     call: CaseCall<'_>,
     answers: &mut String,
 ) -> Result<(), AllocError> {
-    let (times, text) = eight_byte_number_of(call.body);
+    let (times, text) = split_eight_byte_number(call.body);
     match call.asked {
-        b'c' => push_display_format(&cut_text_repeatedly(alloc, text, times), answers),
-        b't' => push_display_format(&count_tokens_repeatedly(alloc, text, times), answers),
-        b'p' => push_display_format(&parse_lines_repeatedly(alloc, text, times), answers),
+        b'c' => push_display_format(
+            &cut_text_repeatedly_and_get_last_line_count(alloc, text, times),
+            answers,
+        ),
+        b't' => push_display_format(
+            &count_tokens_repeatedly_and_get_last_count(alloc, text, times),
+            answers,
+        ),
+        b'p' => push_display_format(
+            &parse_lines_repeatedly_and_get_last_count(alloc, text, times),
+            answers,
+        ),
         _ => answers.push_str("unknown"),
     }
 }
 
 /// Cuts `text` into lines as often as `times`, and returns how many there are; 0 if it cannot be cut.
-fn cut_text_repeatedly(alloc: Global, text: &[u8], times: u64) -> usize {
+fn cut_text_repeatedly_and_get_last_line_count(alloc: Global, text: &[u8], times: u64) -> usize {
     let mut count = 0;
     for _ in 0..times {
         count = line_count_of_text(alloc, text).unwrap_or(0);
@@ -37,7 +46,7 @@ fn cut_text_repeatedly(alloc: Global, text: &[u8], times: u64) -> usize {
 }
 
 /// Cuts `text` into lines and these into tokens as often as `times`, and returns how many tokens there are; 0 if it cannot be cut.
-fn count_tokens_repeatedly(alloc: Global, text: &[u8], times: u64) -> usize {
+fn count_tokens_repeatedly_and_get_last_count(alloc: Global, text: &[u8], times: u64) -> usize {
     let mut count = 0;
     for _ in 0..times {
         count = token_count_of_text(alloc, text).unwrap_or(0);
@@ -46,7 +55,7 @@ fn count_tokens_repeatedly(alloc: Global, text: &[u8], times: u64) -> usize {
 }
 
 /// Cuts `text` into lines once, parses these as often as `times`, and returns how many parse; 0 if it cannot be cut.
-fn parse_lines_repeatedly(alloc: Global, text: &[u8], times: u64) -> usize {
+fn parse_lines_repeatedly_and_get_last_count(alloc: Global, text: &[u8], times: u64) -> usize {
     let Ok(lines) = cut(alloc, text) else {
         return 0;
     };

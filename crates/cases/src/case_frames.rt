@@ -49,17 +49,17 @@ pub struct CaseCall<'a> {
 
 /// A call about a subject.
 #[derive(Clone, Copy)]
-pub struct Case<'a> {
+pub struct SubjectAndCall<'a> {
     /// `None` if no subject has the byte.
     pub subject: Option<CaseSubject>,
     pub call: CaseCall<'a>,
 }
 
 /// Splits the first case off `bytes`. `None` if they begin with no whole case.
-pub fn split_first_case(bytes: &[u8]) -> Option<(Case<'_>, &[u8])> {
+pub fn split_first_case(bytes: &[u8]) -> Option<(SubjectAndCall<'_>, &[u8])> {
     let (subject, rest) = bytes.split_first()?;
     let (call, rest) = split_first_call(rest)?;
-    let case = Case {
+    let case = SubjectAndCall {
         subject: CaseSubject::from_subject_byte(*subject),
         call,
     };
@@ -84,12 +84,12 @@ pub fn split_first_part(bytes: &[u8]) -> Option<(&[u8], &[u8])> {
 }
 
 /// Splits the first part off `bytes`: an empty part if they begin with no whole one.
-pub fn first_part_of(bytes: &[u8]) -> (&[u8], &[u8]) {
+pub fn split_first_part_or_empty(bytes: &[u8]) -> (&[u8], &[u8]) {
     split_first_part(bytes).unwrap_or((b"", b""))
 }
 
 /// Splits a number of eight bytes off `bytes`, the first highest: 0 if there are fewer.
-pub fn eight_byte_number_of(bytes: &[u8]) -> (u64, &[u8]) {
+pub fn split_eight_byte_number(bytes: &[u8]) -> (u64, &[u8]) {
     match bytes.split_first_chunk::<8>() {
         Some((number, rest)) => (u64::from_be_bytes(*number), rest),
         None => (0, bytes),

@@ -4,9 +4,9 @@
 
 use crate::answer_output::{push_debug_format, push_display_format};
 use crate::case_frames::{CaseCall, split_first_call, split_first_part};
+use crate::line_load_and_script_text_calls::{self, push_script_of_edits};
 use crate::loading_calls::named_files_of_parts;
 use crate::policy_calls;
-use crate::script_calls::{self, push_script_of_edits};
 use std::alloc::{AllocError, Global};
 use sudoers_edit::{Editor, read_script};
 use sudoers_tree::{LoadFault, Policy};
@@ -42,15 +42,19 @@ impl CallTarget<'_> {
     }
 
     /// Adds the answer to `call`.
-    fn push_answer(
+    fn push_answer_of_call(
         &mut self,
         alloc: Global,
         call: CaseCall<'_>,
         answers: &mut String,
     ) -> Result<(), AllocError> {
         match self {
-            CallTarget::Text(text) => script_calls::push_answer(alloc, text, call, answers),
-            CallTarget::Files(policy) => policy_calls::push_answer(alloc, policy, call, answers),
+            CallTarget::Text(text) => line_load_and_script_text_calls::push_answer_of_any_text_call(
+                alloc, text, call, answers,
+            ),
+            CallTarget::Files(policy) => policy_calls::push_answer_of_policy_call(
+                alloc, policy, call, answers,
+            ),
             CallTarget::Editor(editor) => push_editor_answer(alloc, editor, call, answers),
             CallTarget::LoadFault(fault) => push_debug_format(&fault, answers),
         }
@@ -85,7 +89,7 @@ pub fn push_call_answers(
         let Some((call, rest)) = split_first_call(left) else {
             break;
         };
-        target.push_answer(alloc, call, answers)?;
+        target.push_answer_of_call(alloc, call, answers)?;
         answers.push('\n')?;
         left = rest;
     }
@@ -103,13 +107,13 @@ fn push_editor_answer(
         // A script of one edit.
         b'1' => push_first_edit_outcome(alloc, editor, call.body, answers),
         // A script.
-        b'+' => push_all_edits_outcome(alloc, editor, call.body, answers),
+        b'+' => push_success_or_fault_of_all_script_edits(alloc, editor, call.body, answers),
         b'-' => push_debug_format(&editor.undo(), answers),
         b'>' => push_debug_format(&editor.redo(), answers),
         b's' => push_display_format(&editor.steps(), answers),
         b'e' => push_display_format(&editor.redos(), answers),
         b'<' => push_script_of_edits(alloc, editor.inverse()?.as_slice(), answers),
-        _ => policy_calls::push_query_answer(editor.policy(), call, answers),
+        _ => policy_calls::push_answer_of_read_only_policy_call(editor.policy(), call, answers),
     }
 }
 
@@ -130,7 +134,7 @@ fn push_first_edit_outcome(
 }
 
 /// Adds whether the edits of `script` are made, or which is refused and why.
-fn push_all_edits_outcome(
+fn push_success_or_fault_of_all_script_edits(
     alloc: Global,
     editor: &mut Editor,
     script: &[u8],

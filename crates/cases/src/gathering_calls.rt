@@ -3,27 +3,43 @@
 ghost use Rattle.std.specs.Prelude.{◌≡◌};
 
 use crate::answer_output::{push_debug_format, push_display_format};
-use crate::case_frames::eight_byte_number_of;
+use crate::case_frames::split_eight_byte_number;
 use crate::loading_calls::named_files_of_parts;
 use std::alloc::{AllocError, Global};
 use sudoers_files::{
-    DeviceFailureCounts, FileFault, Files, FilesInMemory, FilesOnDisk, GatherFault, gather,
+    DeviceFailureAndEndlessFileCounts, FileFault, Files, FilesInMemory, FilesOnDisk, GatherFault,
+    gather,
 };
 use sudoers_tree::{Items, NamedFile};
 
 /// Files whose device fails at one call.
 #[derive(Drop)]
-struct FailingFiles<F> {
+pub struct FailingFiles<F> {
     files: F,
     /// Which call fails, from 1; none if it is 0.
     failing: u64,
     calls: u64,
-    counts: DeviceFailureCounts,
+    counts: DeviceFailureAndEndlessFileCounts,
 }
 
 impl<F: Files> FailingFiles<F> {
+    /// Returns `files` whose call `failing` fails, from 1; none if it is 0.
+    pub fn new(files: F, failing: u64) -> FailingFiles<F> {
+        FailingFiles {
+            files,
+            failing,
+            calls: 0,
+            counts: DeviceFailureAndEndlessFileCounts::new(),
+        }
+    }
+
+    /// Returns how often the files were asked.
+    pub fn calls(&self) -> u64 {
+        self.calls
+    }
+
     /// Counts a call, and returns whether it fails.
-    fn count_call_and_check_failure(&mut self) -> bool
+    fn count_call_and_tell_whether_it_fails(&mut self) -> bool
         ensures { (self.new.files ≡ self.old.files) × (self.new.counts ≡ self.old.counts) }
     {
         self.calls = self.calls.saturating_add(1);
@@ -39,7 +55,7 @@ impl<F: Files> Files for FailingFiles<F> {
     } };
 
     fn read(&mut self, alloc: Global, name: &[u8]) -> Result<Option<Items<u8>>, FileFault> {
-        if self.count_call_and_check_failure() {
+        if self.count_call_and_tell_whether_it_fails() {
             return Err(self.counts.count_device_fault(FileFault::Failed));
         }
         match self.files.read(alloc, name) {
@@ -49,7 +65,7 @@ impl<F: Files> Files for FailingFiles<F> {
     }
 
     fn names(&mut self, alloc: Global, dir: &[u8]) -> Result<Vec<Items<u8>>, FileFault> {
-        if self.count_call_and_check_failure() {
+        if self.count_call_and_tell_whether_it_fails() {
             return Err(self.counts.count_device_fault(FileFault::Failed));
         }
         match self.files.names(alloc, dir) {
@@ -63,7 +79,7 @@ impl<F: Files> Files for FailingFiles<F> {
         alloc: Global,
         dir: &[u8],
     ) -> Result<Vec<Items<u8>>, FileFault> {
-        if self.count_call_and_check_failure() {
+        if self.count_call_and_tell_whether_it_fails() {
             return Err(self.counts.count_device_fault(FileFault::Failed));
         }
         match self.files.list_included_names(alloc, dir) {
@@ -77,7 +93,7 @@ impl<F: Files> Files for FailingFiles<F> {
         alloc: Global,
         dir: &[u8],
     ) -> Result<Option<Vec<Items<u8>>>, FileFault> {
-        if self.count_call_and_check_failure() {
+        if self.count_call_and_tell_whether_it_fails() {
             return Err(self.counts.count_device_fault(FileFault::Failed));
         }
         match self.files.list_skipped_names(alloc, dir) {
@@ -92,7 +108,7 @@ impl<F: Files> Files for FailingFiles<F> {
 }
 
 /// Adds what is gathered of the files that `parts` are.
-pub fn push_answer(
+pub fn push_gathered_from_memory(
     alloc: Global,
     body: &[u8],
     parts: &[u8],
@@ -108,7 +124,7 @@ pub fn push_gathered_from_disk(
     body: &[u8],
     answers: &mut String,
 ) -> Result<(), AllocError> {
-    let (_, root) = eight_byte_number_of(body);
+    let (_, root) = split_eight_byte_number(body);
     let root = Items::from_slice(rt.alloc(), root)?;
     let files = FilesOnDisk::new(rt.alloc(), rt.clone()?, None, root, rt.stdin());
     push_gather_outcome(rt.alloc(), body, files, answers)
@@ -122,20 +138,15 @@ fn push_gather_outcome<F: Files + Drop>(
     files: F,
     answers: &mut String,
 ) -> Result<(), AllocError> {
-    let (failing, root) = eight_byte_number_of(body);
-    let mut files = FailingFiles {
-        files,
-        failing,
-        calls: 0,
-        counts: DeviceFailureCounts::new(),
-    };
+    let (failing, root) = split_eight_byte_number(body);
+    let mut files = FailingFiles::new(files, failing);
     match gather(alloc, root, &mut files) {
         Ok(found) => push_file_names_and_sizes(found.as_slice(), answers)?,
         Err(GatherFault::NoMemory) => return Err(AllocError),
         Err(fault) => push_debug_format(&fault, answers)?,
     }
     answers.push('\t')?;
-    push_display_format(&files.calls, answers)
+    push_display_format(&files.calls(), answers)
 }
 
 /// Adds the names of files and how many bytes each has, with a tab between two files.

@@ -1,14 +1,14 @@
 //! What comes of files that are loaded, and what is reported of their policy.
 
 use crate::answer_output::push_debug_format;
-use crate::case_frames::{first_part_of, split_first_part};
+use crate::case_frames::{split_first_part, split_first_part_or_empty};
 use std::alloc::{AllocError, Global};
 use sudoers_check::{check, report_text, unused};
 use sudoers_tree::{Items, Line, LoadFault, NamedFile, Policy};
 
 /// What is asked of the policy of files.
 #[derive(Clone, Copy)]
-pub enum LoadTopic {
+pub enum LoadedPolicyTopic {
     /// Its walk.
     Walk,
     /// Its files.
@@ -24,8 +24,8 @@ pub enum LoadTopic {
 }
 
 /// Returns the topic of a report, which is a strict one if `asked` is `s`.
-pub fn topic_of_report(asked: &[u8]) -> LoadTopic {
-    LoadTopic::Report {
+pub fn report_topic_of_strictness_bytes(asked: &[u8]) -> LoadedPolicyTopic {
+    LoadedPolicyTopic::Report {
         strict: asked == b"s".as_slice(),
     }
 }
@@ -34,14 +34,14 @@ pub fn topic_of_report(asked: &[u8]) -> LoadTopic {
 pub fn push_loaded_files_answer(
     alloc: Global,
     parts: &[u8],
-    topic: LoadTopic,
+    topic: LoadedPolicyTopic,
     answers: &mut String,
 ) -> Result<(), AllocError> {
     let files = named_files_of_parts(alloc, parts)?;
     if files.is_empty() {
         return answers.push_str("no file");
     }
-    push_load_outcome(alloc, Policy::load(alloc, files.as_slice()), topic, answers)
+    push_topic_answer_or_load_fault(alloc, Policy::load(alloc, files.as_slice()), topic, answers)
 }
 
 /// Returns the files that `parts` are, a name and a text each.
@@ -52,7 +52,7 @@ pub fn named_files_of_parts(alloc: Global, parts: &[u8]) -> Result<Vec<NamedFile
         let Some((name, rest)) = split_first_part(left) else {
             break;
         };
-        let (bytes, rest) = first_part_of(rest);
+        let (bytes, rest) = split_first_part_or_empty(rest);
         files.push(NamedFile {
             name: Items::from_slice(alloc, name)?,
             bytes: Items::from_slice(alloc, bytes)?,
@@ -63,10 +63,10 @@ pub fn named_files_of_parts(alloc: Global, parts: &[u8]) -> Result<Vec<NamedFile
 }
 
 /// Adds what the policy that is loaded answers, or the fault in its place; an error if memory ran out.
-fn push_load_outcome(
+fn push_topic_answer_or_load_fault(
     alloc: Global,
     loaded: Result<Policy, LoadFault>,
-    topic: LoadTopic,
+    topic: LoadedPolicyTopic,
     answers: &mut String,
 ) -> Result<(), AllocError> {
     match loaded {
@@ -80,16 +80,16 @@ fn push_load_outcome(
 pub fn push_topic_answer(
     alloc: Global,
     policy: &Policy,
-    topic: LoadTopic,
+    topic: LoadedPolicyTopic,
     answers: &mut String,
 ) -> Result<(), AllocError> {
     match topic {
-        LoadTopic::Walk => push_walk_of_policy(policy, answers),
-        LoadTopic::Files => push_policy_files(policy, answers),
-        LoadTopic::Notes => push_debug_format(&check(alloc, policy)?, answers),
-        LoadTopic::Unused => push_debug_format(&unused(alloc, policy)?, answers),
-        LoadTopic::Report { strict } => push_report_text(alloc, policy, strict, answers),
-        LoadTopic::Fine => push_report_is_fine(alloc, policy, answers),
+        LoadedPolicyTopic::Walk => push_walk_of_policy(policy, answers),
+        LoadedPolicyTopic::Files => push_policy_files(policy, answers),
+        LoadedPolicyTopic::Notes => push_debug_format(&check(alloc, policy)?, answers),
+        LoadedPolicyTopic::Unused => push_debug_format(&unused(alloc, policy)?, answers),
+        LoadedPolicyTopic::Report { strict } => push_report_text(alloc, policy, strict, answers),
+        LoadedPolicyTopic::Fine => push_whether_report_passes_and_text_len(alloc, policy, answers),
     }
 }
 
@@ -113,14 +113,18 @@ pub fn push_policy_files(policy: &Policy, answers: &mut String) -> Result<(), Al
         answers.push('\t')?;
         push_debug_format(&policy.text(file)?, answers)?;
         answers.push('\t')?;
-        push_line_texts(policy, file, answers)?;
+        push_texts_of_lines_in_file(policy, file, answers)?;
         answers.push('\t')?;
     }
     Ok(())
 }
 
 /// Adds the text of each line of a file, with a space behind each.
-fn push_line_texts(policy: &Policy, file: usize, answers: &mut String) -> Result<(), AllocError> {
+fn push_texts_of_lines_in_file(
+    policy: &Policy,
+    file: usize,
+    answers: &mut String,
+) -> Result<(), AllocError> {
     for number in 0..policy.len(file) {
         if let Some(line) = policy.line(file, number) {
             push_debug_format(&line, answers)?;
@@ -142,7 +146,7 @@ fn push_report_text(
 }
 
 /// Adds whether the report is fine, and is with strictness, and how long its text is.
-fn push_report_is_fine(
+fn push_whether_report_passes_and_text_len(
     alloc: Global,
     policy: &Policy,
     answers: &mut String,
@@ -151,8 +155,8 @@ fn push_report_is_fine(
     let text = report_text(alloc, policy, &report, false)?;
     push_debug_format(
         &(
-            report.has_no_faults(false),
-            report.has_no_faults(true),
+            report.is_parsed_ok(false),
+            report.is_parsed_ok(true),
             text.len(),
         ),
         answers,

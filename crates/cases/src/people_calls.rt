@@ -2,9 +2,10 @@
 //! of him.
 
 use crate::answer_output::{
-    push_people_fault, push_request, push_user_and_host, push_users_and_groups, push_who_fault,
+    push_people_fault, push_target_moment_and_command_of_request,
+    push_user_groups_host_and_interfaces, push_users_and_groups, push_who_fault,
 };
-use crate::case_frames::{CaseCall, first_part_of, split_first_part, words_of_parts};
+use crate::case_frames::{CaseCall, split_first_part, split_first_part_or_empty, words_of_parts};
 use crate::policy_questions::{self, PolicyQuestion};
 use std::alloc::{AllocError, Global};
 use sudoers_list_people::{People, WhoFault, request_for, who_for};
@@ -17,7 +18,7 @@ enum PeopleTopic {
     /// All users and groups.
     People,
     /// Something about a user on a host.
-    User(UserInquiry),
+    User(UserInquiryTopic),
 }
 
 impl PeopleTopic {
@@ -25,11 +26,11 @@ impl PeopleTopic {
     fn from_topic_byte(byte: u8) -> Option<PeopleTopic> {
         match byte {
             b'P' => Some(PeopleTopic::People),
-            b'W' => Some(PeopleTopic::User(UserInquiry::Who)),
-            b'R' => Some(PeopleTopic::User(UserInquiry::Request)),
-            b'L' => Some(PeopleTopic::User(UserInquiry::Listing)),
-            b'D' => Some(PeopleTopic::User(UserInquiry::Default)),
-            b'A' => Some(PeopleTopic::User(UserInquiry::Allowed)),
+            b'W' => Some(PeopleTopic::User(UserInquiryTopic::Who)),
+            b'R' => Some(PeopleTopic::User(UserInquiryTopic::Request)),
+            b'L' => Some(PeopleTopic::User(UserInquiryTopic::Listing)),
+            b'D' => Some(PeopleTopic::User(UserInquiryTopic::Default)),
+            b'A' => Some(PeopleTopic::User(UserInquiryTopic::Allowed)),
             _ => None,
         }
     }
@@ -37,7 +38,7 @@ impl PeopleTopic {
 
 /// What is asked about a user on a host.
 #[derive(Clone, Copy)]
-enum UserInquiry {
+enum UserInquiryTopic {
     /// Who he is: his groups, and the host.
     Who,
     /// What he asks for.
@@ -68,14 +69,14 @@ struct InquiryParts<'a> {
 impl InquiryParts<'_> {
     /// Returns the words that `parts` are.
     fn from_inquiry_parts(parts: &[u8]) -> InquiryParts<'_> {
-        let (user, rest) = first_part_of(parts);
-        let (host, rest) = first_part_of(rest);
-        let (interfaces, rest) = first_part_of(rest);
-        let (policy, rest) = first_part_of(rest);
-        let (target, rest) = first_part_of(rest);
-        let (target_group, rest) = first_part_of(rest);
-        let (stamp, rest) = first_part_of(rest);
-        let (command, _) = first_part_of(rest);
+        let (user, rest) = split_first_part_or_empty(parts);
+        let (host, rest) = split_first_part_or_empty(rest);
+        let (interfaces, rest) = split_first_part_or_empty(rest);
+        let (policy, rest) = split_first_part_or_empty(rest);
+        let (target, rest) = split_first_part_or_empty(rest);
+        let (target_group, rest) = split_first_part_or_empty(rest);
+        let (stamp, rest) = split_first_part_or_empty(rest);
+        let (command, _) = split_first_part_or_empty(rest);
         InquiryParts {
             user,
             host,
@@ -90,7 +91,7 @@ impl InquiryParts<'_> {
 }
 
 /// Adds the answer to `call`, or why its people are not read; `unknown` if this is not known.
-pub fn push_answer(
+pub fn push_answer_of_people_call(
     alloc: Global,
     call: CaseCall<'_>,
     answers: &mut String,
@@ -98,8 +99,8 @@ pub fn push_answer(
     let Some(topic) = PeopleTopic::from_topic_byte(call.asked) else {
         return answers.push_str("unknown");
     };
-    let (passwd, rest) = first_part_of(call.body);
-    let (group, parts) = first_part_of(rest);
+    let (passwd, rest) = split_first_part_or_empty(call.body);
+    let (group, parts) = split_first_part_or_empty(rest);
     match People::read(alloc, passwd, group) {
         Ok(people) => push_people_topic_answer(
             alloc,
@@ -137,36 +138,36 @@ fn push_people_topic_answer(
 fn push_user_inquiry_answer(
     alloc: Global,
     people: &People,
-    inquiry: UserInquiry,
+    inquiry: UserInquiryTopic,
     words: InquiryParts<'_>,
     answers: &mut String,
 ) -> Result<(), WhoFault> {
     let who = who_for(alloc, people, words.user, words.host, words.interfaces)?;
     match inquiry {
-        UserInquiry::Who => push_user_and_host(&who, answers)?,
-        UserInquiry::Listing => {
-            policy_questions::push_answer(
+        UserInquiryTopic::Who => push_user_groups_host_and_interfaces(&who, answers)?,
+        UserInquiryTopic::Listing => {
+            policy_questions::push_answer_of_policy_text(
                 alloc,
                 words.policy,
                 PolicyQuestion::Listing(&who),
                 answers,
             )?;
         }
-        UserInquiry::Default => {
-            policy_questions::push_answer(
+        UserInquiryTopic::Default => {
+            policy_questions::push_answer_of_policy_text(
                 alloc,
                 words.policy,
                 PolicyQuestion::Default(&who),
                 answers,
             )?;
         }
-        UserInquiry::Request => push_request(
-            &request_of_words(alloc, people, who, words)?,
+        UserInquiryTopic::Request => push_target_moment_and_command_of_request(
+            &request_of_who_and_inquiry_parts(alloc, people, who, words)?,
             answers,
         )?,
-        UserInquiry::Allowed => {
-            let request = request_of_words(alloc, people, who, words)?;
-            policy_questions::push_answer(
+        UserInquiryTopic::Allowed => {
+            let request = request_of_who_and_inquiry_parts(alloc, people, who, words)?;
+            policy_questions::push_answer_of_policy_text(
                 alloc,
                 words.policy,
                 PolicyQuestion::Allowed(&request),
@@ -178,7 +179,7 @@ fn push_user_inquiry_answer(
 }
 
 /// Returns the request of `who` that `words` make.
-fn request_of_words(
+fn request_of_who_and_inquiry_parts(
     alloc: Global,
     people: &People,
     who: Who,

@@ -1,26 +1,29 @@
 //! Calls of a policy of one file or of several.
 
-use crate::answer_output::push_debug_format;
-use crate::case_frames::{CaseCall, eight_byte_number_of, split_first_call};
-use crate::file_changes::{
+use crate::allowed_line_changes::{
     change_lines_if_allowed, insert_line_if_allowed, replace_line_if_allowed,
     take_out_line_if_allowed,
 };
-use crate::line_change_calls::line_changes_of_calls;
+use crate::answer_output::push_debug_format;
+use crate::case_frames::{CaseCall, split_eight_byte_number, split_first_call};
+use crate::conversion_calls::push_conversion_answer;
+use crate::line_change_reading_and_checks::line_changes_of_calls;
 use crate::loading_calls::{
-    LoadTopic, push_policy_files, push_topic_answer, push_walk_of_policy, topic_of_report,
+    LoadedPolicyTopic, push_policy_files, push_topic_answer, push_walk_of_policy,
+    report_topic_of_strictness_bytes,
 };
 use std::alloc::{AllocError, Global};
+use sudoers_match_list::has_reachable_cycle_in_policy;
 use sudoers_tree::{DefinitionFilePlace, Kind, Policy, append_texts_of_rows, lf_count};
 
 /// Adds the answer to a call of `policy`.
-pub fn push_answer(
+pub fn push_answer_of_policy_call(
     alloc: Global,
     policy: &mut Policy,
     call: CaseCall<'_>,
     answers: &mut String,
 ) -> Result<(), AllocError> {
-    let (file, at, line) = file_and_line_numbers_of(call.body);
+    let (file, at, line) = split_file_and_line_numbers(call.body);
     let changed = match call.asked {
         // A file, a place and a line, where that is one.
         b'w' => insert_line_if_allowed(policy, file, at, line)?,
@@ -31,18 +34,18 @@ pub fn push_answer(
             policy,
             line_changes_of_calls(alloc, call.body)?.as_slice(),
         ),
-        _ => return push_query_answer(policy, call, answers),
+        _ => return push_answer_of_read_only_policy_call(policy, call, answers),
     };
     push_debug_format(&changed, answers)
 }
 
 /// Adds the answer to a call that changes nothing.
-pub fn push_query_answer(
+pub fn push_answer_of_read_only_policy_call(
     policy: &Policy,
     call: CaseCall<'_>,
     answers: &mut String,
 ) -> Result<(), AllocError> {
-    let (file, number, _) = file_and_line_numbers_of(call.body);
+    let (file, number, _) = split_file_and_line_numbers(call.body);
     match call.asked {
         b'r' => answers.push_str("read"),
         b'f' => push_walk_of_policy(policy, answers),
@@ -54,29 +57,34 @@ pub fn push_query_answer(
         b'a' => push_file_lines(policy, file, answers),
         b'b' => push_physical_line_numbers(policy, file, answers),
         // The number of a file, and that of a line there.
-        b'l' => push_file_line(policy, file, number, answers),
+        b'l' => push_text_kind_and_node_of_line(policy, file, number, answers),
         // A kind of alias and a name.
-        b'd' => push_alias_definition(policy, call.body, answers),
+        b'd' => push_place_members_and_line_of_alias(policy, call.body, answers),
         b'm' => push_alias_mentions(policy, call.body, answers),
         // Bytes, and then the lines of the walk.
         b'A' => push_debug_format(&join_front_and_walk_text(policy, call.body)?, answers),
+        // Whether an alias is cyclic to which a user specification or a Defaults line leads.
+        b'C' => push_debug_format(
+            &has_reachable_cycle_in_policy(policy.allocator(), policy)?,
+            answers,
+        ),
         _ => push_report_answer(policy, call, answers),
     }
 }
 
-/// Adds what is reported of `policy`; `unknown` if the call asks for something else.
+/// Adds what is reported of `policy`, or what comes of its conversion.
 fn push_report_answer(
     policy: &Policy,
     call: CaseCall<'_>,
     answers: &mut String,
 ) -> Result<(), AllocError> {
     let topic = match call.asked {
-        b'k' => LoadTopic::Notes,
-        b'u' => LoadTopic::Unused,
+        b'k' => LoadedPolicyTopic::Notes,
+        b'u' => LoadedPolicyTopic::Unused,
         // `s` for a strict report.
-        b'p' => topic_of_report(call.body),
-        b'F' => LoadTopic::Fine,
-        _ => return answers.push_str("unknown"),
+        b'p' => report_topic_of_strictness_bytes(call.body),
+        b'F' => LoadedPolicyTopic::Fine,
+        _ => return push_conversion_answer(policy, call, answers),
     };
     push_topic_answer(policy.allocator(), policy, topic, answers)
 }
@@ -96,14 +104,14 @@ fn push_file_names_and_texts(policy: &Policy, answers: &mut String) -> Result<()
 /// Adds the lines of a file, with a tab behind each.
 fn push_file_lines(policy: &Policy, file: usize, answers: &mut String) -> Result<(), AllocError> {
     for number in 0..policy.len(file) {
-        push_file_line(policy, file, number, answers)?;
+        push_text_kind_and_node_of_line(policy, file, number, answers)?;
         answers.push('\t')?;
     }
     Ok(())
 }
 
 /// Adds the text of the line of a file, its kind, and what it says.
-fn push_file_line(
+fn push_text_kind_and_node_of_line(
     policy: &Policy,
     file: usize,
     number: usize,
@@ -133,7 +141,7 @@ fn push_physical_line_numbers(
 }
 
 /// Adds where a name is defined, its members, and the text of the line.
-fn push_alias_definition(
+fn push_place_members_and_line_of_alias(
     policy: &Policy,
     named: &[u8],
     answers: &mut String,
@@ -190,8 +198,8 @@ fn alias_kind_of_byte(byte: u8) -> Kind {
 }
 
 /// Returns the number of a file and that of a line with which `bytes` begin, and what follows them.
-fn file_and_line_numbers_of(bytes: &[u8]) -> (usize, usize, &[u8]) {
-    let (file, rest) = eight_byte_number_of(bytes);
-    let (number, rest) = eight_byte_number_of(rest);
+fn split_file_and_line_numbers(bytes: &[u8]) -> (usize, usize, &[u8]) {
+    let (file, rest) = split_eight_byte_number(bytes);
+    let (number, rest) = split_eight_byte_number(rest);
     (file as usize, number as usize, rest)
 }

@@ -2,13 +2,17 @@
 
 use crate::answer_output::{
     allow_or_deny_word_of, push_ask_fault, push_debug_format, push_deciding_row_or_fault,
-    push_escaped_text, push_host_group_places,
+    push_escaped_text, push_spec_and_host_group_numbers_of_places,
 };
 use std::alloc::{AllocError, Global};
-use sudoers_list::list;
-use sudoers_match::{Request, answer, host_groups, runas_default};
+use sudoers_cvt::print_command;
+use sudoers_list::{explain, list};
+use sudoers_match::{
+    Request, answer, find_answer, find_runas_default_for, host_groups, runas_default,
+};
 use sudoers_match_list::{
-    CommandListKind, HostListKind, MemberKind, RunasGroupListKind, UserListKind, decide,
+    AcyclicWalk, AskFault, CommandListKind, HostListKind, MemberKind, RunasGroupListKind,
+    UserListKind, decide,
 };
 use sudoers_match_member::{CommandLine, Group, Person, Who};
 use sudoers_tree::{Kind, LoadFault, Policy};
@@ -34,10 +38,14 @@ pub enum PolicyQuestion<'a> {
     Allowed(&'a Request),
     /// Which row decides a request.
     Row(&'a Request),
+    /// The command of that row with all that holds of it.
+    Command(&'a Request),
+    /// Why a request is allowed or denied.
+    Reason(&'a Request),
 }
 
 /// Adds what the policy of the one file `text` answers to `question`; `no policy` if it is none.
-pub fn push_answer(
+pub fn push_answer_of_policy_text(
     alloc: Global,
     text: &[u8],
     question: PolicyQuestion<'_>,
@@ -58,17 +66,13 @@ fn push_policy_answer(
     answers: &mut String,
 ) -> Result<(), AllocError> {
     match question {
-        PolicyQuestion::OfUser(kind, user) => push_alias_verdict::<UserListKind>(
-            alloc, policy, kind, user, answers,
-        ),
-        PolicyQuestion::OfGroup(group) => push_alias_verdict::<RunasGroupListKind>(
-            alloc,
-            policy,
-            Kind::Runas,
-            group,
-            answers,
-        ),
-        PolicyQuestion::OfHost(who) => push_alias_verdict::<HostListKind>(
+        PolicyQuestion::OfUser(kind, user) => push_verdict_of_alias_named_a_on_value::<
+            UserListKind,
+        >(alloc, policy, kind, user, answers),
+        PolicyQuestion::OfGroup(group) => push_verdict_of_alias_named_a_on_value::<
+            RunasGroupListKind,
+        >(alloc, policy, Kind::Runas, group, answers),
+        PolicyQuestion::OfHost(who) => push_verdict_of_alias_named_a_on_value::<HostListKind>(
             alloc,
             policy,
             Kind::Host,
@@ -76,9 +80,17 @@ fn push_policy_answer(
             answers,
         ),
         PolicyQuestion::OfCommand(command) => {
-            push_alias_verdict::<CommandListKind>(alloc, policy, Kind::Cmnd, command, answers)
+            push_verdict_of_alias_named_a_on_value::<CommandListKind>(
+                alloc,
+                policy,
+                Kind::Cmnd,
+                command,
+                answers,
+            )
         }
-        PolicyQuestion::Places(who) => push_matching_host_groups(alloc, policy, who, answers),
+        PolicyQuestion::Places(who) => push_host_group_places_matching_user_and_host(
+            alloc, policy, who, answers,
+        ),
         PolicyQuestion::Default(who) => push_default_runas(alloc, policy, who, answers),
         PolicyQuestion::Listing(who) => push_privilege_listing(alloc, policy, who, answers),
         PolicyQuestion::Allowed(request) => push_request_verdict(alloc, policy, request, answers),
@@ -86,11 +98,50 @@ fn push_policy_answer(
             answer(alloc, policy, request),
             answers,
         ),
+        PolicyQuestion::Command(request) => push_text_or_ask_fault(
+            print_deciding_command(alloc, policy, request),
+            answers,
+        ),
+        PolicyQuestion::Reason(request) => push_text_or_ask_fault(
+            explain_answer(alloc, policy, request),
+            answers,
+        ),
     }
 }
 
+/// Adds a text, or why there is none.
+fn push_text_or_ask_fault(
+    text: Result<Vec<u8>, AskFault>,
+    answers: &mut String,
+) -> Result<(), AllocError> {
+    match text {
+        Ok(text) => push_escaped_text(text.as_slice(), answers),
+        Err(fault) => push_ask_fault(fault, answers),
+    }
+}
+
+/// Returns the command of the row that decides a request, with all that holds of it; no byte if no row fits.
+fn print_deciding_command(
+    alloc: Global,
+    policy: &Policy,
+    request: &Request,
+) -> Result<Vec<u8>, AskFault> {
+    let acyclic = AcyclicWalk::new(alloc, policy.walk())?;
+    let default = find_runas_default_for(alloc, &acyclic, &request.who)?;
+    match find_answer(alloc, &acyclic, request, default)? {
+        Some(found) => Ok(print_command(alloc, &found.head, &found.member)?),
+        None => Ok(Vec::new(alloc)),
+    }
+}
+
+/// Returns why a request is allowed or denied.
+fn explain_answer(alloc: Global, policy: &Policy, request: &Request) -> Result<Vec<u8>, AskFault> {
+    let found = answer(alloc, policy, request)?;
+    explain(alloc, policy, request, found)
+}
+
 /// Adds what the alias A of `kind` says of `asked`: `Allow`, `Deny` or `Unsaid`.
-fn push_alias_verdict<K: MemberKind>(
+fn push_verdict_of_alias_named_a_on_value<K: MemberKind>(
     alloc: Global,
     policy: &Policy,
     kind: Kind,
@@ -107,14 +158,14 @@ fn push_alias_verdict<K: MemberKind>(
 }
 
 /// Adds the places of the host groups whose users and hosts match: `SPEC.GROUP`, with a space between; `none` if there is none.
-fn push_matching_host_groups(
+fn push_host_group_places_matching_user_and_host(
     alloc: Global,
     policy: &Policy,
     who: &Who,
     answers: &mut String,
 ) -> Result<(), AllocError> {
     match host_groups(alloc, policy, who) {
-        Ok(places) => push_host_group_places(places.as_slice(), answers),
+        Ok(places) => push_spec_and_host_group_numbers_of_places(places.as_slice(), answers),
         Err(fault) => push_ask_fault(fault, answers),
     }
 }
@@ -140,10 +191,7 @@ fn push_privilege_listing(
     who: &Who,
     answers: &mut String,
 ) -> Result<(), AllocError> {
-    match list(alloc, policy, who) {
-        Ok(text) => push_escaped_text(text.as_slice(), answers),
-        Err(fault) => push_ask_fault(fault, answers),
-    }
+    push_text_or_ask_fault(list(alloc, policy, who), answers)
 }
 
 /// Adds whether a request is allowed: `allow` or `deny`, as the last row says that fits; `none` if no row fits.

@@ -1,6 +1,6 @@
 //! Users, hosts, commands and requests, as the parts of a body have them.
 
-use crate::case_frames::{eight_byte_number_of, first_part_of, words_of_parts};
+use crate::case_frames::{split_eight_byte_number, split_first_part_or_empty, words_of_parts};
 use std::alloc::{AllocError, Global};
 use sudoers_grammar::{Address, Items, Mask};
 use sudoers_match::Request;
@@ -15,7 +15,7 @@ fn four_byte_id_of(bytes: &[u8]) -> u32 {
 }
 
 /// Returns the mask that five bytes are: a number of bits, or 255 and a dotted mask. `None` if there is no byte.
-fn mask_of_bytes(bytes: &[u8]) -> Option<Mask> {
+fn mask_of_bit_count_or_dotted_bytes(bytes: &[u8]) -> Option<Mask> {
     let (bits, dotted) = bytes.split_first()?;
     Some(match *bits {
         255 => Mask::Dotted(Address {
@@ -31,7 +31,7 @@ pub fn address_and_mask_of(bytes: &[u8]) -> (Address, Option<Mask>) {
         number: four_byte_id_of(bytes),
     };
     let (_, mask) = bytes.split_at_checked(4).unwrap_or((b"", b""));
-    (address, mask_of_bytes(mask))
+    (address, mask_of_bit_count_or_dotted_bytes(mask))
 }
 
 /// Returns the interfaces that are nine bytes each: an address and a mask.
@@ -55,8 +55,8 @@ pub fn interfaces_of_bytes(alloc: Global, bytes: &[u8]) -> Result<Vec<Interface>
 ///
 /// Memory ran out.
 pub fn group_of_parts(alloc: Global, bytes: &[u8]) -> Result<Group, AllocError> {
-    let (name, rest) = first_part_of(bytes);
-    let (number, _) = first_part_of(rest);
+    let (name, rest) = split_first_part_or_empty(bytes);
+    let (number, _) = split_first_part_or_empty(rest);
     Ok(Group {
         gid: four_byte_id_of(number),
         name: Items::from_slice(alloc, name)?,
@@ -69,8 +69,8 @@ pub fn group_of_parts(alloc: Global, bytes: &[u8]) -> Result<Group, AllocError> 
 ///
 /// Memory ran out.
 pub fn user_of_parts(alloc: Global, bytes: &[u8]) -> Result<Person, AllocError> {
-    let (name, rest) = first_part_of(bytes);
-    let (number, rest) = first_part_of(rest);
+    let (name, rest) = split_first_part_or_empty(bytes);
+    let (number, rest) = split_first_part_or_empty(rest);
     Ok(Person {
         name: Items::from_slice(alloc, name)?,
         uid: four_byte_id_of(number),
@@ -87,8 +87,8 @@ fn groups_of_parts(alloc: Global, bytes: &[u8]) -> Result<Items<Group>, AllocErr
             break;
         }
         groups.push(group_of_parts(alloc, left)?)?;
-        let (_, rest) = first_part_of(left);
-        let (_, others) = first_part_of(rest);
+        let (_, rest) = split_first_part_or_empty(left);
+        let (_, others) = split_first_part_or_empty(rest);
         left = others;
     }
     Ok(Items::from_vec(groups))
@@ -100,9 +100,9 @@ fn groups_of_parts(alloc: Global, bytes: &[u8]) -> Result<Items<Group>, AllocErr
 ///
 /// Memory ran out.
 pub fn who_of_user_and_host(alloc: Global, user: Person, host: &[u8]) -> Result<Who, AllocError> {
-    let (short, rest) = first_part_of(host);
-    let (long, rest) = first_part_of(rest);
-    let (interfaces, _) = first_part_of(rest);
+    let (short, rest) = split_first_part_or_empty(host);
+    let (long, rest) = split_first_part_or_empty(rest);
+    let (interfaces, _) = split_first_part_or_empty(rest);
     Ok(Who {
         user,
         long_host: Items::from_slice(alloc, long)?,
@@ -117,8 +117,8 @@ pub fn who_of_user_and_host(alloc: Global, user: Person, host: &[u8]) -> Result<
 ///
 /// Memory ran out.
 pub fn who_of_parts(alloc: Global, bytes: &[u8]) -> Result<Who, AllocError> {
-    let (host, rest) = first_part_of(bytes);
-    let (user, _) = first_part_of(rest);
+    let (host, rest) = split_first_part_or_empty(bytes);
+    let (user, _) = split_first_part_or_empty(rest);
     who_of_user_and_host(alloc, user_of_parts(alloc, user)?, host)
 }
 
@@ -128,8 +128,8 @@ pub fn who_of_parts(alloc: Global, bytes: &[u8]) -> Result<Who, AllocError> {
 ///
 /// Memory ran out.
 pub fn command_line_of_parts(alloc: Global, bytes: &[u8]) -> Result<CommandLine, AllocError> {
-    let (path, rest) = first_part_of(bytes);
-    let (args, _) = first_part_of(rest);
+    let (path, rest) = split_first_part_or_empty(bytes);
+    let (args, _) = split_first_part_or_empty(rest);
     Ok(CommandLine {
         path: Items::from_slice(alloc, path)?,
         args: Items::from_slice(alloc, args)?,
@@ -142,23 +142,23 @@ pub fn command_line_of_parts(alloc: Global, bytes: &[u8]) -> Result<CommandLine,
 ///
 /// Memory ran out.
 pub fn request_of_parts(alloc: Global, bytes: &[u8]) -> Result<Request, AllocError> {
-    let (_, rest) = first_part_of(bytes);
-    let (_, rest) = first_part_of(rest);
-    let (target, rest) = first_part_of(rest);
-    let (group, rest) = first_part_of(rest);
-    let (command, rest) = first_part_of(rest);
-    let (args, rest) = first_part_of(rest);
-    let (moment, _) = first_part_of(rest);
+    let (_, rest) = split_first_part_or_empty(bytes);
+    let (_, rest) = split_first_part_or_empty(rest);
+    let (target, rest) = split_first_part_or_empty(rest);
+    let (group, rest) = split_first_part_or_empty(rest);
+    let (command, rest) = split_first_part_or_empty(rest);
+    let (args, rest) = split_first_part_or_empty(rest);
+    let (moment, _) = split_first_part_or_empty(rest);
     let who = who_of_parts(alloc, bytes)?;
     let (target, target_group) = target_user_and_group_of(alloc, target, group)?;
-    let (command, args) = path_and_arguments_of(alloc, command, args)?;
+    let (command, args) = path_of_bytes_and_arguments_of_parts(alloc, command, args)?;
     Ok(Request {
         who,
         target,
         target_group,
         command,
         args,
-        moment: eight_byte_number_of(moment).0,
+        moment: split_eight_byte_number(moment).0,
     })
 }
 
@@ -177,7 +177,7 @@ fn target_user_and_group_of(
 }
 
 /// Returns the path of a command, and its arguments, which are parts.
-fn path_and_arguments_of(
+fn path_of_bytes_and_arguments_of_parts(
     alloc: Global,
     path: &[u8],
     args: &[u8],

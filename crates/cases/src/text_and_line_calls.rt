@@ -14,7 +14,7 @@ use sudoers_text::{
 };
 
 /// Adds what is said of the text of `call`; `unknown` if this is not known.
-pub fn push_answer(
+pub fn push_answer_of_text_and_line_call(
     alloc: Global,
     call: CaseCall<'_>,
     answers: &mut String,
@@ -27,7 +27,7 @@ pub fn push_answer(
         b'p' => push_line_tokens(alloc, text, Mode::Parameters, answers),
         b'v' => push_word_value(alloc, text, answers),
         b'P' => push_debug_format(&parse(alloc, text), answers),
-        b'O' => push_alias_members_of_line(alloc, text, answers),
+        b'O' => push_aliases_mentioned_in_line_text(alloc, text, answers),
         _ => push_text_test_answer(call, answers),
     }
 }
@@ -65,20 +65,20 @@ fn push_line_tokens(
 }
 
 /// Adds the aliases that are members of lists in `line`, or why it is refused.
-fn push_alias_members_of_line(
+fn push_aliases_mentioned_in_line_text(
     alloc: Global,
     line: &[u8],
     answers: &mut String,
 ) -> Result<(), AllocError> {
     let parsed = parse(alloc, line);
     match &parsed {
-        Ok(reading) => push_alias_members(alloc, reading, answers),
+        Ok(reading) => push_aliases_mentioned_in_parsed_line(alloc, reading, answers),
         Err(fault) => write!(answers, "Err({fault:?})"),
     }
 }
 
 /// Adds the aliases that are members of lists in the line that was read.
-fn push_alias_members(
+fn push_aliases_mentioned_in_parsed_line(
     alloc: Global,
     reading: &ParsedLine,
     answers: &mut String,

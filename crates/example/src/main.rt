@@ -72,7 +72,7 @@ fn ask(rt: &HostRuntime, policy: &Policy) -> Result<(), Stopped> {
 
 /// Returns whether `who` may run the command as root.
 fn is_allowed(alloc: Global, policy: &Policy, people: &People, who: Who) -> Result<bool, Stopped> {
-    let Ok(words) = words_of(alloc) else {
+    let Ok(words) = copy_command_words(alloc) else {
         return Err(Stopped("no memory\n"));
     };
     let Ok(request) = request_for(alloc, people, who, b"root", None, words.as_slice(), MOMENT)
@@ -87,7 +87,7 @@ fn is_allowed(alloc: Global, policy: &Policy, people: &People, who: Who) -> Resu
 }
 
 /// Returns the words of the command.
-fn words_of(alloc: Global) -> Result<Items<Items<u8>>, std::alloc::AllocError> {
+fn copy_command_words(alloc: Global) -> Result<Items<Items<u8>>, std::alloc::AllocError> {
     let mut words = Items::new(alloc);
     for word in COMMAND {
         words.push(Items::from_slice(alloc, word)?)?;

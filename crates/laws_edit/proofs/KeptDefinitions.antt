@@ -12,7 +12,7 @@ use Rattle.sudoers_grammar.specs.declared.node.Kind.{Kind}
 use Rattle.sudoers_tree.specs.Line.{Line}
 use Rattle.sudoers_tree.specs.Definition.{PlacedDefinition, definitions_of_lines, definitions_from_place, definitions_in_line, definitions_from_line_number}
 use Rattle.sudoers_check.specs.Chain.{ListHasElement}
-use Rattle.sudoers_check.specs.Chains.{IsReachable}
+use Rattle.sudoers_check.specs.Chains.{IsReachedFromSpecOrDefaults}
 use Rattle.sudoers_check.specs.Led.{is_unused}
 use Rattle.sudoers_check.proofs.Named.{element_of_front_is_in_appended, element_of_back_is_in_appended, passing_element_is_in_filtered}
 use Rattle.sudoers_match.proofs.Lasts.{all_append}
@@ -21,7 +21,7 @@ use Rattle.laws_edit.proofs.PruneLeaves.{WasAt, before_same}
 
 -- what the law of used definitions says
 abbrev pub UsedDefinitionsAreReachable : Type 0
-UsedDefinitionsAreReachable = (lines : List Line) (d : PlacedDefinition) → ListHasElement (definitions_of_lines lines) d → is_unused lines d ≡ false → IsReachable d.kind lines d.def.name
+UsedDefinitionsAreReachable = (lines : List Line) (d : PlacedDefinition) → ListHasElement (definitions_of_lines lines) d → is_unused lines d ≡ false → IsReachedFromSpecOrDefaults d.kind lines d.def.name
 
 -- ---- places that descend
 
@@ -75,13 +75,13 @@ module _ (policy : List Line) where
 
   -- A chain of mentions of the policy leads to the definition.
   abbrev pub IsUsed : PlacedDefinition → Type 0
-  IsUsed d = IsReachable d.kind policy d.def.name
+  IsUsed d = IsReachedFromSpecOrDefaults d.kind policy d.def.name
 
   -- So it is with all definitions of these lines.
   abbrev pub AreUsed : List Line → Type 0
   AreUsed lines = (i : ℕ) → AllByRecursion IsUsed (definitions_from_line_number i lines)
 
-  used_from : (k : Kind) (l n : ℕ) (defs : List Def) → AllByRecursion (λ (e : Def). IsReachable k policy e.name) defs
+  used_from : (k : Kind) (l n : ℕ) (defs : List Def) → AllByRecursion (λ (e : Def). IsReachedFromSpecOrDefaults k policy e.name) defs
       → AllByRecursion IsUsed (definitions_from_place k l n defs)
   used_from k l n [] all = tt
   used_from k l n (d ∷ defs) all = (all.0, used_from k l (n + 1) defs all.1)
@@ -96,20 +96,20 @@ module _ (policy : List Line) where
       used_line line after (λ i. subst (λ (n : Node). AllByRecursion IsUsed (definitions_in_line i n)) (sym is) (here i)) behind
 
   pub used_alias : (line : Line) (after : List Line) (k : Kind) (defs : List Def) → line.node ≡ node.Alias k defs
-      → AllByRecursion (λ (e : Def). IsReachable k policy e.name) defs → AreUsed after → AreUsed (line ∷ after)
+      → AllByRecursion (λ (e : Def). IsReachedFromSpecOrDefaults k policy e.name) defs → AreUsed after → AreUsed (line ∷ after)
   used_alias line after k defs makes used behind = used_other line after (node.Alias k defs) makes (λ i. used_from k i 0 defs used) behind
 
   -- ---- used or about to go
 
   -- Each of the definitions is used, or one of these stands at its place.
   abbrev pub UsedOrGoing : Kind → List Def → List PlacedDefinition → Type 0
-  UsedOrGoing k defs ds = (p : ℕ) (e : Def) → slice_get defs p ≡ Some e → IsReachable k policy e.name ⊎ IsPlaceOfSomeDefinition p ds
+  UsedOrGoing k defs ds = (p : ℕ) (e : Def) → slice_get defs p ≡ Some e → IsReachedFromSpecOrDefaults k policy e.name ⊎ IsPlaceOfSomeDefinition p ds
 
-  pub none_going : (k : Kind) (defs : List Def) → UsedOrGoing k defs [] → AllByRecursion (λ (e : Def). IsReachable k policy e.name) defs
+  pub none_going : (k : Kind) (defs : List Def) → UsedOrGoing k defs [] → AllByRecursion (λ (e : Def). IsReachedFromSpecOrDefaults k policy e.name) defs
   none_going k [] going = tt
   none_going k (d ∷ defs) going = (by (going zero d refl), none_going k defs (λ p e is. going (suc p) e is))
     where
-      by : IsReachable k policy d.name ⊎ ⊥ → IsReachable k policy d.name
+      by : IsReachedFromSpecOrDefaults k policy d.name ⊎ ⊥ → IsReachedFromSpecOrDefaults k policy d.name
       by (inl used) = used
       by (inr none) = absurd none
 
@@ -153,15 +153,15 @@ module _ (policy : List Line) where
       at : ℕ
       at = d.place.def
 
-      still : (q : ℕ) (was : WasAt policy defs q e) → (q ≡ at → ⊥) → (IsPlaceOfSomeDefinition q ds → IsPlaceOfSomeDefinition p ds) → IsReachable k policy e.name ⊎ IsPlaceOfSomeDefinition p ds
+      still : (q : ℕ) (was : WasAt policy defs q e) → (q ≡ at → ⊥) → (IsPlaceOfSomeDefinition q ds → IsPlaceOfSomeDefinition p ds) → IsReachedFromSpecOrDefaults k policy e.name ⊎ IsPlaceOfSomeDefinition p ds
       still q was other move = by_one (going q was.one was.at)
         where
-          by_one : IsReachable k policy was.one.name ⊎ IsPlaceOfSomeDefinition q (d ∷ ds) → IsReachable k policy e.name ⊎ IsPlaceOfSomeDefinition p ds
-          by_one (inl used) = inl (subst (IsReachable k policy) was.called used)
+          by_one : IsReachedFromSpecOrDefaults k policy was.one.name ⊎ IsPlaceOfSomeDefinition q (d ∷ ds) → IsReachedFromSpecOrDefaults k policy e.name ⊎ IsPlaceOfSomeDefinition p ds
+          by_one (inl used) = inl (subst (IsReachedFromSpecOrDefaults k policy) was.called used)
           by_one (inr (inl here)) = absurd (other (sym here))
           by_one (inr (inr more)) = inr (move more)
 
-      by : (b : Bool) → nat_lt p at ≡ b → IsReachable k policy e.name ⊎ IsPlaceOfSomeDefinition p ds
+      by : (b : Bool) → nat_lt p at ≡ b → IsReachedFromSpecOrDefaults k policy e.name ⊎ IsPlaceOfSomeDefinition p ds
       by true below =
           let lower = ltb-true p at below in
           still p (before_same policy defs at less alike p lower e is) (λ same. omega (arith, same, lower)) (λ more. more)
@@ -183,14 +183,14 @@ module _ (policy : List Line) where
         stands : ListHasElement (definitions_from_place k n 0 defs) d
         stands = numbered_definition_is_among_placed k n 0 defs p e is p (omega arith)
 
-        by : (b : Bool) → is_unused policy d ≡ b → IsReachable k policy e.name ⊎ IsPlaceOfSomeDefinition p (reverse (filter (is_unused policy) (definitions_from_place k n 0 defs)))
+        by : (b : Bool) → is_unused policy d ≡ b → IsReachedFromSpecOrDefaults k policy e.name ⊎ IsPlaceOfSomeDefinition p (reverse (filter (is_unused policy) (definitions_from_place k n 0 defs)))
         by true unused =
             let all = filter (is_unused policy) (definitions_from_place k n 0 defs) in
             inr (place_of_definition_is_among_places (reverse all) d (element_of_list_is_in_reverse all d (passing_element_is_in_filtered (is_unused policy) (definitions_from_place k n 0 defs) d stands unused)))
         by false used = inl (law policy d (among d stands) used)
 
     -- Without unused definitions all are used.
-    pub all_used : length (filter (is_unused policy) (definitions_from_place k n 0 defs)) ≡ 0 → AllByRecursion (λ (e : Def). IsReachable k policy e.name) defs
+    pub all_used : length (filter (is_unused policy) (definitions_from_place k n 0 defs)) ≡ 0 → AllByRecursion (λ (e : Def). IsReachedFromSpecOrDefaults k policy e.name) defs
     all_used none = none_going k defs (subst (λ (ds : List PlacedDefinition). UsedOrGoing k defs (reverse ds)) (empty (filter (is_unused policy) (definitions_from_place k n 0 defs)) none) unused_going)
       where
         empty : (ds : List PlacedDefinition) → length ds ≡ 0 → ds ≡ []

@@ -8,17 +8,17 @@ use Rattle.sudoers_grammar.specs.Node.{Def, Member, Node}
 use Rattle.sudoers_grammar.specs.Node as node
 use Rattle.sudoers_tree.specs.Line.{Line}
 use Rattle.sudoers_tree.specs.Definition.{PlacedDefinition, is_equal_kind, is_definition_of_name, first_definition_of, definitions_of_lines, definitions_from_place, definitions_in_line, definitions_from_line_number}
-use Rattle.sudoers_check.specs.Chains.{IsReachable}
+use Rattle.sudoers_check.specs.Chains.{IsReachedFromSpecOrDefaults}
 use Rattle.sudoers_check.proofs.Named.{definition_of_name_has_kind_and_name}
-use Rattle.sudoers_match_list.specs.Alike.{IsPointwiseRelated, IsMemberRewritten, HaveSameAliasMembers, unchanged_atom}
-use Rattle.sudoers_match.specs.Beside.{node_unless_alias_line, nodes_without_alias_lines, KeepsReachableAliases}
+use Rattle.sudoers_match_list.specs.Alike.{IsPointwiseRelated, IsMemberWithAtomMapped, AreBothUndefinedOrHaveSameMembers, unchanged_atom}
+use Rattle.sudoers_match.specs.Beside.{node_unless_alias_line, nodes_without_alias_lines, HasSameLinesAndReachableAliases}
 use Rattle.laws_edit.specs.Pruned.{has_no_alias_definition}
 
 -- The definition has the kind, the name and the members of the other.
 pub record IsSameDefinition (d e : PlacedDefinition) : Type 0 where
   pub kind : e.kind ≡ d.kind
   pub called : e.def.name ≡ d.def.name
-  pub members : IsPointwiseRelated (IsMemberRewritten unchanged_atom) d.def.members e.def.members
+  pub members : IsPointwiseRelated (IsMemberWithAtomMapped unchanged_atom) d.def.members e.def.members
 
 -- The second are the first in their order, but for some whose aliases may be gone.
 abbrev pub AreLeftBesidesGone : (Kind → List ℕ → Type 0) → List PlacedDefinition → List PlacedDefinition → Type 0
@@ -29,11 +29,11 @@ AreLeftBesidesGone Gone (d ∷ ds) (e ∷ es) = (Gone d.kind d.def.name × AreLe
 
 -- ---- members
 
-members_are_rewritten_to_themselves : (ms : List Member) → IsPointwiseRelated (IsMemberRewritten unchanged_atom) ms ms
+members_are_rewritten_to_themselves : (ms : List Member) → IsPointwiseRelated (IsMemberWithAtomMapped unchanged_atom) ms ms
 members_are_rewritten_to_themselves [] = tt
 members_are_rewritten_to_themselves (m ∷ ms) = (record { negated = refl; digests = refl; atom = refl }, members_are_rewritten_to_themselves ms)
 
-unchanged_rewriting_is_transitive : (ms ns os : List Member) → IsPointwiseRelated (IsMemberRewritten unchanged_atom) ms ns → IsPointwiseRelated (IsMemberRewritten unchanged_atom) ns os → IsPointwiseRelated (IsMemberRewritten unchanged_atom) ms os
+unchanged_rewriting_is_transitive : (ms ns os : List Member) → IsPointwiseRelated (IsMemberWithAtomMapped unchanged_atom) ms ns → IsPointwiseRelated (IsMemberWithAtomMapped unchanged_atom) ns os → IsPointwiseRelated (IsMemberWithAtomMapped unchanged_atom) ms os
 unchanged_rewriting_is_transitive [] [] os a b = b
 unchanged_rewriting_is_transitive [] (n ∷ ns) os a b = absurd a
 unchanged_rewriting_is_transitive (m ∷ ms) [] os a b = absurd a
@@ -131,38 +131,38 @@ module _ (Gone : Kind → List ℕ → Type 0) where
 
   -- A definition that may be gone is of another name.
   past_gone : (k : Kind) (name : List ℕ) → (Gone k name → ⊥) → (d : PlacedDefinition) → Gone d.kind d.def.name → (ds : List PlacedDefinition) (o : Option (List Member))
-      → HaveSameAliasMembers (members_in (first_definition_of k name ds)) o → HaveSameAliasMembers (members_in (first_definition_of k name (d ∷ ds))) o
+      → AreBothUndefinedOrHaveSameMembers (members_in (first_definition_of k name ds)) o → AreBothUndefinedOrHaveSameMembers (members_in (first_definition_of k name (d ∷ ds))) o
   past_gone k name stays d gone ds o more = by (is_definition_of_name k name d) refl
     where
-      by : (b : Bool) → is_definition_of_name k name d ≡ b → HaveSameAliasMembers (members_in (if b then Some d else first_definition_of k name ds)) o
+      by : (b : Bool) → is_definition_of_name k name d ≡ b → AreBothUndefinedOrHaveSameMembers (members_in (if b then Some d else first_definition_of k name ds)) o
       by true is =
           let p = definition_of_name_has_kind_and_name k name d is in
           absurd (stays (subst (λ (j : Kind). Gone j name) p.0 (subst (λ (word : List ℕ). Gone d.kind word) p.1 gone)))
       by false is = more
 
   still_defined : (k : Kind) (name : List ℕ) → (Gone k name → ⊥) → (ds es : List PlacedDefinition) → AreLeftBesidesGone Gone ds es
-      → HaveSameAliasMembers (members_in (first_definition_of k name ds)) (members_in (first_definition_of k name es))
+      → AreBothUndefinedOrHaveSameMembers (members_in (first_definition_of k name ds)) (members_in (first_definition_of k name es))
   still_defined k name stays [] [] l = tt
   still_defined k name stays [] (e ∷ es) l = absurd l
   still_defined k name stays (d ∷ ds) [] l = past_gone k name stays d l.0 ds None (still_defined k name stays ds [] l.1)
   still_defined k name stays (d ∷ ds) (e ∷ es) (inl l) =
       past_gone k name stays d l.0 ds (members_in (first_definition_of k name (e ∷ es))) (still_defined k name stays ds (e ∷ es) l.1)
   still_defined k name stays (d ∷ ds) (e ∷ es) (inr l) =
-      subst (λ (b : Bool). HaveSameAliasMembers (members_in (if is_definition_of_name k name d then Some d else first_definition_of k name ds)) (members_in (if b then Some e else first_definition_of k name es)))
+      subst (λ (b : Bool). AreBothUndefinedOrHaveSameMembers (members_in (if is_definition_of_name k name d then Some d else first_definition_of k name ds)) (members_in (if b then Some e else first_definition_of k name es)))
       (sym (ap₂ (λ (j : Kind) (word : List ℕ). is_equal_kind k j && bytes_eq name word) l.0.kind l.0.called))
       (by (is_definition_of_name k name d) (still_defined k name stays ds es l.1))
     where
-      by : (b : Bool) → HaveSameAliasMembers (members_in (first_definition_of k name ds)) (members_in (first_definition_of k name es))
-          → HaveSameAliasMembers (members_in (if b then Some d else first_definition_of k name ds)) (members_in (if b then Some e else first_definition_of k name es))
+      by : (b : Bool) → AreBothUndefinedOrHaveSameMembers (members_in (first_definition_of k name ds)) (members_in (first_definition_of k name es))
+          → AreBothUndefinedOrHaveSameMembers (members_in (if b then Some d else first_definition_of k name ds)) (members_in (if b then Some e else first_definition_of k name es))
       by true more = l.0.members
       by false more = more
 
 -- No chain of mentions leads to the alias of this name and kind from a user specification or a Defaults line.
 abbrev pub IsUnreachableAlias : List Line → Kind → List ℕ → Type 0
-IsUnreachableAlias lines k name = IsReachable k lines name → ⊥
+IsUnreachableAlias lines k name = IsReachedFromSpecOrDefaults k lines name → ⊥
 
 -- What is left keeps the aliases to which chains of mentions lead.
-pub definitions_left_keep_reachable_aliases : (lines others : List Line) → AreLeft (IsUnreachableAlias lines) lines others → KeepsReachableAliases lines others
+pub definitions_left_keep_reachable_aliases : (lines others : List Line) → AreLeft (IsUnreachableAlias lines) lines others → HasSameLinesAndReachableAliases lines others
 definitions_left_keep_reachable_aliases lines others left = record {
   beside = left.beside;
   members = λ k name reached. still_defined (IsUnreachableAlias lines) k name (λ idle. idle reached) (definitions_of_lines lines) (definitions_of_lines others) (left.part 0 0);

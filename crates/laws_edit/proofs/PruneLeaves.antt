@@ -13,7 +13,7 @@ use Rattle.sudoers_tree.specs.Fault.{is_some}
 use Rattle.sudoers_tree.specs.Line.{Line}
 use Rattle.sudoers_tree.specs.Definition.{PlacedDefinition, definitions_of_lines, definitions_from_place, definitions_in_line, definitions_from_line_number}
 use Rattle.sudoers_check.specs.Chain.{ListHasElement}
-use Rattle.sudoers_check.specs.Chains.{IsReachable}
+use Rattle.sudoers_check.specs.Chains.{IsReachedFromSpecOrDefaults}
 use Rattle.sudoers_check.specs.Led.{is_unused}
 use Rattle.sudoers_check.proofs.Named.{filtered_element_is_in_list_and_passes}
 use Rattle.sudoers_match.specs.Beside.{node_unless_alias_line, nodes_without_alias_lines}
@@ -29,7 +29,7 @@ use Rattle.sudoers_edit.proofs.Whole.{item_behind_front_is_at_front_length}
 
 -- what the law of unused definitions says
 abbrev pub UnusedDefinitionsAreUnreachable : Type 0
-UnusedDefinitionsAreUnreachable = (lines : List Line) (d : PlacedDefinition) → ListHasElement (definitions_of_lines lines) d → is_unused lines d ≡ true → IsReachable d.kind lines d.def.name → ⊥
+UnusedDefinitionsAreUnreachable = (lines : List Line) (d : PlacedDefinition) → ListHasElement (definitions_of_lines lines) d → is_unused lines d ≡ true → IsReachedFromSpecOrDefaults d.kind lines d.def.name → ⊥
 
 -- No chain of mentions leads to the alias that is defined at this place among these.
 abbrev pub IsUnreachableAtPlace : List Line → Kind → List Def → ℕ → Type 0

@@ -12,14 +12,14 @@ use Rattle.sudoers_tree.specs.Fault.{is_some}
 use Rattle.sudoers_tree.specs.Line.{Line}
 use Rattle.sudoers_tree.specs.Definition.{PlacedDefinition, definitions_of_lines, definitions_from_place, definitions_in_line, definitions_from_line_number}
 use Rattle.sudoers_check.specs.Chain.{ListHasElement}
-use Rattle.sudoers_check.specs.Chains.{IsReachable}
+use Rattle.sudoers_check.specs.Chains.{IsReachedFromSpecOrDefaults}
 use Rattle.sudoers_check.specs.Led.{is_unused}
 use Rattle.sudoers_check.proofs.Named.{element_of_front_is_in_appended, element_of_back_is_in_appended}
 use Rattle.sudoers_match.specs.Beside.{node_unless_alias_line, nodes_without_alias_lines}
 use Rattle.sudoers_match_list.proofs.Defined.{list_element_has_property_of_all}
 use Rattle.sudoers_line_rows.specs.Alike.{are_lists_alike, is_same_def, is_same_member}
 use Rattle.sudoers_edit.specs.SpliceEdits.{definitions_of_alias_line}
-use Rattle.sudoers_edit.specs.Pruned.{ArePrunedLines, IsPrunedLine, gone, kept, less, used_definitions_of_line}
+use Rattle.sudoers_edit.specs.Pruned.{ArePrunedLines, AreLinesLeftOfPrunedLine, gone, kept, less, used_definitions_of_line}
 use Rattle.laws_edit.specs.Pruned.{KeepsReachableAliasesOnly, has_no_alias_definition}
 use Rattle.laws_edit.proofs.KeptDefinitions.{AreUsed, IsUsed, UsedDefinitionsAreReachable, used_alias, used_other}
 use Rattle.laws_edit.proofs.LeftDefinitions.{AreLeft, IsUnreachableAlias, AreLeftBesidesGone, leaves_append, leaves_skip, left_itself, definitions_left_keep_reachable_aliases, left_then, left_with, since_itself}
@@ -62,7 +62,7 @@ module _ (policy : List Line) (law : UnusedDefinitionsAreUnreachable) (uses : Us
   -- and they are used
   used_left : (k : Kind) (n m : ℕ) (defs left : List Def) → ((d : PlacedDefinition) → ListHasElement (definitions_from_place k n m defs) d → ListHasElement (definitions_of_lines policy) d)
       → are_lists_alike is_same_def (map (λ (d : PlacedDefinition). d.def) (filter (λ d. not (is_unused policy d)) (definitions_from_place k n m defs))) left ≡ true
-      → AllByRecursion (λ (e : Def). IsReachable k policy e.name) left
+      → AllByRecursion (λ (e : Def). IsReachedFromSpecOrDefaults k policy e.name) left
   used_left k n m [] [] among alike = tt
   used_left k n m [] (e ∷ left) among alike = absurd (cc)
   used_left k n m (d ∷ defs) left among alike =
@@ -72,31 +72,31 @@ module _ (policy : List Line) (law : UnusedDefinitionsAreUnreachable) (uses : Us
       rest = map (λ (e : PlacedDefinition). e.def) (filter (λ e. not (is_unused policy e)) (definitions_from_place k n (m + 1) defs))
 
       by : (b : Bool) → is_unused policy (at k n m d) ≡ b
-          → ((es : List Def) → are_lists_alike is_same_def rest es ≡ true → AllByRecursion (λ (e : Def). IsReachable k policy e.name) es)
+          → ((es : List Def) → are_lists_alike is_same_def rest es ≡ true → AllByRecursion (λ (e : Def). IsReachedFromSpecOrDefaults k policy e.name) es)
           → are_lists_alike is_same_def (map (λ (e : PlacedDefinition). e.def) (if not b then at k n m d ∷ filter (λ e. not (is_unused policy e)) (definitions_from_place k n (m + 1) defs)
           else filter (λ e. not (is_unused policy e)) (definitions_from_place k n (m + 1) defs))) left ≡ true
-          → AllByRecursion (λ (e : Def). IsReachable k policy e.name) left
+          → AllByRecursion (λ (e : Def). IsReachedFromSpecOrDefaults k policy e.name) left
       by true is later h = later left h
       by false is later h = by_left left h
         where
-          by_left : (es : List Def) → are_lists_alike is_same_def (d ∷ rest) es ≡ true → AllByRecursion (λ (e : Def). IsReachable k policy e.name) es
+          by_left : (es : List Def) → are_lists_alike is_same_def (d ∷ rest) es ≡ true → AllByRecursion (λ (e : Def). IsReachedFromSpecOrDefaults k policy e.name) es
           by_left [] e = absurd (cc)
           by_left (x ∷ es) e =
               let parts = and_parts (is_same_def d x) (are_lists_alike is_same_def rest es) e in
               let name = (bytes_eq-Decides d.name x.name).0 (and_parts (bytes_eq d.name x.name) (are_lists_alike is_same_member d.members x.members) parts.0).0 in
-              (subst (IsReachable k policy) name (uses policy (at k n m d) (among (at k n m d) (inl refl)) is), later es parts.1)
+              (subst (IsReachedFromSpecOrDefaults k policy) name (uses policy (at k n m d) (among (at k n m d) (inl refl)) is), later es parts.1)
 
   -- a line none of whose definitions is unused
   all_used : (k : Kind) (n m : ℕ) (defs : List Def) → ((d : PlacedDefinition) → ListHasElement (definitions_from_place k n m defs) d → ListHasElement (definitions_of_lines policy) d)
-      → filter (is_unused policy) (definitions_from_place k n m defs) ≡ [] → AllByRecursion (λ (e : Def). IsReachable k policy e.name) defs
+      → filter (is_unused policy) (definitions_from_place k n m defs) ≡ [] → AllByRecursion (λ (e : Def). IsReachedFromSpecOrDefaults k policy e.name) defs
   all_used k n m [] among none = tt
   all_used k n m (d ∷ defs) among none =
       by (is_unused policy (at k n m d)) refl (λ h. all_used k n (m + 1) defs (λ e has. among e (inr has)) h) none
     where
       by : (b : Bool) → is_unused policy (at k n m d) ≡ b
-          → (filter (is_unused policy) (definitions_from_place k n (m + 1) defs) ≡ [] → AllByRecursion (λ (e : Def). IsReachable k policy e.name) defs)
+          → (filter (is_unused policy) (definitions_from_place k n (m + 1) defs) ≡ [] → AllByRecursion (λ (e : Def). IsReachedFromSpecOrDefaults k policy e.name) defs)
           → (if b then at k n m d ∷ filter (is_unused policy) (definitions_from_place k n (m + 1) defs) else filter (is_unused policy) (definitions_from_place k n (m + 1) defs)) ≡ []
-          → AllByRecursion (λ (e : Def). IsReachable k policy e.name) (d ∷ defs)
+          → AllByRecursion (λ (e : Def). IsReachedFromSpecOrDefaults k policy e.name) (d ∷ defs)
       by true is later h = absurd (cc)
       by false is later h = (uses policy (at k n m d) (among (at k n m d) (inl refl)) is, later h)
 
@@ -127,7 +127,7 @@ module _ (policy : List Line) (law : UnusedDefinitionsAreUnreachable) (uses : Us
   }
 
   one_left : (n : ℕ) (line : Line) (rest others piece : List Line) → ((d : PlacedDefinition) → ListHasElement (definitions_in_line n line.node) d → ListHasElement (definitions_of_lines policy) d)
-      → IsPrunedLine policy n line piece → IsLeft rest others → IsLeft (line ∷ rest) (piece ++ others)
+      → AreLinesLeftOfPrunedLine policy n line piece → IsLeft rest others → IsLeft (line ∷ rest) (piece ++ others)
   one_left n line rest others _ among (kept none) behind =
       by_node line.node refl
     where

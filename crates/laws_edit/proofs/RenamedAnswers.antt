@@ -17,7 +17,7 @@ use Rattle.sudoers_tree.specs.Fault.{is_some}
 use Rattle.sudoers_tree.specs.Mention.{mentions_in_lines}
 use Rattle.sudoers_tree.specs.Policy.{AreValidWalkLines}
 use Rattle.sudoers_edit.specs.Renaming.{is_alias_name_in_use}
-use Rattle.sudoers_match_list.specs.Alike.{IsPointwiseRelated, IsMemberCounterpart, AreBothDefinedAlike, unchanged_atom}
+use Rattle.sudoers_match_list.specs.Alike.{IsPointwiseRelated, IsMemberCounterpart, AreBothUndefinedOrCounterparts, unchanged_atom}
 use Rattle.sudoers_match_list.proofs.Alike.{KeepsAliasCounterparts}
 use Rattle.sudoers_match_list.specs.Flat.{alias_members_of_atom as members_named}
 use Rattle.sudoers_edit.specs.Renamed.{lines_after_rename}
@@ -44,19 +44,19 @@ module _ (k : Kind) (name fresh : List ℕ) where
   -- a name with its new name has the members that it had
   defined_stands : (j : Kind) (word : List ℕ) → (is_equal_kind k j && bytes_eq fresh word) ≡ false → (ds es : List PlacedDefinition)
       → IsPointwiseRelated (IsRenamedDefinition k name fresh) ds es
-      → AreBothDefinedAlike (Stands j) (optional_members_of_definition (first_definition_of j word ds)) (optional_members_of_definition (first_definition_of j (name_after_rename k name fresh j word) es))
+      → AreBothUndefinedOrCounterparts (Stands j) (optional_members_of_definition (first_definition_of j word ds)) (optional_members_of_definition (first_definition_of j (name_after_rename k name fresh j word) es))
   defined_stands j word free [] [] all = tt
   defined_stands j word free [] (e ∷ es) all = absurd all
   defined_stands j word free (d ∷ ds) [] all = absurd all
   defined_stands j word free (d ∷ ds) (e ∷ es) all =
-      subst (λ (b : Bool). AreBothDefinedAlike (Stands j) (optional_members_of_definition (first_definition_of j word (d ∷ ds)))
+      subst (λ (b : Bool). AreBothUndefinedOrCounterparts (Stands j) (optional_members_of_definition (first_definition_of j word (d ∷ ds)))
       (optional_members_of_definition (if b then Some e else first_definition_of j (name_after_rename k name fresh j word) es)))
       (sym (renamed_definition_defines_renamed_name k name fresh j word d e all.0.kind all.0.called free all.0.lacks))
       (by (is_definition_of_name j word d) refl (defined_stands j word free ds es all.1))
     where
       by : (b : Bool) → is_definition_of_name j word d ≡ b
-          → AreBothDefinedAlike (IsAtomAfterRename k name fresh j) (optional_members_of_definition (first_definition_of j word ds)) (optional_members_of_definition (first_definition_of j (name_after_rename k name fresh j word) es))
-          → AreBothDefinedAlike (IsAtomAfterRename k name fresh j) (optional_members_of_definition (if b then Some d else first_definition_of j word ds))
+          → AreBothUndefinedOrCounterparts (IsAtomAfterRename k name fresh j) (optional_members_of_definition (first_definition_of j word ds)) (optional_members_of_definition (first_definition_of j (name_after_rename k name fresh j word) es))
+          → AreBothUndefinedOrCounterparts (IsAtomAfterRename k name fresh j) (optional_members_of_definition (if b then Some d else first_definition_of j word ds))
           (optional_members_of_definition (if b then Some e else first_definition_of j (name_after_rename k name fresh j word) es))
       by true is more =
           subst (λ (i : Kind). IsPointwiseRelated (IsMemberCounterpart (IsAtomAfterRename k name fresh i)) d.def.members e.def.members)
@@ -67,11 +67,11 @@ module _ (k : Kind) (name fresh : List ℕ) where
     abbrev others : List Line
     others = lines_after_rename k name fresh lines
 
-    alias_stands : (j : Kind) (a b : Atom) → Stands j a b → AreBothDefinedAlike (Stands j) (members_named j lines a) (members_named j others b)
+    alias_stands : (j : Kind) (a b : Atom) → Stands j a b → AreBothUndefinedOrCounterparts (Stands j) (members_named j lines a) (members_named j others b)
     alias_stands j (atom.Alias word) b is =
-        subst (λ (c : Atom). AreBothDefinedAlike (Stands j) (members_named j lines (atom.Alias word)) (members_named j others c)) (sym is.0)
+        subst (λ (c : Atom). AreBothUndefinedOrCounterparts (Stands j) (members_named j lines (atom.Alias word)) (members_named j others c)) (sym is.0)
         (defined_stands j word is.1 (definitions_of_lines lines) (definitions_of_lines others) (all_renamed k name fresh lines without))
-    alias_stands j a b is = subst (λ (c : Atom). AreBothDefinedAlike (Stands j) (members_named j lines a) (members_named j others c)) (sym is) tt
+    alias_stands j a b is = subst (λ (c : Atom). AreBothUndefinedOrCounterparts (Stands j) (members_named j lines a) (members_named j others c)) (sym is) tt
 
     -- the name that gets another is defined
     undefined_stays : (j : Kind) (word : List ℕ) → members_named j lines (atom.Alias word) ≡ None → name_after_rename k name fresh j word ≡ word

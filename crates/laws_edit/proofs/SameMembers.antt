@@ -13,7 +13,7 @@ use Rattle.sudoers_grammar.specs.declared.node.DigestKind.TheVariants as digest
 use Rattle.sudoers_grammar.specs.declared.node.Mask.{Mask}
 use Rattle.sudoers_grammar.specs.declared.node.Mask.TheVariants as mask
 use Rattle.sudoers_grammar.specs.Node.{Digest, Member}
-use Rattle.sudoers_match_list.specs.Alike.{IsPointwiseRelated, IsMemberRewritten, unchanged_atom}
+use Rattle.sudoers_match_list.specs.Alike.{IsPointwiseRelated, IsMemberWithAtomMapped, unchanged_atom}
 use Rattle.sudoers_line_rows.specs.Alike.{are_lists_alike, is_same_bool, is_same_digest_kind, is_same_digest, is_same_mask, is_same_args, is_same_atom, is_same_member}
 
 alike_bytes_are_same : (a b : List ℕ) → bytes_eq a b ≡ true → a ≡ b
@@ -86,7 +86,7 @@ alike_atoms_are_same (atom.Path a m) (atom.Path b n) h =
 alike_atoms_are_same (atom.Sudoedit m) (atom.Sudoedit n) h = ap atom.Sudoedit (alike_arguments_are_same m n h)
 alike_atoms_are_same a b h = absurd cc
 
-alike_member_is_rewritten_unchanged : (m n : Member) → is_same_member m n ≡ true → IsMemberRewritten unchanged_atom m n
+alike_member_is_rewritten_unchanged : (m n : Member) → is_same_member m n ≡ true → IsMemberWithAtomMapped unchanged_atom m n
 alike_member_is_rewritten_unchanged m n h =
     let p = and_parts (is_same_bool m.negated n.negated && are_lists_alike is_same_digest m.digests n.digests) (is_same_atom m.atom n.atom) h in
     let q = and_parts (is_same_bool m.negated n.negated) (are_lists_alike is_same_digest m.digests n.digests) p.0 in
@@ -97,7 +97,7 @@ alike_member_is_rewritten_unchanged m n h =
     }
 
 -- Lists of members that are alike are the same, places aside.
-pub alike_members_are_rewritten_unchanged : (ms ns : List Member) → are_lists_alike is_same_member ms ns ≡ true → IsPointwiseRelated (IsMemberRewritten unchanged_atom) ms ns
+pub alike_members_are_rewritten_unchanged : (ms ns : List Member) → are_lists_alike is_same_member ms ns ≡ true → IsPointwiseRelated (IsMemberWithAtomMapped unchanged_atom) ms ns
 alike_members_are_rewritten_unchanged [] [] h = tt
 alike_members_are_rewritten_unchanged [] (n ∷ ns) h = absurd cc
 alike_members_are_rewritten_unchanged (m ∷ ms) [] h = absurd cc

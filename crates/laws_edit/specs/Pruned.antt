@@ -6,8 +6,8 @@ use Rattle.sudoers_tree.specs.Definition.{PlacedDefinition, definitions_of_lines
 use Rattle.sudoers_tree.specs.Fault.{is_some}
 use Rattle.sudoers_tree.specs.Line.{Line}
 use Rattle.sudoers_check.specs.Chain.{ListHasElement}
-use Rattle.sudoers_check.specs.Chains.{IsReachable}
-use Rattle.sudoers_match_list.specs.Alike.{HaveSameAliasMembers}
+use Rattle.sudoers_check.specs.Chains.{IsReachedFromSpecOrDefaults}
+use Rattle.sudoers_match_list.specs.Alike.{AreBothUndefinedOrHaveSameMembers}
 use Rattle.sudoers_edit.specs.SpliceEdits.{definitions_of_alias_line}
 
 abbrev pub has_no_alias_definition : Line → Bool
@@ -17,5 +17,5 @@ has_no_alias_definition line = not (is_some (definitions_of_alias_line line.node
 -- of mentions leads, with its members, and defines no other.
 pub record KeepsReachableAliasesOnly (policy next : List Line) : Type 0 where
   pub others : filter has_no_alias_definition next ≡ filter has_no_alias_definition policy
-  pub kept : (k : Kind) (name : List ℕ) → IsReachable k policy name → HaveSameAliasMembers (members_of_alias_definition k name policy) (members_of_alias_definition k name next)
-  pub reachable : (d : PlacedDefinition) → ListHasElement (definitions_of_lines next) d → IsReachable d.kind policy d.def.name
+  pub kept : (k : Kind) (name : List ℕ) → IsReachedFromSpecOrDefaults k policy name → AreBothUndefinedOrHaveSameMembers (members_of_alias_definition k name policy) (members_of_alias_definition k name next)
+  pub reachable : (d : PlacedDefinition) → ListHasElement (definitions_of_lines next) d → IsReachedFromSpecOrDefaults d.kind policy d.def.name

@@ -2,7 +2,7 @@
 
 ghost use Rattle.std.specs.Prelude.{◌≡◌, ◌⊎◌, ◌<◌, ◌≤◌, length, Some, IfOk, IfErr};
 ghost use Rattle.std.specs.Option.{option_map};
-ghost use Rattle.sudoers_check.specs.Chains.{HasReachableCycle};
+ghost use Rattle.sudoers_check.specs.Chains.{HasCyclicAliasReachedFromSpecOrDefaults};
 ghost use Rattle.sudoers_match_list.specs.declared.verdict.AskFault.TheVariants.{Cycle, TooLong, NoMemory};
 ghost use Rattle.sudoers_edit.specs.Editing.{edits_of_entries, initial_policy_of_editor, run};
 ghost use Rattle.sudoers_match.specs.Answer.{IsAnswerToRequest, answer_of_view, joined_arguments_limit, words_joined_with_spaces};
@@ -28,10 +28,10 @@ pub fn answer_of_editor_policy<'a>(
 ) -> Result<Option<Answer<'a>>, AskFault>
     ensures forth { run (edits_of_entries editor.now.journal) (initial_policy_of_editor editor.now) ≡ Some editor.now.policy }
     ensures answer { IfOk result (λ answer. IsAnswerToRequest editor.now.policy.walk.lines request.now (option_map answer_of_view answer)) }
-    ensures straight { IfOk result (λ _. HasReachableCycle editor.now.policy.walk.lines → ⊥) }
+    ensures straight { IfOk result (λ _. HasCyclicAliasReachedFromSpecOrDefaults editor.now.policy.walk.lines → ⊥) }
     ensures short { IfOk result (λ _. length (words_joined_with_spaces request.now.args) ≤ joined_arguments_limit) }
-    ensures fault { IfErr result (λ fault. (fault ≡ NoMemory) ⊎ (((fault ≡ Cycle) × HasReachableCycle editor.now.policy.walk.lines)
-        ⊎ ((fault ≡ TooLong) × (HasReachableCycle editor.now.policy.walk.lines → ⊥) × (joined_arguments_limit < length (words_joined_with_spaces request.now.args))))) }
+    ensures fault { IfErr result (λ fault. (fault ≡ NoMemory) ⊎ (((fault ≡ Cycle) × HasCyclicAliasReachedFromSpecOrDefaults editor.now.policy.walk.lines)
+        ⊎ ((fault ≡ TooLong) × (HasCyclicAliasReachedFromSpecOrDefaults editor.now.policy.walk.lines → ⊥) × (joined_arguments_limit < length (words_joined_with_spaces request.now.args))))) }
 {
     let policy = editor.policy();
     policy.is_loaded();

@@ -8,12 +8,12 @@ ghost use Rattle.sudoers_tree.specs.Fault.{is_some};
 ghost use Rattle.sudoers_tree.specs.Line.{Line as LineOf};
 ghost use Rattle.sudoers_tree.specs.Load.{LoadedPolicy, named_files_of_policy, policy_or_load_fault};
 ghost use Rattle.sudoers_tree.specs.Policy.{AreValidWalkLines};
-ghost use Rattle.sudoers_check.specs.Chains.{HasReachableCycle};
+ghost use Rattle.sudoers_check.specs.Chains.{HasCyclicAliasReachedFromSpecOrDefaults};
 ghost use Rattle.sudoers_match_member.specs.declared.people_and_commands.Who.{Who as WhoOf};
 ghost use Rattle.sudoers_match_member.specs.declared.request.Request.{Request as RequestOf};
 ghost use Rattle.sudoers_match.specs.Answer.{Answer as AnswerOf, IsAnswerToRequest};
 ghost use Rattle.sudoers_match.specs.Default.{IsRunasDefault};
-ghost use Rattle.sudoers_match.specs.Groups.{AreMatchingHostGroups};
+ghost use Rattle.sudoers_match.specs.Groups.{ArePlacesOfMatchingHostGroups};
 ghost use Rattle.sudoers_match.specs.declared.matching_host_groups.HostGroupPlace.{HostGroupPlace as GroupPlaceOf};
 ghost use Rattle.sudoers_edit_script.specs.declared.edit.Edit.TheVariants.{Rename};
 ghost use Rattle.sudoers_edit.specs.Editing.{step as step_of};
@@ -52,10 +52,10 @@ pub fn rename_changes_no_answer()
     ensures groups { (kind : KindOf) (name fresh : List ℕ) (lines : List LineOf) → is_some (definition_place_of_name kind name lines) ≡ true
         → is_alias_name_in_use kind fresh lines ≡ false
         → (who : WhoOf) (places : List GroupPlaceOf)
-        → AreMatchingHostGroups lines who places ↔ AreMatchingHostGroups (lines_after_rename kind name fresh lines) who places }
+        → ArePlacesOfMatchingHostGroups lines who places ↔ ArePlacesOfMatchingHostGroups (lines_after_rename kind name fresh lines) who places }
     ensures cycle { (kind : KindOf) (name fresh : List ℕ) (lines : List LineOf) → is_some (definition_place_of_name kind name lines) ≡ true
         → is_alias_name_in_use kind fresh lines ≡ false → AreValidWalkLines lines → IsDefinableName fresh
-        → HasReachableCycle lines ↔ HasReachableCycle (lines_after_rename kind name fresh lines) }
+        → HasCyclicAliasReachedFromSpecOrDefaults lines ↔ HasCyclicAliasReachedFromSpecOrDefaults (lines_after_rename kind name fresh lines) }
 {
     renamed_line();
     alike_lists_say_same();
@@ -73,9 +73,9 @@ pub fn accepted_rename_changes_no_answer()
         → (who : WhoOf) (user : List ℕ) → IsRunasDefault policy.walk.lines who user ↔ IsRunasDefault new.walk.lines who user }
     ensures groups { (kind : KindOf) (name fresh : List ℕ) (policy new : LoadedPolicy) → policy_or_load_fault (named_files_of_policy policy) ≡ Ok policy
         → step_of (Rename kind name fresh) policy ≡ Ok new
-        → (who : WhoOf) (places : List GroupPlaceOf) → AreMatchingHostGroups policy.walk.lines who places ↔ AreMatchingHostGroups new.walk.lines who places }
+        → (who : WhoOf) (places : List GroupPlaceOf) → ArePlacesOfMatchingHostGroups policy.walk.lines who places ↔ ArePlacesOfMatchingHostGroups new.walk.lines who places }
     ensures cycle { (kind : KindOf) (name fresh : List ℕ) (policy new : LoadedPolicy) → policy_or_load_fault (named_files_of_policy policy) ≡ Ok policy
-        → step_of (Rename kind name fresh) policy ≡ Ok new → HasReachableCycle policy.walk.lines ↔ HasReachableCycle new.walk.lines }
+        → step_of (Rename kind name fresh) policy ≡ Ok new → HasCyclicAliasReachedFromSpecOrDefaults policy.walk.lines ↔ HasCyclicAliasReachedFromSpecOrDefaults new.walk.lines }
 {
     rename_is_taken_back();
     loaded_is_walk();
@@ -90,9 +90,9 @@ pub fn prune_changes_no_answer()
     ensures default { (policy new : LoadedPolicy) → policy_or_load_fault (named_files_of_policy policy) ≡ Ok policy → step_of Edit.Prune policy ≡ Ok new
         → (who : WhoOf) (user : List ℕ) → IsRunasDefault policy.walk.lines who user ↔ IsRunasDefault new.walk.lines who user }
     ensures groups { (policy new : LoadedPolicy) → policy_or_load_fault (named_files_of_policy policy) ≡ Ok policy → step_of Edit.Prune policy ≡ Ok new
-        → (who : WhoOf) (places : List GroupPlaceOf) → AreMatchingHostGroups policy.walk.lines who places ↔ AreMatchingHostGroups new.walk.lines who places }
+        → (who : WhoOf) (places : List GroupPlaceOf) → ArePlacesOfMatchingHostGroups policy.walk.lines who places ↔ ArePlacesOfMatchingHostGroups new.walk.lines who places }
     ensures cycle { (policy new : LoadedPolicy) → policy_or_load_fault (named_files_of_policy policy) ≡ Ok policy → step_of Edit.Prune policy ≡ Ok new
-        → HasReachableCycle policy.walk.lines ↔ HasReachableCycle new.walk.lines }
+        → HasCyclicAliasReachedFromSpecOrDefaults policy.walk.lines ↔ HasCyclicAliasReachedFromSpecOrDefaults new.walk.lines }
 {
     prune_leaves_the_used();
     inverse_leads_back();

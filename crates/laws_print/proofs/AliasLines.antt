@@ -1,8 +1,8 @@
 -- A line of one definition of an alias, as it is written, is cut into its tokens.
 use Rattle.laws_print.proofs.Common.{◌≡◌, ℕ, Bool, true, false, List, [], ◌∷◌, ◌++◌, Some, refl, sym, ap, subst, ◌∙◌, append-nil, codes, append_assoc}
 use Rattle.laws_print.proofs.Common.{Mode, TokenContext, leading_run_size, is_word_byte, Byte, context_after_token, token_forms_in_context, token_forms_in_word_lists, line_mode, HasTokens, is_name, Kind, User}
-use Rattle.laws_print.proofs.Common.{Runas, Cmnd, Def, Member, TokenWithBytes, tokens_with_bytes, alias_kind_of_token, is_alias_name, IsList, Reads, printed_member_list, printed_line}
-use Rattle.laws_print.proofs.Common.{IsMemberSameButPlace, AreItemsPairwiseRelated, LineReadsBackAs, WrittenToken, text_of_units, line_of_written_tokens, tokens_placed_from_offset, IsTokenCut, AreTokensCut, AreTokensShownBy}
+use Rattle.laws_print.proofs.Common.{Runas, Cmnd, Def, Member, TokenWithBytes, tokens_with_bytes, alias_kind_of_token, is_alias_name, IsAliasMemberList, Reads, printed_member_list, printed_line}
+use Rattle.laws_print.proofs.Common.{MemberIsReadBackAs, AreItemsPairwiseRelated, LineReadsBackAs, WrittenToken, text_of_units, line_of_written_tokens, tokens_placed_from_offset, IsTokenCut, AreTokensCut, AreTokensShownBy}
 use Rattle.sudoers_text.specs.declared.token.TokenKind.TheVariants as kind
 use Rattle.sudoers_text.specs.declared.token.Mode.TheVariants as mode
 use Rattle.sudoers_text.specs.declared.context.TokenContext.TheVariants as context
@@ -10,7 +10,7 @@ use Rattle.sudoers_grammar.specs.declared.node.Kind.TheVariants.{Host}
 use Rattle.sudoers_grammar.specs.Node as node
 use Rattle.sudoers_grammar.specs.Grammar.{IsEnd, stop_of_last_member}
 use Rattle.sudoers_grammar.specs.Kind.{alias_line_keyword}
-use Rattle.laws_print.specs.Same.{IsDefinitionSameButPlace}
+use Rattle.laws_print.specs.Same.{DefinitionIsReadBackAs}
 use Rattle.laws_print.proofs.Units.{units_of_plain_bytes}
 use Rattle.laws_print.proofs.ListTokens.{token_of_mark, token_of_plain_word}
 use Rattle.laws_print.proofs.Cuts.{EndsWord, word_units_are_cut_as_word, first_word_context_takes_words, first_command_context_takes_words}
@@ -65,7 +65,7 @@ list_context_follows_equals_sign k rest = refl
 -- The tokens of a list, and all that is known of them.
 pub record AreTokensOfAliasList (k : Kind) (ms : List Member) (list : List WrittenToken) : Type 0 where
   pub cut : AreTokensCut (context_of_alias_list k) true list
-  pub read : (ts : List TokenWithBytes) → AreTokensShownBy list ts → ReadsAsSameThing (IsList k) (AreItemsPairwiseRelated IsMemberSameButPlace) ts ms []
+  pub read : (ts : List TokenWithBytes) → AreTokensShownBy list ts → ReadsAsSameThing (IsAliasMemberList k) (AreItemsPairwiseRelated MemberIsReadBackAs) ts ms []
   pub text : line_of_written_tokens list ≡ 32 ∷ (printed_member_list false k ms ++ 10 ∷ [])
 
 abbrev pub tokens_of_alias_line : Kind → List ℕ → List WrittenToken → List WrittenToken
@@ -107,9 +107,9 @@ no_written_token_shows_line_end (t ∷ ts) shown = absurd shown
 pub record ReadsAsAliasDefinition (k : Kind) (ts : List TokenWithBytes) (d : Def) : Type 0 where
   pub read : Def
   pub reads : Reads ts (node.Alias k (read ∷ []))
-  pub same : IsDefinitionSameButPlace d read
+  pub same : DefinitionIsReadBackAs d read
 
-alias_tokens_read_as_definition : (k : Kind) (d : Def) (list : List WrittenToken) → is_name d.name ≡ true → ((ts : List TokenWithBytes) → AreTokensShownBy list ts → ReadsAsSameThing (IsList k) (AreItemsPairwiseRelated IsMemberSameButPlace) ts d.members []) → (ts : List TokenWithBytes) → AreTokensShownBy (tokens_of_alias_line k d.name list) ts → ReadsAsAliasDefinition k ts d
+alias_tokens_read_as_definition : (k : Kind) (d : Def) (list : List WrittenToken) → is_name d.name ≡ true → ((ts : List TokenWithBytes) → AreTokensShownBy list ts → ReadsAsSameThing (IsAliasMemberList k) (AreItemsPairwiseRelated MemberIsReadBackAs) ts d.members []) → (ts : List TokenWithBytes) → AreTokensShownBy (tokens_of_alias_line k d.name list) ts → ReadsAsAliasDefinition k ts d
 alias_tokens_read_as_definition k d list is reads [] shown = absurd shown
 alias_tokens_read_as_definition k d list is reads (w ∷ []) shown = absurd shown.2
 alias_tokens_read_as_definition k d list is reads (w ∷ n ∷ []) shown = absurd shown.2.2

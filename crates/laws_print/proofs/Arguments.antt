@@ -2,13 +2,13 @@
 use Rattle.laws_print.proofs.Common.{◌≡◌, ℕ, ◌+◌, ◌<◌, Bool, true, false, ◌&&◌, not, List, [], ◌∷◌, ◌++◌, length, drop, refl, sym, ap, subst, ◌∙◌}
 use Rattle.laws_print.proofs.Common.{arith, append-nil, ◌==◌, if◌then◌else◌, nat_lt, AllByRecursion, append_assoc, length-append, drop_at, not-true}
 use Rattle.laws_print.proofs.Common.{and_parts, eqb-true, nat_tests, LineUnit, Pair, Byte, bytes_of_unit, size_of_one_matching_byte, first_nonzero_number, reach_of_units, leading_run_size, argument_unit_size}
-use Rattle.laws_print.proofs.Common.{argument_units_size, quote_before_separator_size, quoted_run_size, closed_quote_size, is_path_byte, is_byte_of_include_path, is_line_end_or_empty, token_forms_in_context, context_after_token, kind_and_size_of_token}
+use Rattle.laws_print.proofs.Common.{argument_units_size, quoted_front_to_inner_separator_size, quotes_and_run_between_size, closed_quote_size, is_path_byte, is_byte_of_include_path, is_line_end_or_empty, token_forms_in_context, context_after_token, kind_and_size_of_token}
 use Rattle.laws_print.proofs.Common.{text_of_units, IsTokenCut, is_written_unit, AreWrittenUnitsOf, Command, is_pattern_unit, ArePatternUnits, is_space_unit, begins_with_other_than_space, words_with_unit_in_first}
 use Rattle.laws_print.proofs.Common.{argument_words_of_units, text_of_words_joined_by_spaces}
 use Rattle.sudoers_text.specs.declared.part.ByteRunKind.TheVariants as rule
 use Rattle.sudoers_text.specs.declared.token.TokenKind.TheVariants as kind
 use Rattle.sudoers_text.specs.declared.context.TokenContext.TheVariants as context
-use Rattle.sudoers_text.specs.Unit.{is_separator}
+use Rattle.sudoers_text.specs.Unit.{is_comma_colon_or_equals}
 use Rattle.sudoers_text.specs.Part.{has_given_first_byte}
 use Rattle.sudoers_text.specs.Found.{argument_size}
 use Rattle.laws_print.proofs.Words.{unit_after_backslash_is_pair, size_of_matching_byte_or_pair, text_of_units_is_closed, units_stand_in_text, BeginsTokenWithoutGap, plain_byte_begins_token, pair_begins_token, plain_test_byte_is_plain, text_of_units_has_no_nul, written_pair_is_no_nul_nor_break}
@@ -108,18 +108,18 @@ pub record EndsArgument (rest : List ℕ) : Type 0 where
   pub path : size_of_matching_byte_or_pair is_path_byte rest ≡ 0
   pub quote : has_given_first_byte 34 rest ≡ false
 
-pub unquoted_text_begins_no_clean_run : (rest : List ℕ) → has_given_first_byte 34 rest ≡ false → quoted_run_size rule.Clean rest ≡ 0
-unfolding quoted_run_size
+pub unquoted_text_begins_no_clean_run : (rest : List ℕ) → has_given_first_byte 34 rest ≡ false → quotes_and_run_between_size rule.Clean rest ≡ 0
+unfolding quotes_and_run_between_size
 unquoted_text_begins_no_clean_run [] h = refl
 unquoted_text_begins_no_clean_run (b ∷ rest) h = let other : (b == 34) ≡ false = h in rw other refl
 
 unquoted_text_begins_no_closed_quote : (rest : List ℕ) → has_given_first_byte 34 rest ≡ false → closed_quote_size rest ≡ 0
-unfolding quoted_run_size
+unfolding quotes_and_run_between_size
 unquoted_text_begins_no_closed_quote [] h = refl
 unquoted_text_begins_no_closed_quote (b ∷ rest) h = let other : (b == 34) ≡ false = h in rw other refl
 
-pub unquoted_text_begins_no_broken_quote : (rest : List ℕ) → has_given_first_byte 34 rest ≡ false → quote_before_separator_size rest ≡ 0
-unfolding quote_before_separator_size
+pub unquoted_text_begins_no_broken_quote : (rest : List ℕ) → has_given_first_byte 34 rest ≡ false → quoted_front_to_inner_separator_size rest ≡ 0
+unfolding quoted_front_to_inner_separator_size
 unquoted_text_begins_no_broken_quote [] h = refl
 unquoted_text_begins_no_broken_quote (b ∷ rest) h = rw (unquoted_text_begins_no_clean_run (b ∷ rest) h, unquoted_text_begins_no_closed_quote (b ∷ rest) h) refl
 
@@ -143,15 +143,15 @@ argument_reach_passes_path_units (u ∷ us) more all =
 size_of_argument_units_is_text_length : (us : List LineUnit) (rest : List ℕ) → AreWrittenUnitsOf is_path_byte us → EndsArgument rest → argument_units_size (text_of_units us ++ rest) ≡ length (text_of_units us)
 unfolding argument_units_size
 size_of_argument_units_is_text_length us rest all ends =
-    let none : argument_unit_size rest ≡ 0 = ap (λ (n : ℕ). first_nonzero_number n (quoted_run_size rule.Clean rest)) ends.path ∙ unquoted_text_begins_no_clean_run rest ends.quote in
+    let none : argument_unit_size rest ≡ 0 = ap (λ (n : ℕ). first_nonzero_number n (quotes_and_run_between_size rule.Clean rest)) ends.path ∙ unquoted_text_begins_no_clean_run rest ends.quote in
     omega (arith, argument_reach_passes_path_units us rest all, reach_without_first_unit_is_zero argument_unit_size rest none)
 
 argument_size_is_text_length : (us : List LineUnit) (rest : List ℕ) → AreWrittenUnitsOf is_path_byte us → EndsArgument rest → argument_size (text_of_units us ++ rest) ≡ length (text_of_units us)
 unfolding argument_size
 argument_size_is_text_length us rest all ends =
     let whole = size_of_argument_units_is_text_length us rest all ends in
-    let left : quote_before_separator_size (drop (argument_units_size (text_of_units us ++ rest)) (text_of_units us ++ rest)) ≡ 0 =
-    ap (λ (n : ℕ). quote_before_separator_size (drop n (text_of_units us ++ rest))) whole ∙ ap quote_before_separator_size (drop_at (text_of_units us) rest (length (text_of_units us)) refl) ∙ unquoted_text_begins_no_broken_quote rest ends.quote in
+    let left : quoted_front_to_inner_separator_size (drop (argument_units_size (text_of_units us ++ rest)) (text_of_units us ++ rest)) ≡ 0 =
+    ap (λ (n : ℕ). quoted_front_to_inner_separator_size (drop n (text_of_units us ++ rest))) whole ∙ ap quoted_front_to_inner_separator_size (drop_at (text_of_units us) rest (length (text_of_units us)) refl) ∙ unquoted_text_begins_no_broken_quote rest ends.quote in
     omega (arith, whole, left)
 
 -- how an argument begins
@@ -159,7 +159,7 @@ pub record HasArgumentAtFront (us : List LineUnit) (rest : List ℕ) : Type 0 wh
   pub byte : ℕ
   pub more : List ℕ
   pub whole : text_of_units us ++ rest ≡ byte ∷ more
-  pub separator : is_separator byte ≡ false
+  pub separator : is_comma_colon_or_equals byte ≡ false
   pub place : BeginsTokenWithoutGap (byte ∷ more)
   pub some : 0 < length (text_of_units us)
 
@@ -169,7 +169,7 @@ path_units_stand_as_argument (Byte b ∷ us) rest some all = record {
   byte = b;
   more = text_of_units us ++ rest;
   whole = refl;
-  separator = not-true _ (and_parts (is_byte_of_include_path b) (not (is_separator b)) all.0).1;
+  separator = not-true _ (and_parts (is_byte_of_include_path b) (not (is_comma_colon_or_equals b)) all.0).1;
   place = plain_byte_begins_token b (text_of_units us ++ rest) (plain_test_byte_is_plain is_path_byte refl b all.0);
   some = omega arith;
 }
@@ -186,7 +186,7 @@ path_units_stand_as_argument us rest some all = absurd (let h = all.0 in cc)
 argument_units_are_found_as_arg : (i first : Bool) (us : List LineUnit) (rest : List ℕ) → HasSomeUnit us → AreWrittenUnitsOf is_path_byte us → EndsArgument rest → kind_and_size_of_token (token_forms_in_context context.Arguments) i first (text_of_units us ++ rest) ≡ (kind.Arg, length (text_of_units us))
 argument_units_are_found_as_arg i first us rest some all ends =
     let is = path_units_stand_as_argument us rest some all in
-    let separator : size_of_one_matching_byte is_separator (text_of_units us ++ rest) ≡ 0 = ap (size_of_one_matching_byte is_separator) is.whole ∙ ap (λ (t : Bool). if t then 1 else 0) is.separator in
+    let separator : size_of_one_matching_byte is_comma_colon_or_equals (text_of_units us ++ rest) ≡ 0 = ap (size_of_one_matching_byte is_comma_colon_or_equals) is.whole ∙ ap (λ (t : Bool). if t then 1 else 0) is.separator in
     let size : argument_size (text_of_units us ++ rest) ≡ length (text_of_units us) = argument_size_is_text_length us rest all ends in
     let positive : nat_lt 0 (length (text_of_units us)) ≡ true = grind (arith, nat_tests, is.some) in
     rw (separator, size, positive) refl
@@ -214,8 +214,8 @@ argument_keeps_argument_context us rest all =
 
 -- `""`
 pub size_of_empty_quotes_argument_is_two : (rest : List ℕ) → EndsArgument rest → argument_size (34 ∷ 34 ∷ rest) ≡ 2
-unfolding leading_run_size argument_units_size quoted_run_size argument_size
+unfolding leading_run_size argument_units_size quotes_and_run_between_size argument_size
 size_of_empty_quotes_argument_is_two rest ends =
-    let none : argument_unit_size rest ≡ 0 = ap (λ (n : ℕ). first_nonzero_number n (quoted_run_size rule.Clean rest)) ends.path ∙ unquoted_text_begins_no_clean_run rest ends.quote in
+    let none : argument_unit_size rest ≡ 0 = ap (λ (n : ℕ). first_nonzero_number n (quotes_and_run_between_size rule.Clean rest)) ends.path ∙ unquoted_text_begins_no_clean_run rest ends.quote in
     let whole : reach_of_units argument_unit_size 0 rest ≡ 0 = reach_without_first_unit_is_zero argument_unit_size rest none in
     rw (whole, unquoted_text_begins_no_broken_quote rest ends.quote) refl

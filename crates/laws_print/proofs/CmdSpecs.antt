@@ -1,7 +1,7 @@
 -- A command with what stands before it as it is written is cut into its tokens.
 use Rattle.laws_print.proofs.Common.{◌≡◌, ℕ, Bool, true, false, List, [], ◌∷◌, length, Some, None, refl, sym, subst, arith, ◌==◌, Option}
-use Rattle.laws_print.proofs.Common.{AllByRecursion, nat_tests, TokenContext, Byte, Quoted, leading_run_size, quoted_run_size, context_after_token, command_path_size, numeric_id_size}
-use Rattle.laws_print.proofs.Common.{hash_id_size, non_unix_group_size, Runas, Tag, OptionName, Member, RunasSpec, option_keyword, printed_tag_or_negated, IsWritableUserMember}
+use Rattle.laws_print.proofs.Common.{AllByRecursion, nat_tests, TokenContext, Byte, Quoted, leading_run_size, quotes_and_run_between_size, context_after_token, command_path_size, numeric_id_size}
+use Rattle.laws_print.proofs.Common.{hash_id_size, non_unix_group_size, Runas, Tag, OptionName, Member, RunasSpec, option_keyword, tag_keyword_or_negated, IsWritableUserMember}
 use Rattle.laws_print.proofs.Common.{IsWritableCommandMember, IsWritableRunasSpec, WrittenToken, text_of_units, line_of_written_tokens, IsTokenCut, AreTokensCut, units_of_spelled_word}
 use Rattle.sudoers_text.specs.declared.token.TokenKind.TheVariants as kind
 use Rattle.sudoers_text.specs.declared.context.TokenContext.TheVariants as context
@@ -20,13 +20,13 @@ use Rattle.laws_print.proofs.CommandLists.{colon_ends_word, spaced_command_ends_
 
 -- ---- tags
 
-printed_tag_is_literal_word : (g : Tag) (on : Bool) → is_literal_word (printed_tag_or_negated g on) ≡ true
+printed_tag_is_literal_word : (g : Tag) (on : Bool) → is_literal_word (tag_keyword_or_negated g on) ≡ true
 printed_tag_is_literal_word tag.Exec true = refl
 printed_tag_is_literal_word tag.Exec false = refl
 printed_tag_is_literal_word g true = refl
 printed_tag_is_literal_word g false = refl
 
-tag_context_follows_tag : (g : Tag) (on : Bool) (rest : List ℕ) → context_after_token context.Commands kind.Word (text_of_units (units_of_plain_bytes (printed_tag_or_negated g on))) rest ≡ context.BehindTag
+tag_context_follows_tag : (g : Tag) (on : Bool) (rest : List ℕ) → context_after_token context.Commands kind.Word (text_of_units (units_of_plain_bytes (tag_keyword_or_negated g on))) rest ≡ context.BehindTag
 tag_context_follows_tag tag.Exec true rest = refl
 tag_context_follows_tag tag.Exec false rest = refl
 tag_context_follows_tag g true rest = refl
@@ -42,7 +42,7 @@ tags_and_command_are_cut spaced item (g ∷ gs) m tail is cut =
     let later = tokens_of_tags_and_command true gs m tail in
     let colon = token_of_mark 58 false ∷ later in (
       false,
-      literal_word_is_cut_among_commands item (printed_tag_or_negated g.0 g.1) (line_of_written_tokens colon) (printed_tag_is_literal_word g.0 g.1) (colon_ends_word (line_of_written_tokens later)),
+      literal_word_is_cut_among_commands item (tag_keyword_or_negated g.0 g.1) (line_of_written_tokens colon) (printed_tag_is_literal_word g.0 g.1) (colon_ends_word (line_of_written_tokens later)),
       subst (λ (c : TokenContext). AreTokensCut c false colon) (sym (tag_context_follows_tag g.0 g.1 (line_of_written_tokens colon)))
           (true, colon_behind_tag_is_cut (line_of_written_tokens later), tags_and_command_are_cut true true gs m tail is cut),
     )
@@ -66,7 +66,7 @@ equals_sign_behind_option_is_cut rest = found_punctuation_is_cut context.BehindO
 
 -- `""`
 empty_quotes_option_value_is_cut : (rest : List ℕ) → IsTokenCut context.OptionValue true false kind.Quoted (Quoted (34 ∷ []) ∷ []) rest
-unfolding leading_run_size quoted_run_size numeric_id_size hash_id_size non_unix_group_size
+unfolding leading_run_size quotes_and_run_between_size numeric_id_size hash_id_size non_unix_group_size
 empty_quotes_option_value_is_cut rest = record {
   found = λ i first possible. refl;
   no_gap = refl;

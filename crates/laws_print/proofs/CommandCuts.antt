@@ -1,7 +1,7 @@
 -- Commands as they are written are tokens of a line.
 use Rattle.laws_print.proofs.Common.{◌≡◌, ℕ, suc, Bool, true, false, ◌&&◌, ◌||◌, not, List, [], ◌∷◌, ◌++◌, length, refl, sym, ap, subst, ◌∙◌, arith}
 use Rattle.laws_print.proofs.Common.{◌==◌, if◌then◌else◌, nat_lt, codes, AllByRecursion, list_all, bytes_eq, or_parts, and_parts, eqb-true, not-true}
-use Rattle.laws_print.proofs.Common.{nat_tests, TokenContext, LineUnit, Quoted, Byte, reach_of_units, leading_run_size, argument_units_size, quoted_run_size, is_path_byte}
+use Rattle.laws_print.proofs.Common.{nat_tests, TokenContext, LineUnit, Quoted, Byte, reach_of_units, leading_run_size, argument_units_size, quotes_and_run_between_size, is_path_byte}
 use Rattle.laws_print.proofs.Common.{is_word_byte, is_upper, token_forms_in_context, context_after_token, token_forms_in_word_lists, token_forms_in_command_lists, TokenForm, is_name, is_reserved, is_tag}
 use Rattle.laws_print.proofs.Common.{is_option_name, is_alias_byte, kind_and_size_of_token, command_path_size, Args, Any, Nothing, Pattern, Atom, Command, is_writable_pattern}
 use Rattle.laws_print.proofs.Common.{IsWritableArgs, IsWritableCommandAtom, WrittenToken, text_of_units, line_of_written_tokens, AllowsIdBehindUnits, IsTokenCut, AreTokensCut, AreWrittenUnitsOf, ArePatternUnits, escaped_pattern_units}
@@ -80,7 +80,7 @@ empty_quotes_argument_is_cut rest ends = record {
 }
 
 empty_quotes_keep_argument_context : (rest : List ℕ) → context_after_token context.Arguments kind.Arg (34 ∷ 34 ∷ []) rest ≡ context.Arguments
-unfolding argument_units_size quoted_run_size leading_run_size
+unfolding argument_units_size quotes_and_run_between_size leading_run_size
 empty_quotes_keep_argument_context rest = refl
 
 command_arguments_are_cut : (args : Args) (tail : List WrittenToken) → IsWritableArgs args → EndsArgument (line_of_written_tokens tail) → AreTokensCut context.Arguments false tail → AreTokensCut context.Arguments false (tokens_of_arguments args tail)

@@ -1,6 +1,6 @@
 -- Lists of commands, token by token: a device of the laws.
 use Rattle.laws_print.proofs.Common.{ℕ, Bool, true, false, List, [], ◌∷◌, codes, Option, Some, None, TokenKind, LineUnit, Quoted, Runas, Args, Any}
-use Rattle.laws_print.proofs.Common.{Nothing, Pattern, Atom, Digest, Member, OptionName, Tag, RunasSpec, Command, digest_kind_keyword, option_keyword, printed_tag_or_negated}
+use Rattle.laws_print.proofs.Common.{Nothing, Pattern, Atom, Digest, Member, OptionName, Tag, RunasSpec, Command, digest_kind_keyword, option_keyword, tag_keyword_or_negated}
 use Rattle.laws_print.proofs.Common.{WrittenToken, units_of_spelled_word, escaped_pattern_units, units_of_pattern, argument_words_of_units, tokens_of_argument_words}
 use Rattle.sudoers_text.specs.declared.token.TokenKind.TheVariants as kind
 use Rattle.sudoers_grammar.specs.declared.node.Atom.TheVariants as atom
@@ -73,7 +73,7 @@ token_of_option_value value = record { kind = kind_of_option_value value; units 
 -- tags and a command
 abbrev pub tokens_of_tags_and_command : Bool → List (Tag × Bool) → Member → List WrittenToken → List WrittenToken
 tokens_of_tags_and_command spaced [] m tail = tokens_of_command_with_digests spaced m.digests m.negated m.atom tail
-tokens_of_tags_and_command spaced (g ∷ gs) m tail = token_of_plain_word (printed_tag_or_negated g.0 g.1) spaced ∷ token_of_mark 58 false ∷ tokens_of_tags_and_command true gs m tail
+tokens_of_tags_and_command spaced (g ∷ gs) m tail = token_of_plain_word (tag_keyword_or_negated g.0 g.1) spaced ∷ token_of_mark 58 false ∷ tokens_of_tags_and_command true gs m tail
 
 -- options, tags and a command
 abbrev pub tokens_of_options_and_command : Bool → List (OptionName × List ℕ) → List (Tag × Bool) → Member → List WrittenToken → List WrittenToken

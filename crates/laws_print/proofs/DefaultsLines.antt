@@ -1,7 +1,7 @@
 -- A Defaults line is read as it is printed, and is one logical line.
 use Rattle.laws_print.proofs.Common.{◌≡◌, ℕ, Bool, true, false, List, [], ◌∷◌, Some, None, refl, sym, subst, Option, codes, Mode, HasTokens, Scope}
 use Rattle.laws_print.proofs.Common.{Param, TokenWithBytes, tokens_with_bytes, is_given_word, Reads, is_defaults, PerhapsScope, printed_line, IsNonEmptyListOf, IsWritableScope}
-use Rattle.laws_print.proofs.Common.{IsWritableParam, IsScopeSameButPlace, LineReadsBackAs, WrittenToken, line_of_written_tokens, tokens_placed_from_offset, Start, AreTokensCutFromPlace, AreTokensShownBy}
+use Rattle.laws_print.proofs.Common.{IsWritableParam, ScopeIsReadBackAs, LineReadsBackAs, WrittenToken, line_of_written_tokens, tokens_placed_from_offset, Start, AreTokensCutFromPlace, AreTokensShownBy}
 use Rattle.sudoers_text.specs.declared.token.TokenKind.TheVariants as kind
 use Rattle.sudoers_text.specs.declared.token.Mode.TheVariants as mode
 use Rattle.sudoers_text.specs.declared.context.TokenContext.TheVariants as context
@@ -24,7 +24,7 @@ defaults_keyword_is_read_as_defaults t k text = rw (k, text) refl
 pub record ReadsAsDefaultsNode (ts : List TokenWithBytes) (scope : Option Scope) (ps : List Param) : Type 0 where
   pub read : Option Scope
   pub reads : Reads ts (node.Defaults read ps)
-  pub same : IsScopeSameButPlace scope read
+  pub same : ScopeIsReadBackAs scope read
 
 -- where the first token ends and the next begins
 abbrev pub AreDefaultsTokensPlacedByScope : Option Scope → List TokenWithBytes → Type 0

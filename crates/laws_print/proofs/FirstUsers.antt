@@ -2,7 +2,7 @@
 use Rattle.laws_print.proofs.Common.{◌≡◌, ℕ, ◌<◌, Bool, true, false, ◌||◌, List, [], ◌∷◌, ◌++◌, length, refl, sym, ap, subst, ◌∙◌, arith, ◌==◌}
 use Rattle.laws_print.proofs.Common.{if◌then◌else◌, nat_lt, nat_eq, list_all, and_parts, ne_eqb, TokenKind, LineUnit, Pair, Byte, is_digit, leading_run_size}
 use Rattle.laws_print.proofs.Common.{is_word_byte, is_upper, context_after_token, token_forms_in_word_lists, line_mode, kind_and_size_of_token, hash_include_size_at, is_name, is_alias_byte, Atom, Member}
-use Rattle.laws_print.proofs.Common.{User, TokenWithBytes, alias_kind_of_token, include_dir_of_token, is_given_word, BeginsNonSpecLine, BeginsSpec, is_read_as_special_word, is_start_of_non_spec_line, IsWritableUserAtom}
+use Rattle.laws_print.proofs.Common.{User, TokenWithBytes, alias_kind_of_token, include_is_dir_of_token, is_given_word, BeginsNoAliasIncludeOrDefaults, BeginsSpec, is_read_as_other_than_user_name, is_start_of_non_spec_line, IsWritableUserAtom}
 use Rattle.laws_print.proofs.Common.{WrittenToken, text_of_units, line_of_written_tokens, IsTokenCut, AreTokensCut, AreTokensShownBy, AreWrittenUnitsOf, units_of_spelled_word}
 use Rattle.std.specs.Fmt.{decimal}
 use Rattle.sudoers_text.specs.declared.part.ByteRunKind.TheVariants as rule
@@ -52,7 +52,7 @@ pub record IsUserWrittenAsWord (us : List LineUnit) : Type 0 where
 
 -- the first byte of a user's name is no `#`
 units_of_first_name_have_no_hash : (b : ℕ) (name : List ℕ) → BeginsWithoutHash (text_of_units (units_of_user_name true (b ∷ name)))
-units_of_first_name_have_no_hash b name = by_else (is_read_as_special_word true (spelled_word (b ∷ name)))
+units_of_first_name_have_no_hash b name = by_else (is_read_as_other_than_user_name true (spelled_word (b ∷ name)))
   where
     by_else : (t : Bool) → BeginsWithoutHash (text_of_units (if t then Pair b ∷ units_of_spelled_word name else units_of_spelled_word (b ∷ name)))
     by_else true = record { byte = 92; more = b ∷ text_of_units (units_of_spelled_word name); whole = refl; hash = refl }
@@ -101,10 +101,10 @@ pub record IsUserAtLineBegin (a : Atom) : Type 0 where
   pub include : (first : Bool) (rest : List ℕ) → hash_include_size_at first (text_of_units (units_of_user_atom true a) ++ rest) ≡ 0
   pub hosts : (rest : List ℕ) → context_after_token (context.First mode.Commands) (token_kind_of_atom a) (text_of_units (units_of_user_atom true a)) rest ≡ context.Hosts
   pub mode_is : (r : ℕ) (rest : List ℕ) → (r == 32 || r == 44) ≡ true → EndsUser (r ∷ rest) → line_mode (text_of_units (units_of_user_atom true a) ++ (r ∷ rest)) ≡ mode.Commands
-  pub begins : (t : TokenWithBytes) → t.kind ≡ token_kind_of_atom a → t.text ≡ text_of_units (units_of_user_atom true a) → BeginsNonSpecLine t
+  pub begins : (t : TokenWithBytes) → t.kind ≡ token_kind_of_atom a → t.text ≡ text_of_units (units_of_user_atom true a) → BeginsNoAliasIncludeOrDefaults t
 
-token_of_other_kind_begins_spec : (t : TokenWithBytes) → is_word t.kind ≡ false → BeginsNonSpecLine t
-unfolding alias_kind_of_token include_dir_of_token is_given_word
+token_of_other_kind_begins_spec : (t : TokenWithBytes) → is_word t.kind ≡ false → BeginsNoAliasIncludeOrDefaults t
+unfolding alias_kind_of_token include_is_dir_of_token is_given_word
 token_of_other_kind_begins_spec t k = record { no_kind = rw k refl; no_include = rw k refl; no_defaults = rw k refl }
 
 word_user_is_user_at_line_begin : (a : Atom) → IsWritableUserAtom a → token_kind_of_atom a ≡ kind.Word → IsUserWrittenAsWord (units_of_user_atom true a) → IsUserAtLineBegin a
@@ -211,6 +211,6 @@ pub user_list_tokens_begin_spec : (m : Member) (ms : List Member) (tail : List W
 user_list_tokens_begin_spec m ms tail [] all shown = tt
 user_list_tokens_begin_spec m ms tail (t ∷ ts) all shown = by_sign m.negated shown
   where
-    by_sign : (negated : Bool) → AreTokensShownBy (tokens_of_list_member User false true negated m.atom (tokens_of_further_members User ms tail)) (t ∷ ts) → BeginsNonSpecLine t
+    by_sign : (negated : Bool) → AreTokensShownBy (tokens_of_list_member User false true negated m.atom (tokens_of_further_members User ms tail)) (t ∷ ts) → BeginsNoAliasIncludeOrDefaults t
     by_sign true shown = token_of_other_kind_begins_spec t (ap is_word shown.0)
     by_sign false shown = (writable_user_is_user_at_line_begin m.atom all.0.is).begins t shown.0 shown.1

@@ -2,8 +2,8 @@
 use Rattle.laws_print.proofs.Common.{◌≡◌, ℕ, suc, Bool, true, false, ◌&&◌, ◌||◌, List, [], ◌∷◌, ◌++◌, length, drop, take, inl, inr, refl, sym, ap}
 use Rattle.laws_print.proofs.Common.{subst, ◌∙◌, arith, ◌==◌, if◌then◌else◌, codes, nat_eq, bytes_eq, bytes_eq-Decides, take_at, and_parts, ne_eqb}
 use Rattle.laws_print.proofs.Common.{or_parts, nat_tests, leading_run_size, has_host_or_runas_sign, begins_defaults, line_mode, mode_by_line_start, is_among, context_after_token, TokenWithBytes}
-use Rattle.laws_print.proofs.Common.{alias_kind_of_token, include_dir_of_token, is_given_word, BeginsNonSpecLine, defaults_word, Atom, Pair, is_upper, is_name, is_alias_byte}
-use Rattle.laws_print.proofs.Common.{list_all, text_of_units, units_of_spelled_word, is_read_as_special_word, is_start_of_non_spec_line, IsWritableUserAtom}
+use Rattle.laws_print.proofs.Common.{alias_kind_of_token, include_is_dir_of_token, is_given_word, BeginsNoAliasIncludeOrDefaults, defaults_word, Atom, Pair, is_upper, is_name, is_alias_byte}
+use Rattle.laws_print.proofs.Common.{list_all, text_of_units, units_of_spelled_word, is_read_as_other_than_user_name, is_start_of_non_spec_line, IsWritableUserAtom}
 use Rattle.std.specs.List.{starts_with}
 use Rattle.std.specs.Cmp.Lexicographic.{same_text}
 use Rattle.std.proofs.lemmas.Bool.{cases_Bool, and_right}
@@ -109,8 +109,8 @@ text_without_hash_differs_from_hash_text word w none is =
     ]
 
 -- It begins no other line.
-pub spec_word_token_begins_spec : (t : TokenWithBytes) → t.kind ≡ kind.Word → has_given_first_byte 35 t.text ≡ false → is_start_of_non_spec_line t.text ≡ false → BeginsNonSpecLine t
-unfolding alias_kind_of_token include_dir_of_token is_given_word
+pub spec_word_token_begins_spec : (t : TokenWithBytes) → t.kind ≡ kind.Word → has_given_first_byte 35 t.text ≡ false → is_start_of_non_spec_line t.text ≡ false → BeginsNoAliasIncludeOrDefaults t
+unfolding alias_kind_of_token include_is_dir_of_token is_given_word
 spec_word_token_begins_spec t k hash other =
     let none = spec_word_is_not_among_keywords t.text other in
     let user = text_not_among_words_differs_from_each non_spec_line_keywords t.text none (codes "User_Alias") refl in
@@ -142,9 +142,9 @@ host_context_follows_spec_word word rest hash other =
 -- ---- users
 
 first_name_starts_no_other_line : (b : ℕ) (name : List ℕ) → is_start_of_non_spec_line (text_of_units (units_of_user_name true (b ∷ name))) ≡ false
-first_name_starts_no_other_line b name = by_else (is_read_as_special_word true (spelled_word (b ∷ name))) refl
+first_name_starts_no_other_line b name = by_else (is_read_as_other_than_user_name true (spelled_word (b ∷ name))) refl
   where
-    by_else : (t : Bool) → is_read_as_special_word true (spelled_word (b ∷ name)) ≡ t → is_start_of_non_spec_line (text_of_units (if t then Pair b ∷ units_of_spelled_word name else units_of_spelled_word (b ∷ name))) ≡ false
+    by_else : (t : Bool) → is_read_as_other_than_user_name true (spelled_word (b ∷ name)) ≡ t → is_start_of_non_spec_line (text_of_units (if t then Pair b ∷ units_of_spelled_word name else units_of_spelled_word (b ∷ name))) ≡ false
     by_else true e = refl
     by_else false e = ap is_start_of_non_spec_line (text_of_word_units_is_spelled_word (b ∷ name)) ∙ (special_word_test_implies_not_special true (spelled_word (b ∷ name)) e).line
 

@@ -3,12 +3,12 @@ use Rattle.laws_print.proofs.Common.{◌≡◌, ◌≢◌, ℕ, Bool, true, fals
 use Rattle.laws_print.proofs.Common.{if◌then◌else◌, codes, AllByRecursion, bytes_eq, not-true, and_parts, or_parts, eqb-true, TokenKind, is_name}
 use Rattle.laws_print.proofs.Common.{is_reserved, Args, Any, Nothing, Pattern, Atom, Command, is_escaped_for_policy_alone, pattern_of_remaining_bytes, pattern_of_text, TokenWithBytes}
 use Rattle.laws_print.proofs.Common.{has_last_byte, has_byte, is_argument_of_empty_quotes, patterns_each_after_blank, args_of_argument_tokens, command_atom_of_word, command_atom_without_args, command_atom_with_args}
-use Rattle.laws_print.proofs.Common.{command_atom_of_tokens, is_unescaped_pattern_byte, is_backslash_kept_before, is_writable_pattern, IsWritableArgs, IsWritableCommandAtom, IsScopeCommandAtom}
+use Rattle.laws_print.proofs.Common.{command_atom_of_tokens, is_pattern_byte_but_backslash, is_backslash_kept_before, is_writable_pattern, IsWritableArgs, IsWritableCommandAtom, IsScopeCommandAtom}
 use Rattle.std.proofs.lemmas.Option.{IfSome_then}
 use Rattle.sudoers_text.specs.declared.token.TokenKind.TheVariants as kind
 use Rattle.sudoers_grammar.specs.declared.node.Atom.TheVariants as atom
 use Rattle.sudoers_grammar.specs.Piece.{has_first_byte}
-use Rattle.sudoers_grammar.specs.Atom.{command_alias_of_word}
+use Rattle.sudoers_grammar.specs.Atom.{unreserved_alias_atom_of_word}
 use Rattle.laws_print.proofs.Patterns.{pattern_begins_with_pair_or_its_byte, pattern_begins_with_plain_byte}
 use Rattle.laws_print.proofs.Tidy.{IsTidyText}
 use Rattle.laws_print.proofs.Tight.{tight_text_is_tidy, last_byte_of_tight_pattern_is_same}
@@ -21,7 +21,7 @@ use Rattle.laws_print.proofs.Words.{passing_byte_differs_from_failing_byte}
 
 -- ---- words and paths, without arguments
 
-word_gives_only_scope_command_alias : (text : List ℕ) → GivesOnlySuchAtom IsScopeCommandAtom (command_alias_of_word text)
+word_gives_only_scope_command_alias : (text : List ℕ) → GivesOnlySuchAtom IsScopeCommandAtom (unreserved_alias_atom_of_word text)
 word_gives_only_scope_command_alias text = by_test (is_name text && not (is_reserved text)) refl
   where
     by_test : (t : Bool) → (is_name text && not (is_reserved text)) ≡ t → GivesOnlySuchAtom IsScopeCommandAtom (if t then Some (atom.Alias text) else None)
@@ -30,9 +30,9 @@ word_gives_only_scope_command_alias text = by_test (is_name text && not (is_rese
 
 word_gives_only_scope_command : (text : List ℕ) → GivesOnlySuchAtom IsScopeCommandAtom (command_atom_of_word text)
 word_gives_only_scope_command text =
-    property_of_both_holds_for_choice (GivesOnlySuchAtom IsScopeCommandAtom) (bytes_eq text (codes "ALL")) (Some atom.All) (if bytes_eq text (codes "list") then Some atom.Listing else (if bytes_eq text (codes "sudoedit") then Some (atom.Sudoedit Any) else command_alias_of_word text)) tt
-    (property_of_both_holds_for_choice (GivesOnlySuchAtom IsScopeCommandAtom) (bytes_eq text (codes "list")) (Some atom.Listing) (if bytes_eq text (codes "sudoedit") then Some (atom.Sudoedit Any) else command_alias_of_word text) tt
-    (property_of_both_holds_for_choice (GivesOnlySuchAtom IsScopeCommandAtom) (bytes_eq text (codes "sudoedit")) (Some (atom.Sudoedit Any)) (command_alias_of_word text) refl (word_gives_only_scope_command_alias text)))
+    property_of_both_holds_for_choice (GivesOnlySuchAtom IsScopeCommandAtom) (bytes_eq text (codes "ALL")) (Some atom.All) (if bytes_eq text (codes "list") then Some atom.Listing else (if bytes_eq text (codes "sudoedit") then Some (atom.Sudoedit Any) else unreserved_alias_atom_of_word text)) tt
+    (property_of_both_holds_for_choice (GivesOnlySuchAtom IsScopeCommandAtom) (bytes_eq text (codes "list")) (Some atom.Listing) (if bytes_eq text (codes "sudoedit") then Some (atom.Sudoedit Any) else unreserved_alias_atom_of_word text) tt
+    (property_of_both_holds_for_choice (GivesOnlySuchAtom IsScopeCommandAtom) (bytes_eq text (codes "sudoedit")) (Some (atom.Sudoedit Any)) (unreserved_alias_atom_of_word text) refl (word_gives_only_scope_command_alias text)))
 
 pattern_of_slash_text_begins_with_slash : (text : List ℕ) → has_first_byte 47 text ≡ true → has_first_byte 47 (pattern_of_text Command text) ≡ true
 unfolding pattern_of_text
@@ -94,12 +94,12 @@ writable_pattern_joins_with_next [] h y is = is
 writable_pattern_joins_with_next (b ∷ []) h y is = unescaped_byte_joins_with_patterns Command b h y is
 writable_pattern_joins_with_next (b ∷ c ∷ rest) h y is = by_backslash (b == 92) refl h (writable_pattern_joins_with_next rest) (writable_pattern_joins_with_next (c ∷ rest))
   where
-    by_backslash : (t : Bool) → (b == 92) ≡ t → (if t then is_backslash_kept_before Command c && is_writable_pattern Command rest else is_unescaped_pattern_byte b && is_writable_pattern Command (c ∷ rest)) ≡ true → (is_writable_pattern Command rest ≡ true → JoinsWithPatterns Command rest) → (is_writable_pattern Command (c ∷ rest) ≡ true → JoinsWithPatterns Command (c ∷ rest)) → is_writable_pattern Command (b ∷ c ∷ (rest ++ y)) ≡ true
+    by_backslash : (t : Bool) → (b == 92) ≡ t → (if t then is_backslash_kept_before Command c && is_writable_pattern Command rest else is_pattern_byte_but_backslash b && is_writable_pattern Command (c ∷ rest)) ≡ true → (is_writable_pattern Command rest ≡ true → JoinsWithPatterns Command rest) → (is_writable_pattern Command (c ∷ rest) ≡ true → JoinsWithPatterns Command (c ∷ rest)) → is_writable_pattern Command (b ∷ c ∷ (rest ++ y)) ≡ true
     by_backslash true e h pair byte =
         let parts = and_parts (is_backslash_kept_before Command c) (is_writable_pattern Command rest) h in
         ap (λ (x : ℕ). is_writable_pattern Command (x ∷ c ∷ (rest ++ y))) (eqb-true b 92 e) ∙ kept_pair_joins_with_patterns Command c parts.0 (rest ++ y) (pair parts.1 y is)
     by_backslash false e h pair byte =
-        let parts = and_parts (is_unescaped_pattern_byte b) (is_writable_pattern Command (c ∷ rest)) h in
+        let parts = and_parts (is_pattern_byte_but_backslash b) (is_writable_pattern Command (c ∷ rest)) h in
         unescaped_byte_joins_with_patterns Command b parts.0 (c ∷ (rest ++ y)) (byte parts.1 y is)
 
 -- what is known of arguments

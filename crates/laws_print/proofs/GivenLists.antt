@@ -2,7 +2,7 @@
 use Rattle.laws_print.proofs.Common.{◌≡◌, ◌≢◌, ℕ, Bool, true, false, ◌&&◌, ◌||◌, List, [], ◌∷◌, ◌++◌, Some, None, refl, sym, ap, subst, ◌∙◌}
 use Rattle.laws_print.proofs.Common.{if◌then◌else◌, AllByRecursion, list_all, and_parts, TokenKind, is_digest_byte, value_of_word, Kind, User, Runas, Cmnd}
 use Rattle.laws_print.proofs.Common.{Atom, Tag, OptionName, RunasSpec, TokenWithBytes, is_arg, is_digest, is_quoted, is_alias_name, atom_of_token, is_option_value_allowed}
-use Rattle.laws_print.proofs.Common.{option_value_of_token, is_name, IsArg, IsMember, AreMembers, IsDigest, IsCommand, IsList, IsDef, IsRunas, IsOption, IsTag}
+use Rattle.laws_print.proofs.Common.{option_value_of_token, is_name, IsArg, IsMember, AreMembers, IsDigest, IsCommand, IsAliasMemberList, IsDef, IsRunas, IsOption, IsTag}
 use Rattle.laws_print.proofs.Common.{IsCmdSpec, IsHostGroup, Many, MarkThenRule, Separated, Perhaps, IsWritableUserAtom, IsWritableHostAtom, IsMemberWithoutDigests, IsWritableUserMember, IsWritableHostMember}
 use Rattle.laws_print.proofs.Common.{IsWritableDigestText, IsWritableCommandMember, IsWritableMemberOfKind, IsNonEmptyListOf, IsWritableDefinition, IsWritableRunasSpec, IsWritableOption, IsWritableCommand, IsWritableHostGroup}
 use Rattle.sudoers_text.specs.declared.token.TokenKind.TheVariants as kind
@@ -123,7 +123,7 @@ command_rule_reads_only_writable ts m rest given is =
 
 -- ---- definitions
 
-pub list_rule_reads_only_writable : (k : Kind) → ReadsOnlyWritable (IsList k) (IsNonEmptyListOf (IsWritableMemberOfKind k))
+pub list_rule_reads_only_writable : (k : Kind) → ReadsOnlyWritable (IsAliasMemberList k) (IsNonEmptyListOf (IsWritableMemberOfKind k))
 list_rule_reads_only_writable User = separated_rule_reads_only_writable 44 (IsMember User) IsWritableUserMember user_member_rule_reads_only_writable
 list_rule_reads_only_writable Runas = separated_rule_reads_only_writable 44 (IsMember Runas) IsWritableUserMember runas_member_rule_reads_only_writable
 list_rule_reads_only_writable Host = separated_rule_reads_only_writable 44 (IsMember Host) IsWritableHostMember host_member_rule_reads_only_writable

@@ -2,16 +2,16 @@
 use Rattle.laws_print.proofs.Common.{◌≡◌, ◌≢◌, ℕ, Bool, true, false, ◌&&◌, List, [], ◌∷◌, ◌++◌, Some, None, refl, sym, ap, subst, ◌∙◌, if◌then◌else◌}
 use Rattle.laws_print.proofs.Common.{Option, codes, AllByRecursion, list_all, bytes_eq, bytes_eq-Decides, TokenKind, is_byte_of_parameter_name, line_mode, is_among}
 use Rattle.laws_print.proofs.Common.{include_words, Kind, User, Member, Def, HostGroup, Setting, Param, Scope, Node, TokenWithBytes, tokens_with_bytes, is_parameter_name_kind}
-use Rattle.laws_print.proofs.Common.{value_of_matching_row, alias_kind_of_token, is_given_word, include_dir_of_token, has_byte, is_a_word, IsMember, IsDef, IsHostGroup, BeginsSpec}
-use Rattle.laws_print.proofs.Common.{IsParamWith, IsParam, is_defaults, MarkThenRule, IsWritableUserMember, IsNonEmptyListOf, IsWritableDefinition, IsWritableHostGroup, IsSettingAllowedIfNegated}
+use Rattle.laws_print.proofs.Common.{value_of_matching_row, alias_kind_of_token, is_given_word, include_is_dir_of_token, has_byte, is_a_word, IsMember, IsDef, IsHostGroup, BeginsSpec}
+use Rattle.laws_print.proofs.Common.{IsFlagOrSetting, IsParam, is_defaults, MarkThenRule, IsWritableUserMember, IsNonEmptyListOf, IsWritableDefinition, IsWritableHostGroup, IsSettingAllowedIfNegated}
 use Rattle.laws_print.proofs.Common.{IsWritableScope, IsWritableParam}
 use Rattle.sudoers_text.specs.declared.token.TokenKind.TheVariants as kind
 use Rattle.sudoers_text.specs.Context.{is_word_kind}
 use Rattle.sudoers_grammar.specs.Node as node
 use Rattle.sudoers_grammar.specs.Line.{LineReadsAsNode}
 use Rattle.sudoers_grammar.specs.Piece.{is_some, alias_kinds_by_keyword}
-use Rattle.sudoers_grammar.specs.Piece.{include_dirs_by_word as include_rows}
-use Rattle.sudoers_grammar.specs.Grammar.{IsAlias, IsUserSpec, IsDefaults, ReadsNodeWithRest}
+use Rattle.sudoers_grammar.specs.Piece.{include_is_dir_by_word as include_rows}
+use Rattle.sudoers_grammar.specs.Grammar.{IsAliasLine, IsUserSpec, IsDefaultsLine, ReadsNodeWithRest}
 use Rattle.laws_print.specs.Readable.{IsReadableNode}
 use Rattle.laws_print.proofs.NoArguments.{HaveNoArgsBehindDefaults, defaults_line_has_no_args_behind, scope_of_given_tokens_is_writable}
 use Rattle.laws_print.proofs.TidyPieces.{IsTokenTextOfKind}
@@ -27,8 +27,8 @@ IncludeWordTestsAgree = (word : List ℕ) → is_among include_words word ≡ is
 abbrev pub IsNoIncludeWord : TokenWithBytes → Type 0
 IsNoIncludeWord t = (is_word_kind t.kind && is_among include_words t.text) ≡ false
 
-token_without_include_dir_is_no_include : IncludeWordTestsAgree → (t : TokenWithBytes) → include_dir_of_token t ≡ None → IsNoIncludeWord t
-unfolding include_dir_of_token
+token_without_include_dir_is_no_include : IncludeWordTestsAgree → (t : TokenWithBytes) → include_is_dir_of_token t ≡ None → IsNoIncludeWord t
+unfolding include_is_dir_of_token
 token_without_include_dir_is_no_include agree t e = by_kind t.kind e
   where
     by_kind : (k : TokenKind) → (if is_a_word k then value_of_matching_row include_rows t.text else None) ≡ None → (is_word_kind k && is_among include_words t.text) ≡ false
@@ -62,7 +62,7 @@ defaults_token_is_no_include t e = by_kind t.kind (bytes_eq t.text (codes "Defau
 
 -- ---- aliases
 
-definitions_of_given_alias_line_are_writable : (k : Kind) (ts : List TokenWithBytes) (ds : List Def) (rest : List TokenWithBytes) → AreGivenLineTokens ts → IsAlias k ts ds rest → IsNonEmptyListOf (IsWritableDefinition k) ds
+definitions_of_given_alias_line_are_writable : (k : Kind) (ts : List TokenWithBytes) (ds : List Def) (rest : List TokenWithBytes) → AreGivenLineTokens ts → IsAliasLine k ts ds rest → IsNonEmptyListOf (IsWritableDefinition k) ds
 definitions_of_given_alias_line_are_writable k ts ds rest given is =
     let there = subst AreGivenLineTokens is.split given in
     (separated_rule_reads_only_writable 58 (IsDef k) (IsWritableDefinition k) (definition_rule_reads_only_writable k) is.behind ds rest (there.1 (alias_keyword_token_is_no_include is.word k is.is_kind)) is.defs).0
@@ -101,7 +101,7 @@ parameter_with_token_name_is_writable p t same is given setting =
     let text = text_of_name_token_is_name_bytes t.kind t.text is given.0 in
     record { some = λ e. text.0 (sym same ∙ e); name = ap (list_all is_byte_of_parameter_name) same ∙ text.1; setting = setting }
 
-parameter_with_setting_is_writable : (s : Option Setting) (ts : List TokenWithBytes) (p : Param) (rest : List TokenWithBytes) → p.setting ≡ s → AreGivenTokens ts → IsParamWith s ts p rest → IsWritableParam p × AreGivenTokens rest
+parameter_with_setting_is_writable : (s : Option Setting) (ts : List TokenWithBytes) (p : Param) (rest : List TokenWithBytes) → p.setting ≡ s → AreGivenTokens ts → IsFlagOrSetting s ts p rest → IsWritableParam p × AreGivenTokens rest
 parameter_with_setting_is_writable None ts p rest same given is =
     let after = rest_of_given_list_is_given is.signs (is.name ∷ rest) (subst AreGivenTokens is.split given) in
     (parameter_with_token_name_is_writable p is.name is.same_name is.is_name after.0 (subst (IsSettingAllowedIfNegated p.negated) (sym same) tt), after.2)
@@ -112,7 +112,7 @@ parameter_with_setting_is_writable (Some s) ts p rest same given is =
 parameter_rule_reads_only_writable : ReadsOnlyWritable IsParam IsWritableParam
 parameter_rule_reads_only_writable ts p rest given is = parameter_with_setting_is_writable p.setting ts p rest refl given is
 
-defaults_of_given_line_are_writable : (ts : List TokenWithBytes) (scope : Option Scope) (ps : List Param) (rest : List TokenWithBytes) → AreGivenLineTokens ts → HaveNoArgsBehindDefaults ts → IsDefaults ts scope ps rest → IsWritableScope scope × IsNonEmptyListOf IsWritableParam ps
+defaults_of_given_line_are_writable : (ts : List TokenWithBytes) (scope : Option Scope) (ps : List Param) (rest : List TokenWithBytes) → AreGivenLineTokens ts → HaveNoArgsBehindDefaults ts → IsDefaultsLine ts scope ps rest → IsWritableScope scope × IsNonEmptyListOf IsWritableParam ps
 defaults_of_given_line_are_writable ts scope ps rest given none is =
     let there = subst AreGivenLineTokens is.split given in
     let apart = subst HaveNoArgsBehindDefaults is.split none in

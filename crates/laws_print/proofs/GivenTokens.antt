@@ -6,7 +6,7 @@ use Rattle.laws_print.proofs.Common.{token_forms_of_parameters, forms_of_first_t
 use Rattle.laws_print.proofs.Common.{include_words, AreTokensFrom, HasTokens, IsTokenOfKindAndSize, units_left_of_place, is_line_end_or_empty, TokenWithBytes, tokens_with_bytes, has_byte}
 use Rattle.sudoers_text.specs.declared.token.TokenKind.TheVariants as kind
 use Rattle.sudoers_text.specs.declared.token.Mode.TheVariants as mode
-use Rattle.sudoers_text.specs.declared.context.ScopeMemberKind.TheVariants as scope
+use Rattle.sudoers_text.specs.declared.context.ScopeNamesOrCommands.TheVariants as scope
 use Rattle.sudoers_text.specs.declared.context.TokenContext.TheVariants as context
 use Rattle.sudoers_text.specs.Part.{has_given_first_byte, is_entire_run, is_whole_argument}
 use Rattle.sudoers_text.specs.declared.part.ByteRunKind.TheVariants as rule

@@ -5,7 +5,7 @@ use Rattle.laws_print.proofs.Common.{user_atom_by_prefix, user_atom_of_word, use
 use Rattle.sudoers_text.specs.declared.token.TokenKind.TheVariants as kind
 use Rattle.sudoers_grammar.specs.declared.node.Atom.TheVariants as atom
 use Rattle.sudoers_grammar.specs.Number.{number_of_decimal_digits}
-use Rattle.sudoers_grammar.specs.Atom.{word_value_or_bytes, user_atom_after_hash}
+use Rattle.sudoers_grammar.specs.Atom.{word_value_or_bytes, uid_or_name_atom_after_hash}
 use Rattle.laws_print.proofs.TidyPieces.{IsIdText, hash, percent, colon}
 use Rattle.laws_print.proofs.GivenTokens.{IsNumberTextIfId}
 use Rattle.laws_print.proofs.Gives.{GivesOnlySuchAtom, property_of_both_holds_for_choice}
@@ -33,7 +33,7 @@ group_after_percent_is_writable_user escaped (b ∷ rest) =
     (property_of_both_holds_for_choice (GivesOnlySuchAtom IsWritableUserAtom) (b == 35 && is_nonempty_digit_string rest) (option_map atom.GroupId (number_if_within_limit id_limit rest)) (option_map atom.Group (some_if_not_empty (word_value_or_bytes escaped (b ∷ rest))))
     (atom_of_limited_number_is_writable_user atom.GroupId rest (λ n low. low)) (atom_of_filled_name_is_writable_user atom.Group (word_value_or_bytes escaped (b ∷ rest)) (λ n some. some)))
 
-number_after_hash_is_writable_user : (text : List ℕ) → GivesOnlySuchAtom IsWritableUserAtom (user_atom_after_hash text)
+number_after_hash_is_writable_user : (text : List ℕ) → GivesOnlySuchAtom IsWritableUserAtom (uid_or_name_atom_after_hash text)
 number_after_hash_is_writable_user [] = tt
 number_after_hash_is_writable_user (b ∷ rest) =
     property_of_both_holds_for_choice (GivesOnlySuchAtom IsWritableUserAtom) (is_nonempty_digit_string (b ∷ rest)) (option_map atom.Id (number_if_within_limit id_limit (b ∷ rest))) (Some (atom.Name (35 ∷ b ∷ rest)))
@@ -42,11 +42,11 @@ number_after_hash_is_writable_user (b ∷ rest) =
 prefixed_text_gives_writable_user : (escaped : Bool) (text : List ℕ) → GivesOnlySuchAtom IsWritableUserAtom (user_atom_by_prefix escaped text)
 prefixed_text_gives_writable_user escaped [] = tt
 prefixed_text_gives_writable_user escaped (b ∷ rest) =
-    property_of_both_holds_for_choice (GivesOnlySuchAtom IsWritableUserAtom) (b == 37) (group_atom_after_percent escaped rest) (if b == 43 then option_map atom.Netgroup (some_if_not_empty (word_value_or_bytes escaped rest)) else (if b == 35 then user_atom_after_hash rest else option_map atom.Name (some_if_not_empty (word_value_or_bytes escaped (b ∷ rest)))))
+    property_of_both_holds_for_choice (GivesOnlySuchAtom IsWritableUserAtom) (b == 37) (group_atom_after_percent escaped rest) (if b == 43 then option_map atom.Netgroup (some_if_not_empty (word_value_or_bytes escaped rest)) else (if b == 35 then uid_or_name_atom_after_hash rest else option_map atom.Name (some_if_not_empty (word_value_or_bytes escaped (b ∷ rest)))))
     (group_after_percent_is_writable_user escaped rest)
-    (property_of_both_holds_for_choice (GivesOnlySuchAtom IsWritableUserAtom) (b == 43) (option_map atom.Netgroup (some_if_not_empty (word_value_or_bytes escaped rest))) (if b == 35 then user_atom_after_hash rest else option_map atom.Name (some_if_not_empty (word_value_or_bytes escaped (b ∷ rest))))
+    (property_of_both_holds_for_choice (GivesOnlySuchAtom IsWritableUserAtom) (b == 43) (option_map atom.Netgroup (some_if_not_empty (word_value_or_bytes escaped rest))) (if b == 35 then uid_or_name_atom_after_hash rest else option_map atom.Name (some_if_not_empty (word_value_or_bytes escaped (b ∷ rest))))
     (atom_of_filled_name_is_writable_user atom.Netgroup (word_value_or_bytes escaped rest) (λ n some. some))
-    (property_of_both_holds_for_choice (GivesOnlySuchAtom IsWritableUserAtom) (b == 35) (user_atom_after_hash rest) (option_map atom.Name (some_if_not_empty (word_value_or_bytes escaped (b ∷ rest)))) (number_after_hash_is_writable_user rest) (atom_of_filled_name_is_writable_user atom.Name (word_value_or_bytes escaped (b ∷ rest)) (λ n some. some))))
+    (property_of_both_holds_for_choice (GivesOnlySuchAtom IsWritableUserAtom) (b == 35) (uid_or_name_atom_after_hash rest) (option_map atom.Name (some_if_not_empty (word_value_or_bytes escaped (b ∷ rest)))) (number_after_hash_is_writable_user rest) (atom_of_filled_name_is_writable_user atom.Name (word_value_or_bytes escaped (b ∷ rest)) (λ n some. some))))
 
 word_gives_writable_user : (text : List ℕ) → GivesOnlySuchAtom IsWritableUserAtom (user_atom_of_word text)
 unfolding user_atom_of_word

@@ -3,7 +3,7 @@ use Rattle.laws_print.proofs.Common.{◌≡◌, ◌≢◌, ℕ, ◌<◌, Bool, t
 use Rattle.laws_print.proofs.Common.{◌∙◌, arith, append-nil, ◌/◌, ◌%◌, ◌==◌, if◌then◌else◌, codes, nat_le, option_map, list_all, and_parts}
 use Rattle.laws_print.proofs.Common.{eqb-true, append_assoc, is_digit, is_word_byte, is_upper, is_name, is_alias_byte, Mask, has_byte, canonical_number_up_to}
 use Rattle.laws_print.proofs.Common.{parts_around_first_byte, address_of_octets, ipv4_number_of_text, network_mask_of_text, mask_of_bits_or_address, network_atom_of_text, is_network_like_text, some_if_not_empty, address_network_or_host_atom, host_atom_without_escapes}
-use Rattle.laws_print.proofs.Common.{host_atom_of_token, dotted_address, printed_mask, IsAddressNumber, IsWritableMask}
+use Rattle.laws_print.proofs.Common.{host_atom_of_token, dotted_address, printed_mask_without_slash, IsIpv4AddressNumber, IsWritableMask}
 use Rattle.std.specs.Fmt.{decimal}
 use Rattle.sudoers_text.specs.declared.token.TokenKind.TheVariants as kind
 use Rattle.sudoers_grammar.specs.declared.node.Atom.TheVariants as atom
@@ -79,14 +79,14 @@ unfolding host_atom_of_token
 numeric_token_is_address_or_host text is =
     rw is.bare (ap host_atom_without_escapes is.whole ∙ unescaped_digit_text_is_address_or_host is.digit is.more is.is ∙ ap (λ (t : List ℕ). address_network_or_host_atom t (ipv4_number_of_text t)) (sym is.whole))
 
-dotted_address_text_begins_with_digit : (n : ℕ) → IsAddressNumber n → (rest : List ℕ) → list_all is_word_byte (dotted_address n ++ rest) ≡ true → BeginsWithDigitWithoutBackslash (dotted_address n ++ rest)
+dotted_address_text_begins_with_digit : (n : ℕ) → IsIpv4AddressNumber n → (rest : List ℕ) → list_all is_word_byte (dotted_address n ++ rest) ≡ true → BeginsWithDigitWithoutBackslash (dotted_address n ++ rest)
 dotted_address_text_begins_with_digit n h rest words =
     let is = decimal_of_id_is_read_back (n / 16777216) (omega (arith, (address_number_has_octets n h).first)) in
     let tail = 46 ∷ (decimal (n / 65536 % 256) ++ (46 ∷ (decimal (n / 256 % 256) ++ (46 ∷ decimal (n % 256))))) in
     let whole : dotted_address n ++ rest ≡ decimal (n / 16777216) ++ (tail ++ rest) = ap (λ (t : List ℕ). t ++ rest) (dotted_address_is_text_of_octets n) ∙ append_assoc (decimal (n / 16777216)) tail rest in
     subst BeginsWithDigitWithoutBackslash (sym whole) (text_with_leading_digits_begins_with_digit (decimal (n / 16777216)) (tail ++ rest) is.1 is.2 (ap (list_all is_word_byte) (sym whole) ∙ words))
 
-pub dotted_address_is_read_back : (n : ℕ) → IsAddressNumber n → host_atom_of_token kind.Word (dotted_address n) ≡ Some (atom.Address (record { number = n }))
+pub dotted_address_is_read_back : (n : ℕ) → IsIpv4AddressNumber n → host_atom_of_token kind.Word (dotted_address n) ≡ Some (atom.Address (record { number = n }))
 dotted_address_is_read_back n h =
     let whole : dotted_address n ++ [] ≡ dotted_address n = append-nil (dotted_address n) in
     let is = subst BeginsWithDigitWithoutBackslash whole (dotted_address_text_begins_with_digit n h [] (ap (list_all is_word_byte) whole ∙ dotted_address_is_word_bytes n h)) in
@@ -97,7 +97,7 @@ dotted_address_is_read_back n h =
 dotted_address_is_no_bit_count : (n : ℕ) → canonical_number_up_to 32 (dotted_address n) ≡ None
 dotted_address_is_no_bit_count n = ap (canonical_number_up_to 32) (dotted_address_is_text_of_octets n) ∙ text_with_non_digit_is_no_number 32 (decimal (n / 16777216)) 46 (decimal (n / 65536 % 256) ++ (46 ∷ (decimal (n / 256 % 256) ++ (46 ∷ decimal (n % 256))))) refl
 
-printed_mask_is_read_back : (m : Mask) → IsWritableMask m → network_mask_of_text (printed_mask m) ≡ Some m
+printed_mask_is_read_back : (m : Mask) → IsWritableMask m → network_mask_of_text (printed_mask_without_slash m) ≡ Some m
 unfolding network_mask_of_text
 printed_mask_is_read_back (mask.Bits bits) h = ap (mask_of_bits_or_address (decimal bits)) (canonical_number_of_decimal_is_read_back 32 bits h (omega arith))
 printed_mask_is_read_back (mask.Dotted a) h =
@@ -119,7 +119,7 @@ digits_pass_test_that_each_digit_passes test all (d ∷ ds) h =
     rw (is, later) refl
 
 -- digits and dots pass a test that digits and dots pass
-pub dotted_address_passes_test_of_its_bytes : (test : ℕ → Bool) → ((b : ℕ) → is_digit b ≡ true → test b ≡ true) → test 46 ≡ true → (n : ℕ) → IsAddressNumber n → list_all test (dotted_address n) ≡ true
+pub dotted_address_passes_test_of_its_bytes : (test : ℕ → Bool) → ((b : ℕ) → is_digit b ≡ true → test b ≡ true) → test 46 ≡ true → (n : ℕ) → IsIpv4AddressNumber n → list_all test (dotted_address n) ≡ true
 dotted_address_passes_test_of_its_bytes test all dot n h =
     let is = address_number_has_octets n h in
     let fourth : list_all test (46 ∷ decimal (n % 256)) ≡ true = with_dot (decimal (n % 256)) (part (n % 256) is.fourth) in
@@ -140,12 +140,12 @@ digit_is_digit_or_dot b h = rw h refl
 digit_is_digit_dot_or_slash : (b : ℕ) → is_digit b ≡ true → is_digit_dot_or_slash b ≡ true
 digit_is_digit_dot_or_slash b h = rw h refl
 
-printed_mask_is_digits_dots_slashes : (m : Mask) → IsWritableMask m → list_all is_digit_dot_or_slash (printed_mask m) ≡ true
+printed_mask_is_digits_dots_slashes : (m : Mask) → IsWritableMask m → list_all is_digit_dot_or_slash (printed_mask_without_slash m) ≡ true
 printed_mask_is_digits_dots_slashes (mask.Bits bits) h = digits_pass_test_that_each_digit_passes is_digit_dot_or_slash digit_is_digit_dot_or_slash (decimal bits) (decimal_is_all_digits bits (omega arith))
 printed_mask_is_digits_dots_slashes (mask.Dotted a) h = dotted_address_passes_test_of_its_bytes is_digit_dot_or_slash digit_is_digit_dot_or_slash refl a.number h
 
 -- with a mask it is no address
-dotted_address_with_slash_is_no_address : (n : ℕ) → IsAddressNumber n → (rest : List ℕ) → ipv4_number_of_text (dotted_address n ++ (47 ∷ rest)) ≡ None
+dotted_address_with_slash_is_no_address : (n : ℕ) → IsIpv4AddressNumber n → (rest : List ℕ) → ipv4_number_of_text (dotted_address n ++ (47 ∷ rest)) ≡ None
 dotted_address_with_slash_is_no_address n h rest =
     let is = address_number_has_octets n h in
     let a = decimal (n / 16777216) in
@@ -167,21 +167,21 @@ text_around_slash_has_slash (b ∷ x) y = by_first (b == 47) (text_around_slash_
     by_first true h = refl
     by_first false h = h
 
-network_text_is_read_back : (n : ℕ) (m : Mask) → IsAddressNumber n → IsWritableMask m → network_atom_of_text (dotted_address n ++ (47 ∷ printed_mask m)) ≡ Some (atom.Network (record { number = n }) m)
+network_text_is_read_back : (n : ℕ) (m : Mask) → IsIpv4AddressNumber n → IsWritableMask m → network_atom_of_text (dotted_address n ++ (47 ∷ printed_mask_without_slash m)) ≡ Some (atom.Network (record { number = n }) m)
 unfolding network_atom_of_text
 network_text_is_read_back n m h is =
-    let split : parts_around_first_byte 47 (dotted_address n ++ (47 ∷ printed_mask m)) ≡ Some (dotted_address n, printed_mask m) = text_is_split_at_first_failing_byte is_digit_or_dot 47 (dotted_address n) (printed_mask m) refl (dotted_address_passes_test_of_its_bytes is_digit_or_dot digit_is_digit_or_dot refl n h) in
+    let split : parts_around_first_byte 47 (dotted_address n ++ (47 ∷ printed_mask_without_slash m)) ≡ Some (dotted_address n, printed_mask_without_slash m) = text_is_split_at_first_failing_byte is_digit_or_dot 47 (dotted_address n) (printed_mask_without_slash m) refl (dotted_address_passes_test_of_its_bytes is_digit_or_dot digit_is_digit_or_dot refl n h) in
     let address : ipv4_number_of_text (dotted_address n) ≡ Some n = number_of_dotted_address_is_read_back n h in
-    let own : network_mask_of_text (printed_mask m) ≡ Some m = printed_mask_is_read_back m is in
+    let own : network_mask_of_text (printed_mask_without_slash m) ≡ Some m = printed_mask_is_read_back m is in
     rw split (rw address (rw own refl))
 
-pub network_token_is_read_back : (n : ℕ) (m : Mask) → IsAddressNumber n → IsWritableMask m → host_atom_of_token kind.Word (dotted_address n ++ (47 ∷ printed_mask m)) ≡ Some (atom.Network (record { number = n }) m)
+pub network_token_is_read_back : (n : ℕ) (m : Mask) → IsIpv4AddressNumber n → IsWritableMask m → host_atom_of_token kind.Word (dotted_address n ++ (47 ∷ printed_mask_without_slash m)) ≡ Some (atom.Network (record { number = n }) m)
 network_token_is_read_back n m h is =
-    let text = dotted_address n ++ (47 ∷ printed_mask m) in
-    let slashes : list_all is_digit_dot_or_slash text ≡ true = appended_texts_pass_test is_digit_dot_or_slash (dotted_address n) (47 ∷ printed_mask m) (dotted_address_passes_test_of_its_bytes is_digit_dot_or_slash digit_is_digit_dot_or_slash refl n h) (printed_mask_is_digits_dots_slashes m is) in
-    let slashed : is_network_like_text text ≡ true = both (list_all is_digit_dot_or_slash text) (has_byte 47 text) slashes (text_around_slash_has_slash (dotted_address n) (printed_mask m)) in
-    let numbers : BeginsWithDigitWithoutBackslash text = dotted_address_text_begins_with_digit n h (47 ∷ printed_mask m) (words_of text slashes) in
-    numeric_token_is_address_or_host text numbers ∙ ap (address_network_or_host_atom text) (dotted_address_with_slash_is_no_address n h (printed_mask m))
+    let text = dotted_address n ++ (47 ∷ printed_mask_without_slash m) in
+    let slashes : list_all is_digit_dot_or_slash text ≡ true = appended_texts_pass_test is_digit_dot_or_slash (dotted_address n) (47 ∷ printed_mask_without_slash m) (dotted_address_passes_test_of_its_bytes is_digit_dot_or_slash digit_is_digit_dot_or_slash refl n h) (printed_mask_is_digits_dots_slashes m is) in
+    let slashed : is_network_like_text text ≡ true = both (list_all is_digit_dot_or_slash text) (has_byte 47 text) slashes (text_around_slash_has_slash (dotted_address n) (printed_mask_without_slash m)) in
+    let numbers : BeginsWithDigitWithoutBackslash text = dotted_address_text_begins_with_digit n h (47 ∷ printed_mask_without_slash m) (words_of text slashes) in
+    numeric_token_is_address_or_host text numbers ∙ ap (address_network_or_host_atom text) (dotted_address_with_slash_is_no_address n h (printed_mask_without_slash m))
     ∙ ap (λ (t : Bool). if t then network_atom_of_text text else Some (atom.Host text)) slashed ∙ network_text_is_read_back n m h is
   where
     both : (x y : Bool) → x ≡ true → y ≡ true → (x && y) ≡ true

@@ -1,8 +1,8 @@
 -- Hosts as they are written are tokens of a line.
 use Rattle.laws_print.proofs.Common.{◌≡◌, ◌≢◌, ℕ, ◌/◌, ◌%◌, ◌≤◌, ◌<◌, Bool, true, false, List, [], ◌∷◌, ◌++◌, length, refl, ap, ◌∙◌, arith, ◌==◌}
 use Rattle.laws_print.proofs.Common.{if◌then◌else◌, codes, nat_le, list_all, and_parts, length-append, append_assoc, TokenContext, LineUnit, Pair, Byte}
-use Rattle.laws_print.proofs.Common.{is_digit, is_word_byte, token_forms_in_context, token_forms_in_word_lists, Atom, Mask, HostName, id_limit, dotted_address, printed_mask, is_read_as_host_name}
-use Rattle.laws_print.proofs.Common.{is_writable_pattern, IsAddressNumber, IsWritableMask, IsWritableHostAtom, text_of_units, IsTokenCut, AreWrittenUnitsOf, escaped_pattern_units, units_of_pattern}
+use Rattle.laws_print.proofs.Common.{is_digit, is_word_byte, token_forms_in_context, token_forms_in_word_lists, Atom, Mask, HostName, id_limit, dotted_address, printed_mask_without_slash, is_read_as_host_name}
+use Rattle.laws_print.proofs.Common.{is_writable_pattern, IsIpv4AddressNumber, IsWritableMask, IsWritableHostAtom, text_of_units, IsTokenCut, AreWrittenUnitsOf, escaped_pattern_units, units_of_pattern}
 use Rattle.std.specs.Fmt.{decimal}
 use Rattle.sudoers_text.specs.declared.token.TokenKind.TheVariants as kind
 use Rattle.sudoers_grammar.specs.declared.node.Atom.TheVariants as atom
@@ -53,7 +53,7 @@ pub record HasAddressOctets (n : ℕ) : Type 0 where
   pub third : n / 256 % 256 < 256
   pub fourth : n % 256 < 256
 
-pub address_number_has_octets : (n : ℕ) → IsAddressNumber n → HasAddressOctets n
+pub address_number_has_octets : (n : ℕ) → IsIpv4AddressNumber n → HasAddressOctets n
 address_number_has_octets n h = record { first = omega arith; second = omega arith; third = omega arith; fourth = omega arith }
 
 -- three parts, each before a dot, and what follows
@@ -66,7 +66,7 @@ dotted_address_is_text_of_octets n = dotted_parts (decimal (n / 16777216)) (deci
     dotted_parts : (a b c d : List ℕ) → a ++ codes "." ++ b ++ codes "." ++ c ++ codes "." ++ d ≡ a ++ (46 ∷ (b ++ (46 ∷ (c ++ (46 ∷ d)))))
     dotted_parts a b c d = simp append_assoc
 
-pub dotted_address_is_word_bytes : (n : ℕ) → IsAddressNumber n → list_all is_word_byte (dotted_address n) ≡ true
+pub dotted_address_is_word_bytes : (n : ℕ) → IsIpv4AddressNumber n → list_all is_word_byte (dotted_address n) ≡ true
 dotted_address_is_word_bytes n h =
     let parts = address_number_has_octets n h in
     let fourth = decimal_is_word_bytes (n % 256) (omega (arith, parts.fourth)) in
@@ -78,12 +78,12 @@ dotted_address_is_word_bytes n h =
 pub dotted_address_is_not_empty : (n : ℕ) → 0 < length (dotted_address n)
 dotted_address_is_not_empty n = omega (arith, ap length (dotted_address_is_text_of_octets n), length-append (decimal (n / 16777216)) (46 ∷ (decimal (n / 65536 % 256) ++ (46 ∷ (decimal (n / 256 % 256) ++ (46 ∷ decimal (n % 256)))))))
 
-printed_mask_is_word_bytes : (m : Mask) → IsWritableMask m → list_all is_word_byte (printed_mask m) ≡ true
+printed_mask_is_word_bytes : (m : Mask) → IsWritableMask m → list_all is_word_byte (printed_mask_without_slash m) ≡ true
 printed_mask_is_word_bytes (mask.Bits bits) h = decimal_is_word_bytes bits (omega arith)
 printed_mask_is_word_bytes (mask.Dotted a) h = dotted_address_is_word_bytes a.number h
 
-pub printed_network_is_address_slash_mask : (n : ℕ) (m : Mask) → dotted_address n ++ codes "/" ++ printed_mask m ≡ dotted_address n ++ (47 ∷ printed_mask m)
-printed_network_is_address_slash_mask n m = append_assoc (dotted_address n) (47 ∷ []) (printed_mask m)
+pub printed_network_is_address_slash_mask : (n : ℕ) (m : Mask) → dotted_address n ++ codes "/" ++ printed_mask_without_slash m ≡ dotted_address n ++ (47 ∷ printed_mask_without_slash m)
+printed_network_is_address_slash_mask n m = append_assoc (dotted_address n) (47 ∷ []) (printed_mask_without_slash m)
 
 -- ---- names
 
@@ -151,7 +151,7 @@ writable_host_is_cut here item (atom.Host p) rest words is ends = let fits = hos
 writable_host_is_cut here item (atom.Address a) rest words is ends = word_bytes_are_cut_as_word here item (dotted_address a.number) rest words (dotted_address_is_not_empty a.number) (dotted_address_is_word_bytes a.number is) ends
 writable_host_is_cut here item (atom.Network a m) rest words is ends =
     let split = printed_network_is_address_slash_mask a.number m in
-    word_bytes_are_cut_as_word here item (dotted_address a.number ++ codes "/" ++ printed_mask m) rest words
-    (omega (arith, dotted_address_is_not_empty a.number, ap length split, length-append (dotted_address a.number) (47 ∷ printed_mask m)))
-    (ap (list_all is_word_byte) split ∙ appended_texts_pass_test is_word_byte (dotted_address a.number) (47 ∷ printed_mask m) (dotted_address_is_word_bytes a.number is.0) (printed_mask_is_word_bytes m is.1)) ends
+    word_bytes_are_cut_as_word here item (dotted_address a.number ++ codes "/" ++ printed_mask_without_slash m) rest words
+    (omega (arith, dotted_address_is_not_empty a.number, ap length split, length-append (dotted_address a.number) (47 ∷ printed_mask_without_slash m)))
+    (ap (list_all is_word_byte) split ∙ appended_texts_pass_test is_word_byte (dotted_address a.number) (47 ∷ printed_mask_without_slash m) (dotted_address_is_word_bytes a.number is.0) (printed_mask_is_word_bytes m is.1)) ends
 writable_host_is_cut here item a rest words is ends = absurd is

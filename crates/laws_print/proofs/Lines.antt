@@ -1,7 +1,7 @@
 -- The tokens of a line that is written token by token.
 use Rattle.laws_print.proofs.Common.{◌≡◌, ℕ, zero, suc, ◌+◌, ◌≤◌, Bool, true, false, List, [], ◌∷◌, ◌++◌, length, take, drop, refl, sym, ap, subst, ◌∙◌}
 use Rattle.laws_print.proofs.Common.{arith, if◌then◌else◌, length-append, append_assoc, drop_at, take_at, TokenKind, Token, Mode, TokenContext, LineUnit}
-use Rattle.laws_print.proofs.Common.{is_id_position_after_units, bytes_after_leading_gap, leading_run_size, units_with_those_of_bytes, units_left_of_place, is_line_end_or_empty, token_forms_in_context, context_after_token, tokens_of_line, WrittenToken, text_of_units, gap_bytes_if_spaced, line_of_written_tokens}
+use Rattle.laws_print.proofs.Common.{is_id_position_after_units, bytes_of_units_after_leading_gap, leading_run_size, units_with_those_of_bytes, units_left_of_place, is_line_end_or_empty, token_forms_in_context, context_after_token, tokens_of_line, WrittenToken, text_of_units, gap_bytes_if_spaced, line_of_written_tokens}
 use Rattle.laws_print.proofs.Common.{tokens_placed_from_offset, IsClosedText, TokenPlace, At, Start, BehindDefaults, StandsAtPlace, AllowsGapAtPlace, AreTokensCut, AreTokensCutFromPlace}
 use Rattle.sudoers_text.specs.declared.part.ByteRunKind.TheVariants as rule
 use Rattle.sudoers_text.specs.declared.context.TokenContext.TheVariants as context
@@ -100,7 +100,7 @@ tokens_from_offset_are_placed (p ∷ ps) (suc n) here item line front at fits is
     let token : kind_and_size_after_units (token_forms_in_context here) (units_left_of_place line start) (drop start line) ≡ (p.kind, size) =
     ap (λ (us : List LineUnit). kind_and_size_after_units (token_forms_in_context here) us (drop start line)) left
     ∙ ap (λ (bytes : List ℕ). kind_and_size_after_units (token_forms_in_context here) (units_with_those_of_bytes (units_with_those_of_bytes [] front) g) bytes) body
-    ∙ cut.1.found (is_id_position_after_units (units_with_those_of_bytes (units_with_those_of_bytes [] front) g)) (is_empty (bytes_after_leading_gap (units_with_those_of_bytes (units_with_those_of_bytes [] front) g))) (place_allows_its_id_position item (units_with_those_of_bytes (units_with_those_of_bytes [] front) g) item_there) in
+    ∙ cut.1.found (is_id_position_after_units (units_with_those_of_bytes (units_with_those_of_bytes [] front) g)) (is_empty (bytes_of_units_after_leading_gap (units_with_those_of_bytes (units_with_those_of_bytes [] front) g))) (place_allows_its_id_position item (units_with_those_of_bytes (units_with_those_of_bytes [] front) g) item_there) in
     let more : is_line_end_or_empty (drop start line) ≡ false = ap is_line_end_or_empty body ∙ cut.1.more in
     let taken : take size (drop start line) ≡ text = ap (take size) body ∙ take_at text rest size refl in
     let dropped : drop size (drop start line) ≡ rest = ap (drop size) body ∙ drop_at text rest size refl in

@@ -3,7 +3,7 @@ use Rattle.laws_print.proofs.Common.{◌≡◌, ℕ, Bool, true, false, List, []
 use Rattle.laws_print.proofs.Common.{context_after_token, token_forms_in_word_lists, Kind, User, Runas, Cmnd, Atom, Member, IsMemberWithoutDigests, WrittenToken, text_of_units, line_of_written_tokens, IsTokenCut, AreTokensCut}
 use Rattle.sudoers_text.specs.declared.token.TokenKind.TheVariants as kind
 use Rattle.sudoers_text.specs.declared.context.TokenContext.TheVariants as context
-use Rattle.sudoers_text.specs.declared.context.ScopeMemberKind.TheVariants as scope
+use Rattle.sudoers_text.specs.declared.context.ScopeNamesOrCommands.TheVariants as scope
 use Rattle.sudoers_grammar.specs.declared.node.Kind.TheVariants.{Host}
 use Rattle.sudoers_grammar.specs.declared.node.Atom.TheVariants as atom
 use Rattle.laws_print.proofs.ListTokens.{token_kind_of_atom, units_of_user_atom, units_of_list_atom, IsAtomOfListKind, token_of_list_atom, tokens_of_list_member, tokens_of_further_members, tokens_of_member_list}

@@ -1,6 +1,6 @@
 -- Lists of users, runas users and hosts, token by token: a device of the laws.
 use Rattle.laws_print.proofs.Common.{ℕ, Bool, true, false, List, [], ◌∷◌, ◌++◌, codes, if◌then◌else◌, TokenKind, LineUnit, Pair, Byte, Kind, User}
-use Rattle.laws_print.proofs.Common.{Runas, Cmnd, Atom, Member, HostName, dotted_address, printed_mask, is_read_as_host_name, is_read_as_special_word, IsWritableUserAtom, IsWritableHostAtom, WrittenToken}
+use Rattle.laws_print.proofs.Common.{Runas, Cmnd, Atom, Member, HostName, dotted_address, printed_mask_without_slash, is_read_as_host_name, is_read_as_other_than_user_name, IsWritableUserAtom, IsWritableHostAtom, WrittenToken}
 use Rattle.laws_print.proofs.Common.{units_of_spelled_word, escaped_pattern_units, units_of_pattern}
 use Rattle.std.specs.Fmt.{decimal}
 use Rattle.sudoers_text.specs.declared.token.TokenKind.TheVariants as kind
@@ -17,7 +17,7 @@ token_of_plain_word text spaced = record { kind = kind.Word; units = units_of_pl
 
 abbrev pub units_of_user_name : Bool → List ℕ → List LineUnit
 units_of_user_name first [] = []
-units_of_user_name first (b ∷ name) = if is_read_as_special_word first (spelled_word (b ∷ name)) then Pair b ∷ units_of_spelled_word name else units_of_spelled_word (b ∷ name)
+units_of_user_name first (b ∷ name) = if is_read_as_other_than_user_name first (spelled_word (b ∷ name)) then Pair b ∷ units_of_spelled_word name else units_of_spelled_word (b ∷ name)
 
 abbrev pub token_kind_of_atom : Atom → TokenKind
 token_kind_of_atom (atom.Id n) = kind.Id
@@ -52,7 +52,7 @@ units_of_host_atom (atom.Alias name) = units_of_plain_bytes name
 units_of_host_atom (atom.Netgroup name) = Byte 43 ∷ units_of_plain_bytes name
 units_of_host_atom (atom.Host pattern) = units_of_host_name pattern
 units_of_host_atom (atom.Address a) = units_of_plain_bytes (dotted_address a.number)
-units_of_host_atom (atom.Network a m) = units_of_plain_bytes (dotted_address a.number ++ codes "/" ++ printed_mask m)
+units_of_host_atom (atom.Network a m) = units_of_plain_bytes (dotted_address a.number ++ codes "/" ++ printed_mask_without_slash m)
 units_of_host_atom a = []
 
 abbrev pub units_of_list_atom : Kind → Bool → Atom → List LineUnit

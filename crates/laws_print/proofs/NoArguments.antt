@@ -4,11 +4,11 @@ use Rattle.laws_print.proofs.Common.{arith, inl, inr, if◌then◌else◌, codes
 use Rattle.laws_print.proofs.Common.{TokenContext, LineUnit, TokenForm, kind_of_form, has_host_or_runas_sign, forms_of_first_token, token_forms_in_word_lists, token_forms_in_context, is_kind_of_list_member, context_after_parameter_token}
 use Rattle.laws_print.proofs.Common.{context_after_token, line_mode, is_among, include_words, IsTokenOfKindAndSize, AreTokensFrom, HasTokens, units_left_of_place, Kind, User, Runas, Cmnd}
 use Rattle.laws_print.proofs.Common.{Atom, Member, Scope, Digest, TokenWithBytes, tokens_with_bytes, is_arg, is_given_word, is_a_word, command_atom_of_tokens, IsArg, IsMember}
-use Rattle.laws_print.proofs.Common.{IsDigest, Perhaps, IsScopeList, PerhapsScope, is_defaults, Many, MarkThenRule, Separated, ReadsScopeCommand}
+use Rattle.laws_print.proofs.Common.{IsDigest, Perhaps, IsScopeMemberList, PerhapsScope, is_defaults, Many, MarkThenRule, Separated, ReadsScopeCommand}
 use Rattle.laws_print.proofs.Common.{IsWritableUserMember, IsWritableHostMember, IsScopeCommandAtom, IsScopeCommandMember, IsWritableScopeMember, IsNonEmptyListOf, IsWritableScope}
 use Rattle.sudoers_text.specs.declared.token.TokenKind.TheVariants as kind
 use Rattle.sudoers_text.specs.declared.token.Mode.TheVariants as mode
-use Rattle.sudoers_text.specs.declared.context.ScopeMemberKind.TheVariants as scope
+use Rattle.sudoers_text.specs.declared.context.ScopeNamesOrCommands.TheVariants as scope
 use Rattle.sudoers_text.specs.declared.context.TokenContext.TheVariants as context
 use Rattle.sudoers_text.specs.Part.{has_given_first_byte}
 use Rattle.sudoers_text.specs.Context.{is_given_punct_token, is_word_kind}
@@ -145,7 +145,7 @@ scope_commands_of_given_tokens_are_writable ts (m ∷ ms) rest both are =
     let more = scope_commands_of_given_tokens_are_writable are.0 ms rest one.1 are.2 in
     ((one.0, more.0), more.1)
 
-scope_list_of_given_tokens_is_writable : (k : Kind) (ts : List TokenWithBytes) (ms : List Member) (rest : List TokenWithBytes) → AreGivenWithoutArgs ts → IsScopeList k ts ms rest → IsNonEmptyListOf (IsWritableScopeMember k) ms × AreGivenTokens rest
+scope_list_of_given_tokens_is_writable : (k : Kind) (ts : List TokenWithBytes) (ms : List Member) (rest : List TokenWithBytes) → AreGivenWithoutArgs ts → IsScopeMemberList k ts ms rest → IsNonEmptyListOf (IsWritableScopeMember k) ms × AreGivenTokens rest
 scope_list_of_given_tokens_is_writable User ts ms rest both are = separated_rule_reads_only_writable 44 (IsMember User) IsWritableUserMember user_member_rule_reads_only_writable ts ms rest both.0 are
 scope_list_of_given_tokens_is_writable Runas ts ms rest both are = separated_rule_reads_only_writable 44 (IsMember Runas) IsWritableUserMember runas_member_rule_reads_only_writable ts ms rest both.0 are
 scope_list_of_given_tokens_is_writable Host ts ms rest both are = separated_rule_reads_only_writable 44 (IsMember Host) IsWritableHostMember host_member_rule_reads_only_writable ts ms rest both.0 are

@@ -2,7 +2,7 @@
 use Rattle.laws_print.proofs.Common.{◌≡◌, ◌≢◌, ℕ, suc, ◌+◌, ◌<◌, Bool, true, false, ◌||◌, not, List, [], ◌∷◌, ◌++◌, length, drop, Some, refl, sym, ap}
 use Rattle.laws_print.proofs.Common.{subst, ◌∙◌, arith, append-nil, ◌==◌, if◌then◌else◌, nat_lt, list_all, append_assoc, length-append, drop_at}
 use Rattle.laws_print.proofs.Common.{and_parts, nat_tests, TokenContext, LineUnit, Pair, Quoted, Byte, is_id_position_after_units, size_of_one_matching_byte, reach_of_units, leading_run_size, run_unit_size}
-use Rattle.laws_print.proofs.Common.{quoted_run_size, closed_quote_size, is_byte_of_include_path, is_word_byte, is_byte_of_parameter_name, units_with_those_of_bytes, is_line_end_or_empty, token_forms_in_context, context_after_token}
+use Rattle.laws_print.proofs.Common.{quotes_and_run_between_size, closed_quote_size, is_byte_of_include_path, is_word_byte, is_byte_of_parameter_name, units_with_those_of_bytes, is_line_end_or_empty, token_forms_in_context, context_after_token}
 use Rattle.laws_print.proofs.Common.{token_forms_of_parameters, TokenForm, Mark, Run, CommentPart, kind_and_size_of_token, is_control, defaults_operator_mark, is_byte_without_quotes, is_value_without_quotes}
 use Rattle.laws_print.proofs.Common.{is_quotable_value, text_of_units, IsClosedText, IsTokenCut, HasNoNul, AreWrittenUnitsOf, units_of_spelled_word}
 use Rattle.sudoers_text.specs.declared.part.ByteRunKind.TheVariants as rule
@@ -89,7 +89,7 @@ abbrev pub EndsParameterValue : List ℕ → Type 0
 EndsParameterValue rest = size_of_matching_byte_or_pair is_value_byte rest ≡ 0
 
 pub other_byte_begins_no_closed_quote : (b : ℕ) (rest : List ℕ) → (b == 34) ≡ false → closed_quote_size (b ∷ rest) ≡ 0
-unfolding quoted_run_size
+unfolding quotes_and_run_between_size
 other_byte_begins_no_closed_quote b rest h = rw h refl
 
 -- how a value begins
@@ -182,7 +182,7 @@ value_with_closing_quote_is_regrouped : (value rest : List ℕ) → (value ++ 34
 value_with_closing_quote_is_regrouped value rest = append_assoc value (34 ∷ []) rest
 
 closed_quote_size_is_length_plus_two : (value rest : List ℕ) → list_all is_byte_plain_in_quotes value ≡ true → closed_quote_size (34 ∷ (value ++ (34 ∷ rest))) ≡ length value + 2
-unfolding quoted_run_size leading_run_size
+unfolding quotes_and_run_between_size leading_run_size
 closed_quote_size_is_length_plus_two value rest all =
     let size : reach_of_units (run_unit_size rule.Quote) 0 (value ++ (34 ∷ rest)) ≡ length value = quoted_run_reaches_whole_value value rest all in
     let ends : drop (length value) (value ++ (34 ∷ rest)) ≡ 34 ∷ rest = drop_at value (34 ∷ rest) (length value) refl in

@@ -1,6 +1,6 @@
 -- The list of parameters of a Defaults line as it is written is tokens of the line.
 use Rattle.laws_print.proofs.Common.{◌≡◌, ◌≢◌, ℕ, Bool, true, false, List, [], ◌∷◌, Some, None, refl, sym, ap, subst, Option, AllByRecursion, list_all}
-use Rattle.laws_print.proofs.Common.{TokenContext, ScopeMemberKind, size_of_one_matching_byte, is_byte_of_parameter_name, token_forms_in_context, context_after_token, token_forms_of_parameters, TokenForm, kind_and_size_of_token, Setting, Param, IsNonEmptyListOf}
+use Rattle.laws_print.proofs.Common.{TokenContext, ScopeNamesOrCommands, size_of_one_matching_byte, is_byte_of_parameter_name, token_forms_in_context, context_after_token, token_forms_of_parameters, TokenForm, kind_and_size_of_token, Setting, Param, IsNonEmptyListOf}
 use Rattle.laws_print.proofs.Common.{IsWritableParam, WrittenToken, text_of_units, line_of_written_tokens, AreTokensCut}
 use Rattle.sudoers_text.specs.declared.token.TokenKind.TheVariants as kind
 use Rattle.sudoers_text.specs.declared.context.TokenContext.TheVariants as context
@@ -18,7 +18,7 @@ pub record IsParameterContext (here : TokenContext) : Type 0 where
 pub parameter_context_is_one : IsParameterContext context.Parameter
 parameter_context_is_one = record { params = refl; name = λ text rest. refl; sign = λ rest. refl }
 
-pub context_behind_scope_member_takes_parameters : (list : ScopeMemberKind) → IsParameterContext (context.BehindMember list)
+pub context_behind_scope_member_takes_parameters : (list : ScopeNamesOrCommands) → IsParameterContext (context.BehindMember list)
 context_behind_scope_member_takes_parameters list = record { params = refl; name = λ text rest. refl; sign = λ rest. refl }
 
 -- What follows a parameter.

@@ -4,11 +4,11 @@ use Rattle.std.specs.List.{AllByRecursion}
 use Rattle.sudoers_text.specs.Unit.{LineUnit, Pair, Byte}
 use Rattle.sudoers_grammar.specs.declared.pattern.PatternSpelling.{PatternSpelling}
 use Rattle.sudoers_grammar.specs.Pattern.{is_dropped_backslash_before}
-use Rattle.laws_print.specs.Writable.{is_unescaped_pattern_byte, is_backslash_kept_before}
+use Rattle.laws_print.specs.Writable.{is_pattern_byte_but_backslash, is_backslash_kept_before}
 
 -- a byte, or a backslash and a byte that keeps it
 abbrev pub is_pattern_unit : PatternSpelling → LineUnit → Bool
-is_pattern_unit s (Byte b) = is_unescaped_pattern_byte b
+is_pattern_unit s (Byte b) = is_pattern_byte_but_backslash b
 is_pattern_unit s (Pair c) = is_backslash_kept_before s c
 is_pattern_unit s u = false
 

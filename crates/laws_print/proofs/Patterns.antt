@@ -2,7 +2,7 @@
 use Rattle.laws_print.proofs.Common.{◌≡◌, ℕ, Bool, true, false, ◌&&◌, ◌||◌, List, [], ◌∷◌, ◌++◌, refl, sym, ap, ◌∙◌, append-nil, ◌==◌, if◌then◌else◌, not}
 use Rattle.laws_print.proofs.Common.{append_assoc, not-true, or_parts, and_parts, eqb-true, LineUnit, Pair, Byte, bytes_of_unit, is_path_byte}
 use Rattle.laws_print.proofs.Common.{is_word_byte, PatternSpelling, Command, QuotedHost, is_escaped_for_policy_alone, is_dropped_backslash_before, pattern_of_kept_pair, pattern_of_remaining_bytes, pattern_of_text}
-use Rattle.laws_print.proofs.Common.{has_last_byte, has_byte, escaped_pattern_byte, is_unescaped_pattern_byte, is_backslash_kept_before, is_writable_pattern, text_of_units, is_written_unit, AreWrittenUnitsOf}
+use Rattle.laws_print.proofs.Common.{has_last_byte, has_byte, escaped_pattern_byte, is_pattern_byte_but_backslash, is_backslash_kept_before, is_writable_pattern, text_of_units, is_written_unit, AreWrittenUnitsOf}
 use Rattle.laws_print.proofs.Common.{is_pattern_unit, ArePatternUnits, escaped_pattern_unit, escaped_pattern_units, units_of_pattern}
 use Rattle.sudoers_grammar.specs.declared.pattern.PatternSpelling.TheVariants.{Host}
 use Rattle.sudoers_grammar.specs.Pattern.{pattern_of_byte}
@@ -52,7 +52,7 @@ pub record IsBytePlainInPattern (b : ℕ) : Type 0 where
   pub cr : (b == 13) ≡ false
   pub backslash : (b == 92) ≡ false
 
-pub unescaped_pattern_byte_is_plain_one : (b : ℕ) → is_unescaped_pattern_byte b ≡ true → IsBytePlainInPattern b
+pub unescaped_pattern_byte_is_plain_one : (b : ℕ) → is_pattern_byte_but_backslash b ≡ true → IsBytePlainInPattern b
 unescaped_pattern_byte_is_plain_one b h =
     let a = or_parts (b == 0 || b == 10 || b == 13) (b == 92) (not-true _ h) in
     let c = or_parts (b == 0 || b == 10) (b == 13) a.0 in
@@ -133,10 +133,10 @@ units_of_writable_pattern_are_pattern_units s [] h = tt
 units_of_writable_pattern_are_pattern_units s (b ∷ []) h = (h, tt)
 units_of_writable_pattern_are_pattern_units s (b ∷ c ∷ rest) h = by_backslash (b == 92) h (units_of_writable_pattern_are_pattern_units s rest) (units_of_writable_pattern_are_pattern_units s (c ∷ rest))
   where
-    by_backslash : (t : Bool) → (if t then is_backslash_kept_before s c && is_writable_pattern s rest else is_unescaped_pattern_byte b && is_writable_pattern s (c ∷ rest)) ≡ true → (is_writable_pattern s rest ≡ true → ArePatternUnits s (units_of_pattern rest))
+    by_backslash : (t : Bool) → (if t then is_backslash_kept_before s c && is_writable_pattern s rest else is_pattern_byte_but_backslash b && is_writable_pattern s (c ∷ rest)) ≡ true → (is_writable_pattern s rest ≡ true → ArePatternUnits s (units_of_pattern rest))
         → (is_writable_pattern s (c ∷ rest) ≡ true → ArePatternUnits s (units_of_pattern (c ∷ rest))) → ArePatternUnits s (if t then Pair c ∷ units_of_pattern rest else Byte b ∷ units_of_pattern (c ∷ rest))
     by_backslash true h pair byte = let parts = and_parts (is_backslash_kept_before s c) (is_writable_pattern s rest) h in (parts.0, pair parts.1)
-    by_backslash false h pair byte = let parts = and_parts (is_unescaped_pattern_byte b) (is_writable_pattern s (c ∷ rest)) h in (parts.0, byte parts.1)
+    by_backslash false h pair byte = let parts = and_parts (is_pattern_byte_but_backslash b) (is_writable_pattern s (c ∷ rest)) h in (parts.0, byte parts.1)
 
 pub bytes_of_escaped_unit_are_escaped_byte : (s : PatternSpelling) (b : ℕ) → bytes_of_unit (escaped_pattern_unit s (Byte b)) ≡ escaped_pattern_byte s b
 bytes_of_escaped_unit_are_escaped_byte s b = by_escape (is_dropped_backslash_before s b)
@@ -154,7 +154,7 @@ text_of_escaped_units_is_escaped_pattern s [] h = refl
 text_of_escaped_units_is_escaped_pattern s (b ∷ []) h = ap (λ (t : List ℕ). t ++ []) (bytes_of_escaped_unit_are_escaped_byte s b)
 text_of_escaped_units_is_escaped_pattern s (b ∷ c ∷ rest) h = by_backslash (b == 92) refl h (text_of_escaped_units_is_escaped_pattern s rest) (text_of_escaped_units_is_escaped_pattern s (c ∷ rest))
   where
-    by_backslash : (t : Bool) → (b == 92) ≡ t → (if t then is_backslash_kept_before s c && is_writable_pattern s rest else is_unescaped_pattern_byte b && is_writable_pattern s (c ∷ rest)) ≡ true → (is_writable_pattern s rest ≡ true → text_of_units (escaped_pattern_units s (units_of_pattern rest)) ≡ escaped_pattern s rest)
+    by_backslash : (t : Bool) → (b == 92) ≡ t → (if t then is_backslash_kept_before s c && is_writable_pattern s rest else is_pattern_byte_but_backslash b && is_writable_pattern s (c ∷ rest)) ≡ true → (is_writable_pattern s rest ≡ true → text_of_units (escaped_pattern_units s (units_of_pattern rest)) ≡ escaped_pattern s rest)
         → (is_writable_pattern s (c ∷ rest) ≡ true → text_of_units (escaped_pattern_units s (units_of_pattern (c ∷ rest))) ≡ escaped_pattern s (c ∷ rest)) → text_of_units (escaped_pattern_units s (if t then Pair c ∷ units_of_pattern rest else Byte b ∷ units_of_pattern (c ∷ rest))) ≡ escaped_pattern s (b ∷ c ∷ rest)
     by_backslash true e h pair byte =
         let parts = and_parts (is_backslash_kept_before s c) (is_writable_pattern s rest) h in
@@ -163,7 +163,7 @@ text_of_escaped_units_is_escaped_pattern s (b ∷ c ∷ rest) h = by_backslash (
         ∙ ap (λ (t : List ℕ). t ++ (escaped_pattern_byte s c ++ escaped_pattern s rest)) (sym (byte_with_kept_backslash_needs_no_escape s 92 (backslash_before_backslash_is_kept s)))
         ∙ ap (λ (d : ℕ). escaped_pattern_byte s d ++ (escaped_pattern_byte s c ++ escaped_pattern s rest)) (sym (eqb-true b 92 e))
     by_backslash false e h pair byte =
-        let parts = and_parts (is_unescaped_pattern_byte b) (is_writable_pattern s (c ∷ rest)) h in
+        let parts = and_parts (is_pattern_byte_but_backslash b) (is_writable_pattern s (c ∷ rest)) h in
         ap (λ (t : List ℕ). t ++ text_of_units (escaped_pattern_units s (units_of_pattern (c ∷ rest)))) (bytes_of_escaped_unit_are_escaped_byte s b) ∙ ap (λ (t : List ℕ). escaped_pattern_byte s b ++ t) (byte parts.1)
 
 -- A pattern that is printed is read as it is.
@@ -200,19 +200,19 @@ last_byte_of_escaped_pattern_is_same s a (b ∷ c ∷ rest) =
 -- ---- where they fit
 
 -- a byte without a backslash in a command
-unescaped_command_byte_is_path_byte : (b : ℕ) → is_unescaped_pattern_byte b ≡ true → is_escaped_for_policy_alone b ≡ false → is_path_byte b ≡ true
+unescaped_command_byte_is_path_byte : (b : ℕ) → is_pattern_byte_but_backslash b ≡ true → is_escaped_for_policy_alone b ≡ false → is_path_byte b ≡ true
 unescaped_command_byte_is_path_byte b h e =
-    let test : ℕ → Bool = λ x. is_unescaped_pattern_byte x && not (is_escaped_for_policy_alone x) in
+    let test : ℕ → Bool = λ x. is_pattern_byte_but_backslash x && not (is_escaped_for_policy_alone x) in
     let both : test b ≡ true = and_from _ _ h (ap not e) in
     rw (plain_test_byte_is_include_path_byte test refl b both, passing_byte_differs_from_failing_byte test 61 b both refl, passing_byte_differs_from_failing_byte test 44 b both refl, passing_byte_differs_from_failing_byte test 58 b both refl) refl
 
 -- a byte without a backslash in a host
-unescaped_host_byte_is_word_byte : (b : ℕ) → is_unescaped_pattern_byte b ≡ true → is_dropped_backslash_before Host b ≡ false → is_word_byte b ≡ true
-unescaped_host_byte_is_word_byte b h e = word_test_byte_is_word_byte (λ x. is_unescaped_pattern_byte x && not (is_dropped_backslash_before Host x)) refl b (and_from _ _ h (ap not e))
+unescaped_host_byte_is_word_byte : (b : ℕ) → is_pattern_byte_but_backslash b ≡ true → is_dropped_backslash_before Host b ≡ false → is_word_byte b ≡ true
+unescaped_host_byte_is_word_byte b h e = word_test_byte_is_word_byte (λ x. is_pattern_byte_but_backslash x && not (is_dropped_backslash_before Host x)) refl b (and_from _ _ h (ap not e))
 
 -- Bytes that need no backslash pass the test.
 abbrev pub PassWithoutBackslash : PatternSpelling → (ℕ → Bool) → Type 0
-PassWithoutBackslash s test = (b : ℕ) → is_unescaped_pattern_byte b ≡ true → is_dropped_backslash_before s b ≡ false → test b ≡ true
+PassWithoutBackslash s test = (b : ℕ) → is_pattern_byte_but_backslash b ≡ true → is_dropped_backslash_before s b ≡ false → test b ≡ true
 
 escaped_unit_passes_test : (s : PatternSpelling) (test : ℕ → Bool) → PassWithoutBackslash s test → (u : LineUnit) → is_pattern_unit s u ≡ true → is_written_unit test (escaped_pattern_unit s u) ≡ true
 escaped_unit_passes_test s test bare (Pair c) h = let is = kept_backslash_test_implies_keeping s c h in let nul : (c == 0) ≡ false = is.nul in let lf : (c == 10) ≡ false = is.lf in let cr : (c == 13) ≡ false = is.cr in rw (nul, lf, cr) refl

@@ -1,7 +1,7 @@
 -- The tokens of a command with what stands before it are these as they are printed.
 use Rattle.laws_print.proofs.Common.{◌≡◌, ℕ, Bool, true, false, List, [], ◌∷◌, ◌++◌, Some, None, refl, ap, ◌∙◌, Option, codes, AllByRecursion}
 use Rattle.laws_print.proofs.Common.{append_assoc, Runas, Cmnd, Tag, OptionName, Member, RunasSpec, CmdSpec, printed_member, printed_member_list, option_keyword}
-use Rattle.laws_print.proofs.Common.{printed_tag_or_negated, printed_command, IsWritableUserMember, IsWritableCommandMember, IsWritableRunasSpec, IsWritableCommand, WrittenToken, text_of_units, gap_bytes_if_spaced, line_of_written_tokens}
+use Rattle.laws_print.proofs.Common.{tag_keyword_or_negated, printed_runas_options_tags_and_command, IsWritableUserMember, IsWritableCommandMember, IsWritableRunasSpec, IsWritableCommand, WrittenToken, text_of_units, gap_bytes_if_spaced, line_of_written_tokens}
 use Rattle.sudoers_cvt_spell.specs.Commands.{printed_runas_lists, printed_runas_prefix, printed_option_value, printed_options, printed_tags}
 use Rattle.laws_print.proofs.Units.{units_of_plain_bytes}
 use Rattle.laws_print.proofs.ListTokens.{token_of_mark, tokens_of_member_list}
@@ -14,9 +14,9 @@ use Rattle.laws_print.proofs.PrintedCommands.{text_of_command_member_is_printed}
 text_of_tags_and_command_is_printed : (spaced : Bool) (gs : List (Tag × Bool)) (m : Member) (tail : List WrittenToken) → IsWritableCommandMember m → line_of_written_tokens (tokens_of_tags_and_command spaced gs m tail) ≡ gap_bytes_if_spaced spaced ++ ((printed_tags gs ++ printed_member false Cmnd m) ++ line_of_written_tokens tail)
 text_of_tags_and_command_is_printed spaced [] m tail is = text_of_command_member_is_printed spaced m tail is
 text_of_tags_and_command_is_printed spaced (g ∷ gs) m tail is =
-    ap (λ (t : List ℕ). gap_bytes_if_spaced spaced ++ (text_of_units (units_of_plain_bytes (printed_tag_or_negated g.0 g.1)) ++ (58 ∷ t))) (text_of_tags_and_command_is_printed true gs m tail is)
-    ∙ ap (λ (t : List ℕ). gap_bytes_if_spaced spaced ++ (t ++ (58 ∷ 32 ∷ ((printed_tags gs ++ printed_member false Cmnd m) ++ line_of_written_tokens tail)))) (text_of_plain_units_is_bytes (printed_tag_or_negated g.0 g.1))
-    ∙ ap (λ (t : List ℕ). gap_bytes_if_spaced spaced ++ t) (joined (printed_tag_or_negated g.0 g.1) (printed_tags gs) (printed_member false Cmnd m) (line_of_written_tokens tail))
+    ap (λ (t : List ℕ). gap_bytes_if_spaced spaced ++ (text_of_units (units_of_plain_bytes (tag_keyword_or_negated g.0 g.1)) ++ (58 ∷ t))) (text_of_tags_and_command_is_printed true gs m tail is)
+    ∙ ap (λ (t : List ℕ). gap_bytes_if_spaced spaced ++ (t ++ (58 ∷ 32 ∷ ((printed_tags gs ++ printed_member false Cmnd m) ++ line_of_written_tokens tail)))) (text_of_plain_units_is_bytes (tag_keyword_or_negated g.0 g.1))
+    ∙ ap (λ (t : List ℕ). gap_bytes_if_spaced spaced ++ t) (joined (tag_keyword_or_negated g.0 g.1) (printed_tags gs) (printed_member false Cmnd m) (line_of_written_tokens tail))
   where
     joined : (a b c d : List ℕ) → a ++ (58 ∷ 32 ∷ ((b ++ c) ++ d)) ≡ (((a ++ codes ": ") ++ b) ++ c) ++ d
     joined a b c d = simp append_assoc
@@ -61,5 +61,5 @@ text_of_command_spec_parts_is_printed spaced (Some r) os gs m tail list is =
     joined a b c d e = simp append_assoc
 
 -- A command, before other tokens.
-pub text_of_command_spec_is_printed : (spaced : Bool) (c : CmdSpec) (tail : List WrittenToken) → IsWritableCommand c → line_of_written_tokens (tokens_of_command_spec spaced c.runas c.options c.tags c.member tail) ≡ gap_bytes_if_spaced spaced ++ (printed_command c ++ line_of_written_tokens tail)
+pub text_of_command_spec_is_printed : (spaced : Bool) (c : CmdSpec) (tail : List WrittenToken) → IsWritableCommand c → line_of_written_tokens (tokens_of_command_spec spaced c.runas c.options c.tags c.member tail) ≡ gap_bytes_if_spaced spaced ++ (printed_runas_options_tags_and_command c ++ line_of_written_tokens tail)
 text_of_command_spec_is_printed spaced c tail is = text_of_command_spec_parts_is_printed spaced c.runas c.options c.tags c.member tail is.runas is.member

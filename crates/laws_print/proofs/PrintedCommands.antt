@@ -2,7 +2,7 @@
 use Rattle.laws_print.proofs.Common.{◌≡◌, ℕ, Bool, true, false, ◌&&◌, ◌||◌, not, List, [], ◌∷◌, ◌++◌, refl, sym, ap, ◌∙◌, ◌==◌, if◌then◌else◌, codes}
 use Rattle.laws_print.proofs.Common.{AllByRecursion, join_by, append_assoc, and_parts, or_parts, eqb-true, LineUnit, Pair, Byte, bytes_of_unit, is_blank}
 use Rattle.laws_print.proofs.Common.{Cmnd, Args, Any, Nothing, Pattern, Atom, Digest, Member, Command, escaped_pattern_byte, printed_atom, digest_kind_keyword}
-use Rattle.laws_print.proofs.Common.{printed_digests, negation_sign, printed_member, printed_member_list, is_unescaped_pattern_byte, is_backslash_kept_before, is_writable_pattern, IsWritableArgs}
+use Rattle.laws_print.proofs.Common.{printed_digests, negation_sign, printed_member, printed_member_list, is_pattern_byte_but_backslash, is_backslash_kept_before, is_writable_pattern, IsWritableArgs}
 use Rattle.laws_print.proofs.Common.{IsWritableCommandAtom, IsWritableCommandMember, IsWritableDigestText, WrittenToken, text_of_units, gap_bytes_if_spaced, line_of_written_tokens, escaped_pattern_unit, escaped_pattern_units, units_of_pattern}
 use Rattle.laws_print.proofs.Common.{begins_with_other_than_space, words_with_unit_in_first, argument_words_of_units, tokens_of_argument_words}
 use Rattle.sudoers_grammar.specs.declared.node.Atom.TheVariants as atom
@@ -85,7 +85,7 @@ escaped_argument_words_are_spelled_args [] behind h = refl
 escaped_argument_words_are_spelled_args (b ∷ []) behind h = escaped_words_with_next_byte_are_spelled b [] [] behind refl refl refl
 escaped_argument_words_are_spelled_args (b ∷ c ∷ rest) behind h = by_backslash (b == 92) refl h (escaped_argument_words_are_spelled_args rest) (escaped_argument_words_are_spelled_args (c ∷ rest))
   where
-    by_backslash : (t : Bool) → (b == 92) ≡ t → (if t then is_backslash_kept_before Command c && is_writable_pattern Command rest else is_unescaped_pattern_byte b && is_writable_pattern Command (c ∷ rest)) ≡ true
+    by_backslash : (t : Bool) → (b == 92) ≡ t → (if t then is_backslash_kept_before Command c && is_writable_pattern Command rest else is_pattern_byte_but_backslash b && is_writable_pattern Command (c ∷ rest)) ≡ true
         → ((x : Bool) → is_writable_pattern Command rest ≡ true → text_of_escaped_argument_words (argument_words_of_units x (units_of_pattern rest)) ≡ spelled_command_args x rest)
         → ((x : Bool) → is_writable_pattern Command (c ∷ rest) ≡ true → text_of_escaped_argument_words (argument_words_of_units x (units_of_pattern (c ∷ rest))) ≡ spelled_command_args x (c ∷ rest))
         → text_of_escaped_argument_words (argument_words_of_units behind (if t then Pair c ∷ units_of_pattern rest else Byte b ∷ units_of_pattern (c ∷ rest))) ≡ spelled_command_args behind (b ∷ c ∷ rest)
@@ -93,7 +93,7 @@ escaped_argument_words_are_spelled_args (b ∷ c ∷ rest) behind h = by_backsla
         let parts = and_parts (is_backslash_kept_before Command c) (is_writable_pattern Command rest) h in
         escaped_words_with_next_pair_are_spelled c (units_of_pattern rest) rest behind parts.0 (pair true parts.1) ∙ ap (λ (x : ℕ). spelled_command_args behind (x ∷ c ∷ rest)) (sym (eqb-true b 92 e))
     by_backslash false e h pair byte =
-        let parts = and_parts (is_unescaped_pattern_byte b) (is_writable_pattern Command (c ∷ rest)) h in
+        let parts = and_parts (is_pattern_byte_but_backslash b) (is_writable_pattern Command (c ∷ rest)) h in
         escaped_words_with_next_byte_are_spelled b (units_of_pattern (c ∷ rest)) (c ∷ rest) behind (units_begin_word_where_bytes_do (c ∷ rest)) (byte false parts.1) (byte (not (b == 32)) parts.1)
 
 text_of_arguments_is_printed : (args : Args) (tail : List WrittenToken) → IsWritableArgs args → line_of_written_tokens (tokens_of_arguments args tail) ≡ printed_args args ++ line_of_written_tokens tail

@@ -1,14 +1,14 @@
 -- The tokens of lists of users, runas users and hosts are these lists as they are printed.
 use Rattle.laws_print.proofs.Common.{◌≡◌, ◌≢◌, ℕ, Bool, true, false, ◌&&◌, not, List, [], ◌∷◌, ◌++◌, refl, sym, ap, ◌∙◌, ◌/◌, ◌%◌, if◌then◌else◌, Pair, IsNonEmptyListOf}
 use Rattle.laws_print.proofs.Common.{Kind, User, Runas, Cmnd, Atom, Digest, Member, HostName, host_atom_of_token, is_word_escape_needed, is_control, lower_hex_digit}
-use Rattle.laws_print.proofs.Common.{is_read_as_host_name, is_host_name_atom, is_read_as_special_word, printed_atom, printed_digests, negation_sign, printed_member, printed_member_list, is_writable_pattern}
+use Rattle.laws_print.proofs.Common.{is_read_as_host_name, is_host_name_atom, is_read_as_other_than_user_name, printed_atom, printed_digests, negation_sign, printed_member, printed_member_list, is_writable_pattern}
 use Rattle.laws_print.proofs.Common.{IsWritableUserAtom, IsWritableHostAtom, WrittenToken, text_of_units, gap_bytes_if_spaced, line_of_written_tokens, units_of_spelled_word, escaped_pattern_units, units_of_pattern}
 use Rattle.std.specs.Fmt.{decimal}
 use Rattle.sudoers_text.specs.declared.token.TokenKind.TheVariants as kind
 use Rattle.sudoers_grammar.specs.declared.node.Kind.TheVariants.{Host}
 use Rattle.sudoers_grammar.specs.declared.node.Atom.TheVariants as atom
-use Rattle.sudoers_cvt_spell.specs.Spelling.{spelled_word, escaped_pattern, backslash_guarded_text}
-use Rattle.sudoers_cvt_spell.specs.Hosts.{printed_host}
+use Rattle.sudoers_cvt_spell.specs.Spelling.{spelled_word, escaped_pattern, text_with_backslash_if_misread}
+use Rattle.sudoers_cvt_spell.specs.Hosts.{printed_host_name_pattern}
 use Rattle.sudoers_cvt_spell.specs.Members.{printed_user_name, printed_netgroup}
 use Rattle.laws_print.proofs.ListTokens.{units_of_user_name, units_of_user_atom, units_with_leading_backslash, units_of_host_name, units_of_host_atom, units_of_list_atom, IsAtomOfListKind, tokens_of_list_member, tokens_of_member_list}
 use Rattle.laws_print.proofs.ListTokens.{tokens_of_member}
@@ -24,33 +24,33 @@ use Rattle.std.proofs.lemmas.Bool.{and_right}
 -- ---- names
 
 -- A word that would be read as something else begins with its first byte.
-special_spelled_word_begins_with_its_byte : (first : Bool) (b : ℕ) (name : List ℕ) → is_read_as_special_word first (spelled_word (b ∷ name)) ≡ true → spelled_word (b ∷ name) ≡ b ∷ spelled_word name
+special_spelled_word_begins_with_its_byte : (first : Bool) (b : ℕ) (name : List ℕ) → is_read_as_other_than_user_name first (spelled_word (b ∷ name)) ≡ true → spelled_word (b ∷ name) ≡ b ∷ spelled_word name
 special_spelled_word_begins_with_its_byte first b name h = by_escaped (is_word_escape_needed b) h
   where
-    by_control : (t : Bool) → is_read_as_special_word first ((if t then 92 ∷ 120 ∷ lower_hex_digit (b / 16) ∷ lower_hex_digit (b % 16) ∷ [] else b ∷ []) ++ spelled_word name) ≡ true → (if t then 92 ∷ 120 ∷ lower_hex_digit (b / 16) ∷ lower_hex_digit (b % 16) ∷ [] else b ∷ []) ++ spelled_word name ≡ b ∷ spelled_word name
+    by_control : (t : Bool) → is_read_as_other_than_user_name first ((if t then 92 ∷ 120 ∷ lower_hex_digit (b / 16) ∷ lower_hex_digit (b % 16) ∷ [] else b ∷ []) ++ spelled_word name) ≡ true → (if t then 92 ∷ 120 ∷ lower_hex_digit (b / 16) ∷ lower_hex_digit (b % 16) ∷ [] else b ∷ []) ++ spelled_word name ≡ b ∷ spelled_word name
     by_control true h = absurd (let none = word_with_leading_backslash_is_not_special first (120 ∷ lower_hex_digit (b / 16) ∷ lower_hex_digit (b % 16) ∷ spelled_word name) in cc)
     by_control false h = refl
 
-    by_escaped : (t : Bool) → is_read_as_special_word first ((if t then 92 ∷ b ∷ [] else (if is_control b then 92 ∷ 120 ∷ lower_hex_digit (b / 16) ∷ lower_hex_digit (b % 16) ∷ [] else b ∷ [])) ++ spelled_word name) ≡ true
+    by_escaped : (t : Bool) → is_read_as_other_than_user_name first ((if t then 92 ∷ b ∷ [] else (if is_control b then 92 ∷ 120 ∷ lower_hex_digit (b / 16) ∷ lower_hex_digit (b % 16) ∷ [] else b ∷ [])) ++ spelled_word name) ≡ true
         → (if t then 92 ∷ b ∷ [] else (if is_control b then 92 ∷ 120 ∷ lower_hex_digit (b / 16) ∷ lower_hex_digit (b % 16) ∷ [] else b ∷ [])) ++ spelled_word name ≡ b ∷ spelled_word name
     by_escaped true h = absurd (let none = word_with_leading_backslash_is_not_special first (b ∷ spelled_word name) in cc)
     by_escaped false h = by_control (is_control b) h
 
 text_of_user_name_is_printed : (first : Bool) (name : List ℕ) → name ≢ [] → text_of_units (units_of_user_name first name) ≡ printed_user_name first name
 text_of_user_name_is_printed first [] some = absurd (some refl)
-text_of_user_name_is_printed first (b ∷ name) some = by_else (is_read_as_special_word first (spelled_word (b ∷ name))) refl
+text_of_user_name_is_printed first (b ∷ name) some = by_else (is_read_as_other_than_user_name first (spelled_word (b ∷ name))) refl
   where
-    by_else : (t : Bool) → is_read_as_special_word first (spelled_word (b ∷ name)) ≡ t → text_of_units (if t then Pair b ∷ units_of_spelled_word name else units_of_spelled_word (b ∷ name)) ≡ backslash_guarded_text t (spelled_word (b ∷ name))
+    by_else : (t : Bool) → is_read_as_other_than_user_name first (spelled_word (b ∷ name)) ≡ t → text_of_units (if t then Pair b ∷ units_of_spelled_word name else units_of_spelled_word (b ∷ name)) ≡ text_with_backslash_if_misread t (spelled_word (b ∷ name))
     by_else true e = ap (λ (t : List ℕ). 92 ∷ b ∷ t) (text_of_word_units_is_spelled_word name) ∙ ap (λ (t : List ℕ). 92 ∷ t) (sym (special_spelled_word_begins_with_its_byte first b name e))
     by_else false e = text_of_word_units_is_spelled_word (b ∷ name)
 
-text_of_host_name_is_printed : (p : List ℕ) → p ≢ [] → is_writable_pattern HostName p ≡ true → text_of_units (units_of_host_name p) ≡ printed_host p
+text_of_host_name_is_printed : (p : List ℕ) → p ≢ [] → is_writable_pattern HostName p ≡ true → text_of_units (units_of_host_name p) ≡ printed_host_name_pattern p
 text_of_host_name_is_printed p some is = by_host (is_read_as_host_name (escaped_pattern HostName p)) refl
   where
     same : text_of_units (escaped_pattern_units HostName (units_of_pattern p)) ≡ escaped_pattern HostName p
     same = text_of_escaped_units_is_escaped_pattern HostName p is
 
-    by_host : (t : Bool) → is_read_as_host_name (escaped_pattern HostName p) ≡ t → text_of_units (if t then escaped_pattern_units HostName (units_of_pattern p) else units_with_leading_backslash (escaped_pattern_units HostName (units_of_pattern p))) ≡ backslash_guarded_text (not t) (escaped_pattern HostName p)
+    by_host : (t : Bool) → is_read_as_host_name (escaped_pattern HostName p) ≡ t → text_of_units (if t then escaped_pattern_units HostName (units_of_pattern p) else units_with_leading_backslash (escaped_pattern_units HostName (units_of_pattern p))) ≡ text_with_backslash_if_misread (not t) (escaped_pattern HostName p)
     by_host true e = same
     by_host false e =
         text_of_backslashed_units_has_backslash (units_of_pattern p) (units_of_writable_pattern_are_pattern_units HostName p is) (units_of_nonempty_pattern_are_not_empty p some) (ap (λ (t : List ℕ). is_host_name_atom (host_atom_of_token kind.Word t)) same ∙ e)

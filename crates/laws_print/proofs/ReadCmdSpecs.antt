@@ -2,13 +2,13 @@
 use Rattle.laws_print.proofs.Common.{◌≡◌, ℕ, Bool, true, false, ◌&&◌, ◌||◌, List, [], ◌∷◌, Some, None, refl, ap, subst, ◌∙◌, Option, if◌then◌else◌}
 use Rattle.laws_print.proofs.Common.{AllByRecursion, TokenKind, value_of_word, Runas, Tag, OptionName, Member, RunasSpec, CmdSpec, TokenWithBytes, is_quoted}
 use Rattle.laws_print.proofs.Common.{is_option_value_allowed, option_value_of_token, AreMembers, IsTag, IsOption, IsRunas, IsCmdSpec, IsCommand, Many, MarkThenRule, Perhaps}
-use Rattle.laws_print.proofs.Common.{option_keyword, printed_tag_or_negated, IsWritableUserMember, IsWritableCommandMember, IsWritableRunasSpec, IsWritableOption, IsWritableCommand, IsMemberSameButPlace, AreItemsPairwiseRelated}
-use Rattle.laws_print.proofs.Common.{IsCommandSameButPlace, WrittenToken, text_of_units, AreTokensShownBy}
+use Rattle.laws_print.proofs.Common.{option_keyword, tag_keyword_or_negated, IsWritableUserMember, IsWritableCommandMember, IsWritableRunasSpec, IsWritableOption, IsWritableCommand, MemberIsReadBackAs, AreItemsPairwiseRelated}
+use Rattle.laws_print.proofs.Common.{CommandIsReadBackAs, WrittenToken, text_of_units, AreTokensShownBy}
 use Rattle.sudoers_text.specs.declared.token.TokenKind.TheVariants as kind
 use Rattle.sudoers_grammar.specs.declared.node.Tag.TheVariants as tag
 use Rattle.sudoers_grammar.specs.declared.node.OptionName.TheVariants as option
 use Rattle.sudoers_grammar.specs.Piece.{is_word, tag_and_sign_of_token, option_of_token}
-use Rattle.laws_print.specs.Same.{IsRunasSameButPlace}
+use Rattle.laws_print.specs.Same.{RunasIsReadBackAs}
 use Rattle.laws_print.proofs.Units.{units_of_plain_bytes}
 use Rattle.laws_print.proofs.ListTokens.{token_of_mark, tokens_of_member_list}
 use Rattle.laws_print.proofs.CommandTokens.{token_of_option_value, tokens_of_tags_and_command, tokens_of_options_and_command, tokens_inside_runas_parentheses, tokens_of_runas_part, tokens_of_command_spec}
@@ -20,7 +20,7 @@ use Rattle.laws_print.proofs.Many.{ReadsAsSameThing}
 
 -- ---- tags
 
-tag_token_is_read_back : (g : Tag) (on : Bool) (t : TokenWithBytes) → t.kind ≡ kind.Word → t.text ≡ text_of_units (units_of_plain_bytes (printed_tag_or_negated g on)) → tag_and_sign_of_token t ≡ Some (g, on)
+tag_token_is_read_back : (g : Tag) (on : Bool) (t : TokenWithBytes) → t.kind ≡ kind.Word → t.text ≡ text_of_units (units_of_plain_bytes (tag_keyword_or_negated g on)) → tag_and_sign_of_token t ≡ Some (g, on)
 unfolding tag_and_sign_of_token
 tag_token_is_read_back tag.Exec true t k text = rw (k, text) refl
 tag_token_is_read_back tag.Exec false t k text = rw (k, text) refl
@@ -34,7 +34,7 @@ pub record ReadsAsTagsAndCommand (ts : List TokenWithBytes) (gs : List (Tag × B
   pub rest : List TokenWithBytes
   pub tags : Many IsTag ts gs behind_tags
   pub is : IsCommand behind_tags member rest
-  pub alike : IsMemberSameButPlace m member
+  pub alike : MemberIsReadBackAs m member
   pub behind : AreTokensShownBy tail rest
 
 tags_and_command_are_read_back : (spaced : Bool) (gs : List (Tag × Bool)) (m : Member) (tail : List WrittenToken) (ts : List TokenWithBytes) → IsWritableCommandMember m → AreTokensShownBy (tokens_of_tags_and_command spaced gs m tail) ts → ReadsAsTagsAndCommand ts gs m tail
@@ -107,7 +107,7 @@ options_tags_and_command_are_read_back spaced (o ∷ os) gs m tail (w ∷ e ∷ 
 
 -- ---- what is read
 
-nonempty_member_list_is_optional_one : (P : List TokenWithBytes → List Member → List TokenWithBytes → Type 0) (ts : List TokenWithBytes) (x : Member) (xs ys : List Member) (rest : List TokenWithBytes) → AreItemsPairwiseRelated IsMemberSameButPlace (x ∷ xs) ys → P ts ys rest → Perhaps P ts ys rest
+nonempty_member_list_is_optional_one : (P : List TokenWithBytes → List Member → List TokenWithBytes → Type 0) (ts : List TokenWithBytes) (x : Member) (xs ys : List Member) (rest : List TokenWithBytes) → AreItemsPairwiseRelated MemberIsReadBackAs (x ∷ xs) ys → P ts ys rest → Perhaps P ts ys rest
 nonempty_member_list_is_optional_one P ts x xs [] rest same is = absurd same
 nonempty_member_list_is_optional_one P ts x xs (y ∷ ys) rest same is = is
 
@@ -118,8 +118,8 @@ pub record ReadsAsRunasLists (ts : List TokenWithBytes) (us gs : List Member) (t
   pub behind_groups : List TokenWithBytes
   pub are_users : Perhaps (AreMembers Runas) ts users behind_users
   pub are_groups : Perhaps (MarkThenRule 58 (AreMembers Runas)) behind_users groups behind_groups
-  pub same_users : AreItemsPairwiseRelated IsMemberSameButPlace us users
-  pub same_groups : AreItemsPairwiseRelated IsMemberSameButPlace gs groups
+  pub same_users : AreItemsPairwiseRelated MemberIsReadBackAs us users
+  pub same_groups : AreItemsPairwiseRelated MemberIsReadBackAs gs groups
   pub behind : AreTokensShownBy tail behind_groups
 
 runas_lists_are_read_back : (us gs : List Member) (tail : List WrittenToken) (ts : List TokenWithBytes) → AllByRecursion IsWritableUserMember us → AllByRecursion IsWritableUserMember gs → AreTokensShownBy (tokens_inside_runas_parentheses us gs tail) ts → ReadsAsRunasLists ts us gs tail
@@ -155,7 +155,7 @@ runas_lists_are_read_back (u ∷ us) (g ∷ gs) tail ts all others shows =
     let list = member_list_is_read_back Runas false false (u ∷ us) (token_of_mark 58 true ∷ tokens_of_member_list Runas true false (g ∷ gs) tail) ts all shows in
     by_rest list.thing list.rest list.is list.alike list.behind
   where
-    by_rest : (users : List Member) (rest : List TokenWithBytes) → AreMembers Runas ts users rest → AreItemsPairwiseRelated IsMemberSameButPlace (u ∷ us) users → AreTokensShownBy (token_of_mark 58 true ∷ tokens_of_member_list Runas true false (g ∷ gs) tail) rest → ReadsAsRunasLists ts (u ∷ us) (g ∷ gs) tail
+    by_rest : (users : List Member) (rest : List TokenWithBytes) → AreMembers Runas ts users rest → AreItemsPairwiseRelated MemberIsReadBackAs (u ∷ us) users → AreTokensShownBy (token_of_mark 58 true ∷ tokens_of_member_list Runas true false (g ∷ gs) tail) rest → ReadsAsRunasLists ts (u ∷ us) (g ∷ gs) tail
     by_rest users [] is same shows = absurd shows
     by_rest users (c ∷ rest) is same shows =
         let list = member_list_is_read_back Runas true false (g ∷ gs) tail rest others shows.2 in
@@ -176,8 +176,8 @@ pub record ReadsAsRunasPart (ts : List TokenWithBytes) (r : RunasSpec) (tail : L
   pub runas : RunasSpec
   pub rest : List TokenWithBytes
   pub is : IsRunas ts runas rest
-  pub users : AreItemsPairwiseRelated IsMemberSameButPlace r.users runas.users
-  pub groups : AreItemsPairwiseRelated IsMemberSameButPlace r.groups runas.groups
+  pub users : AreItemsPairwiseRelated MemberIsReadBackAs r.users runas.users
+  pub groups : AreItemsPairwiseRelated MemberIsReadBackAs r.groups runas.groups
   pub behind : AreTokensShownBy tail rest
 
 runas_part_is_read_back : (spaced : Bool) (r : RunasSpec) (tail : List WrittenToken) (ts : List TokenWithBytes) → AllByRecursion IsWritableUserMember r.users → AllByRecursion IsWritableUserMember r.groups → AreTokensShownBy (tokens_of_runas_part spaced r tail) ts → ReadsAsRunasPart ts r tail
@@ -186,7 +186,7 @@ runas_part_is_read_back spaced r tail (o ∷ ts) all others shows =
     let inside = runas_lists_are_read_back r.users r.groups (token_of_mark 41 false ∷ tail) ts all others shows.2 in
     by_rest inside.users inside.groups inside.behind_users inside.behind_groups inside.are_users inside.are_groups inside.same_users inside.same_groups inside.behind
   where
-    by_rest : (users groups : List Member) (behind_users rest : List TokenWithBytes) → Perhaps (AreMembers Runas) ts users behind_users → Perhaps (MarkThenRule 58 (AreMembers Runas)) behind_users groups rest → AreItemsPairwiseRelated IsMemberSameButPlace r.users users → AreItemsPairwiseRelated IsMemberSameButPlace r.groups groups → AreTokensShownBy (token_of_mark 41 false ∷ tail) rest → ReadsAsRunasPart (o ∷ ts) r tail
+    by_rest : (users groups : List Member) (behind_users rest : List TokenWithBytes) → Perhaps (AreMembers Runas) ts users behind_users → Perhaps (MarkThenRule 58 (AreMembers Runas)) behind_users groups rest → AreItemsPairwiseRelated MemberIsReadBackAs r.users users → AreItemsPairwiseRelated MemberIsReadBackAs r.groups groups → AreTokensShownBy (token_of_mark 41 false ∷ tail) rest → ReadsAsRunasPart (o ∷ ts) r tail
     by_rest users groups behind_users [] is are same sames shown = absurd shown
     by_rest users groups behind_users (c ∷ rest) is are same sames shown = record {
       runas = record { users = users; groups = groups };
@@ -210,7 +210,7 @@ runas_part_is_read_back spaced r tail (o ∷ ts) all others shows =
     }
 
 -- A command with what stands before it is read as it is written.
-command_spec_parts_are_read_back : (spaced : Bool) (c : CmdSpec) (runas : Option RunasSpec) (tail : List WrittenToken) (ts : List TokenWithBytes) → runas ≡ c.runas → IsWritableRunasSpec runas → AllByRecursion IsWritableOption c.options → IsWritableCommandMember c.member → AreTokensShownBy (tokens_of_command_spec spaced runas c.options c.tags c.member tail) ts → ReadsAsSameThing IsCmdSpec IsCommandSameButPlace ts c tail
+command_spec_parts_are_read_back : (spaced : Bool) (c : CmdSpec) (runas : Option RunasSpec) (tail : List WrittenToken) (ts : List TokenWithBytes) → runas ≡ c.runas → IsWritableRunasSpec runas → AllByRecursion IsWritableOption c.options → IsWritableCommandMember c.member → AreTokensShownBy (tokens_of_command_spec spaced runas c.options c.tags c.member tail) ts → ReadsAsSameThing IsCmdSpec CommandIsReadBackAs ts c tail
 command_spec_parts_are_read_back spaced c None tail ts same list all is shows =
     let options = options_tags_and_command_are_read_back spaced c.options c.tags c.member tail ts all is shows in
     let one = options.tagged in
@@ -218,7 +218,7 @@ command_spec_parts_are_read_back spaced c None tail ts same list all is shows =
       thing = record { runas = None; options = c.options; tags = c.tags; member = one.member };
       rest = one.rest;
       is = record { behind_runas = ts; behind_options = options.behind_options; behind_tags = one.behind_tags; runas = refl; options = options.options; tags = one.tags; member = one.is };
-      alike = record { runas = subst (λ (r : Option RunasSpec). IsRunasSameButPlace r None) same tt; options = refl; tags = refl; member = one.alike };
+      alike = record { runas = subst (λ (r : Option RunasSpec). RunasIsReadBackAs r None) same tt; options = refl; tags = refl; member = one.alike };
       behind = one.behind;
     }
 command_spec_parts_are_read_back spaced c (Some r) tail ts same list all is shows =
@@ -229,9 +229,9 @@ command_spec_parts_are_read_back spaced c (Some r) tail ts same list all is show
       thing = record { runas = Some runas.runas; options = c.options; tags = c.tags; member = one.member };
       rest = one.rest;
       is = record { behind_runas = runas.rest; behind_options = options.behind_options; behind_tags = one.behind_tags; runas = runas.is; options = options.options; tags = one.tags; member = one.is };
-      alike = record { runas = subst (λ (s : Option RunasSpec). IsRunasSameButPlace s (Some runas.runas)) same (runas.users, runas.groups); options = refl; tags = refl; member = one.alike };
+      alike = record { runas = subst (λ (s : Option RunasSpec). RunasIsReadBackAs s (Some runas.runas)) same (runas.users, runas.groups); options = refl; tags = refl; member = one.alike };
       behind = one.behind;
     }
 
-pub command_spec_is_read_back : (spaced : Bool) (c : CmdSpec) (tail : List WrittenToken) (ts : List TokenWithBytes) → IsWritableCommand c → AreTokensShownBy (tokens_of_command_spec spaced c.runas c.options c.tags c.member tail) ts → ReadsAsSameThing IsCmdSpec IsCommandSameButPlace ts c tail
+pub command_spec_is_read_back : (spaced : Bool) (c : CmdSpec) (tail : List WrittenToken) (ts : List TokenWithBytes) → IsWritableCommand c → AreTokensShownBy (tokens_of_command_spec spaced c.runas c.options c.tags c.member tail) ts → ReadsAsSameThing IsCmdSpec CommandIsReadBackAs ts c tail
 command_spec_is_read_back spaced c tail ts is shows = command_spec_parts_are_read_back spaced c c.runas tail ts refl is.runas is.options is.member shows

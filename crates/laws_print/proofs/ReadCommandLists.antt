@@ -1,7 +1,7 @@
 -- Lists of commands as they are written are read as these lists.
 use Rattle.laws_print.proofs.Common.{◌≡◌, Bool, true, false, List, [], ◌∷◌, ◌++◌, Some, refl, sym, ap, ◌∙◌, AllByRecursion, Atom, Digest, DigestKind}
 use Rattle.laws_print.proofs.Common.{Member, TokenWithBytes, is_digest, command_atom_of_tokens, IsMark, IsArg, IsDigest, IsCommand, Many, MarkThenRule, Separated, Perhaps}
-use Rattle.laws_print.proofs.Common.{stop_of_last_token, start_of_first_token, digest_kind_keyword, IsWritableCommandAtom, IsWritableCommandMember, atom_read_back, IsMemberSameButPlace, AreItemsPairwiseRelated, WrittenToken, text_of_units}
+use Rattle.laws_print.proofs.Common.{stop_of_last_token, start_of_first_token, digest_kind_keyword, IsWritableCommandAtom, IsWritableCommandMember, atom_read_back, MemberIsReadBackAs, AreItemsPairwiseRelated, WrittenToken, text_of_units}
 use Rattle.laws_print.proofs.Common.{AreTokensShownBy}
 use Rattle.sudoers_text.specs.declared.token.TokenKind.TheVariants as kind
 use Rattle.sudoers_grammar.specs.declared.node.Atom.TheVariants as atom
@@ -124,7 +124,7 @@ pub equal_atoms_may_have_same_digests : (ds : List Digest) (m n : Member) → m.
 equal_atoms_may_have_same_digests [] m n same suits = tt
 equal_atoms_may_have_same_digests (d ∷ ds) m n same suits = ap is_command_allowing_digests (sym same) ∙ suits
 
-pub command_member_is_read_back : (spaced : Bool) (m : Member) (tail : List WrittenToken) (ts : List TokenWithBytes) → IsWritableCommandMember m → AreTokensShownBy (tokens_of_command_with_digests spaced m.digests m.negated m.atom tail) ts → ReadsAsSameThing IsCommand IsMemberSameButPlace ts m tail
+pub command_member_is_read_back : (spaced : Bool) (m : Member) (tail : List WrittenToken) (ts : List TokenWithBytes) → IsWritableCommandMember m → AreTokensShownBy (tokens_of_command_with_digests spaced m.digests m.negated m.atom tail) ts → ReadsAsSameThing IsCommand MemberIsReadBackAs ts m tail
 command_member_is_read_back spaced m tail ts is shows =
     let digests = digests_before_command_are_read_back spaced m.digests m.negated m.atom tail ts shows in
     let one = signed_command_is_read_back digests.spaced m.negated m.atom tail digests.behind is.is_command digests.shown in
@@ -152,6 +152,6 @@ command_member_is_read_back spaced m tail ts is shows =
     }
 
 -- A list of commands is read as it is written.
-pub command_list_is_read_back : (spaced : Bool) (m : Member) (ms : List Member) (tail : List WrittenToken) (ts : List TokenWithBytes) → AllByRecursion IsWritableCommandMember (m ∷ ms) → AreTokensShownBy (tokens_of_command_list spaced (m ∷ ms) tail) ts → ReadsAsSameThing AreCommands (AreItemsPairwiseRelated IsMemberSameButPlace) ts (m ∷ ms) tail
+pub command_list_is_read_back : (spaced : Bool) (m : Member) (ms : List Member) (tail : List WrittenToken) (ts : List TokenWithBytes) → AllByRecursion IsWritableCommandMember (m ∷ ms) → AreTokensShownBy (tokens_of_command_list spaced (m ∷ ms) tail) ts → ReadsAsSameThing AreCommands (AreItemsPairwiseRelated MemberIsReadBackAs) ts (m ∷ ms) tail
 command_list_is_read_back spaced m ms tail ts all shows =
-    many_read 44 false IsCommand IsMemberSameButPlace IsWritableCommandMember (tokens_of_command_member true) (command_member_is_read_back true) (tokens_of_command_member spaced) (command_member_is_read_back spaced) (m ∷ ms) tail ts all shows
+    many_read 44 false IsCommand MemberIsReadBackAs IsWritableCommandMember (tokens_of_command_member true) (command_member_is_read_back true) (tokens_of_command_member spaced) (command_member_is_read_back spaced) (m ∷ ms) tail ts all shows

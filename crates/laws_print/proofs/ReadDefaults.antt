@@ -1,15 +1,15 @@
 -- A Defaults line as it is written is read as this line.
 use Rattle.laws_print.proofs.Common.{◌≡◌, ℕ, Bool, true, false, ◌&&◌, List, [], ◌∷◌, ◌++◌, length, Some, None, refl, sym, ap, ◌∙◌, append-nil}
 use Rattle.laws_print.proofs.Common.{nat_lt, if◌then◌else◌, Option, AllByRecursion, list_all, and_parts, Quoted, value_of_remaining_bytes, value_of_word, Kind, User}
-use Rattle.laws_print.proofs.Common.{Runas, Cmnd, Member, Setting, Param, Scope, TokenWithBytes, is_parameter_name_kind, value_of_matching_row, IsParamWith, IsParam, IsScopeList}
+use Rattle.laws_print.proofs.Common.{Runas, Cmnd, Member, Setting, Param, Scope, TokenWithBytes, is_parameter_name_kind, value_of_matching_row, IsFlagOrSetting, IsParam, IsScopeMemberList}
 use Rattle.laws_print.proofs.Common.{PerhapsScope, Many, MarkThenRule, Separated, stop_of_last_token, start_of_first_token, ReadsScopeCommand, defaults_operator_mark, is_byte_without_quotes}
 use Rattle.laws_print.proofs.Common.{is_value_without_quotes, is_quotable_value, IsNonEmptyListOf, IsScopeCommandMember, IsWritableScopeMember, IsWritableScope, IsSettingAllowedIfNegated, IsWritableParam}
-use Rattle.laws_print.proofs.Common.{IsMemberSameButPlace, AreItemsPairwiseRelated, IsScopeSameButPlace, WrittenToken, text_of_units, AreTokensShownBy, units_of_spelled_word}
+use Rattle.laws_print.proofs.Common.{MemberIsReadBackAs, AreItemsPairwiseRelated, ScopeIsReadBackAs, WrittenToken, text_of_units, AreTokensShownBy, units_of_spelled_word}
 use Rattle.sudoers_text.specs.declared.token.TokenKind.TheVariants as kind
 use Rattle.sudoers_grammar.specs.declared.node.Kind.TheVariants.{Host}
 use Rattle.sudoers_grammar.specs.declared.node.Operator.{Operator}
 use Rattle.sudoers_grammar.specs.declared.node.Operator.TheVariants as operator
-use Rattle.sudoers_grammar.specs.Piece.{is_punct, is_value, operator_of_token, scope_kinds_by_sign, scope_kind_of_token}
+use Rattle.sudoers_grammar.specs.Piece.{is_punct, is_value, operator_of_token, scope_kinds_by_sign, scope_kind_of_sign_token_after}
 use Rattle.sudoers_grammar.specs.Grammar.{IsFlag, IsSetting}
 use Rattle.laws_print.proofs.Units.{units_of_plain_bytes}
 use Rattle.laws_print.proofs.CommandTokens.{tokens_of_signed_command}
@@ -99,7 +99,7 @@ setting_parameter_is_read_back spaced false p s tail (n ∷ o ∷ v ∷ ts) off 
   behind = shows.2.2.2;
 }
 
-parameter_with_setting_is_read_back : (spaced : Bool) (p : Param) (s : Option Setting) (tail : List WrittenToken) (ts : List TokenWithBytes) → IsSettingAllowedIfNegated p.negated s → AreTokensShownBy (tokens_of_parameter_parts spaced p.negated p.name s tail) ts → ReadsBeforeTail (λ us rest. IsParamWith s us p rest) ts tail
+parameter_with_setting_is_read_back : (spaced : Bool) (p : Param) (s : Option Setting) (tail : List WrittenToken) (ts : List TokenWithBytes) → IsSettingAllowedIfNegated p.negated s → AreTokensShownBy (tokens_of_parameter_parts spaced p.negated p.name s tail) ts → ReadsBeforeTail (λ us rest. IsFlagOrSetting s us p rest) ts tail
 parameter_with_setting_is_read_back spaced p None tail ts is shows = flag_parameter_is_read_back spaced p.negated p tail ts refl shows
 parameter_with_setting_is_read_back spaced p (Some s) tail ts is shows = setting_parameter_is_read_back spaced p.negated p s tail ts is is shows
 
@@ -123,7 +123,7 @@ parameter_list_is_read_back (p ∷ ps) ts all shows =
 
 -- ---- scopes
 
-scope_command_is_read_back : (spaced : Bool) (m : Member) (tail : List WrittenToken) (ts : List TokenWithBytes) → IsScopeCommandMember m → AreTokensShownBy (tokens_of_signed_command spaced m.negated m.atom tail) ts → ReadsAsSameThing ReadsScopeCommand IsMemberSameButPlace ts m tail
+scope_command_is_read_back : (spaced : Bool) (m : Member) (tail : List WrittenToken) (ts : List TokenWithBytes) → IsScopeCommandMember m → AreTokensShownBy (tokens_of_signed_command spaced m.negated m.atom tail) ts → ReadsAsSameThing ReadsScopeCommand MemberIsReadBackAs ts m tail
 scope_command_is_read_back spaced m tail ts is shows =
     let atom = scope_command_atom_is_writable m.atom is.is in
     let one = signed_command_is_read_back spaced m.negated m.atom tail ts atom shows in
@@ -152,15 +152,15 @@ scope_command_is_read_back spaced m tail ts is shows =
       behind = one.behind;
     }
 
-scope_list_is_read_back : (k : Kind) (ms : List Member) (tail : List WrittenToken) (ts : List TokenWithBytes) → IsNonEmptyListOf (IsWritableScopeMember k) ms → AreTokensShownBy (tokens_of_scope_list k ms tail) ts → ReadsAsSameThing (IsScopeList k) (AreItemsPairwiseRelated IsMemberSameButPlace) ts ms tail
+scope_list_is_read_back : (k : Kind) (ms : List Member) (tail : List WrittenToken) (ts : List TokenWithBytes) → IsNonEmptyListOf (IsWritableScopeMember k) ms → AreTokensShownBy (tokens_of_scope_list k ms tail) ts → ReadsAsSameThing (IsScopeMemberList k) (AreItemsPairwiseRelated MemberIsReadBackAs) ts ms tail
 scope_list_is_read_back User = member_list_is_read_back User false false
 scope_list_is_read_back Runas = member_list_is_read_back Runas false false
 scope_list_is_read_back Host = member_list_is_read_back Host false false
 scope_list_is_read_back Cmnd =
-    many_read 44 false ReadsScopeCommand IsMemberSameButPlace IsScopeCommandMember (tokens_of_scope_command true) (scope_command_is_read_back true) (tokens_of_scope_command false) (scope_command_is_read_back false)
+    many_read 44 false ReadsScopeCommand MemberIsReadBackAs IsScopeCommandMember (tokens_of_scope_command true) (scope_command_is_read_back true) (tokens_of_scope_command false) (scope_command_is_read_back false)
 
-scope_mark_is_read_back : (k : Kind) (t : TokenWithBytes) → t.kind ≡ kind.Punct → t.text ≡ mark_byte_of_scope_kind k ∷ [] → t.start ≡ 8 → scope_kind_of_token 8 t ≡ Some k
-unfolding scope_kind_of_token
+scope_mark_is_read_back : (k : Kind) (t : TokenWithBytes) → t.kind ≡ kind.Punct → t.text ≡ mark_byte_of_scope_kind k ∷ [] → t.start ≡ 8 → scope_kind_of_sign_token_after 8 t ≡ Some k
+unfolding scope_kind_of_sign_token_after
 scope_mark_is_read_back User t k text start = rw (k, text, start) refl
 scope_mark_is_read_back n t k text start = rw (k, text, start) refl
 
@@ -169,8 +169,8 @@ choice_by_false_conjunction_is_none true t = refl
 choice_by_false_conjunction_is_none false t = refl
 
 -- behind a blank stands no scope
-token_behind_blank_is_no_scope_mark : (t : TokenWithBytes) → t.start ≡ 9 → scope_kind_of_token 8 t ≡ None
-unfolding scope_kind_of_token
+token_behind_blank_is_no_scope_mark : (t : TokenWithBytes) → t.start ≡ 9 → scope_kind_of_sign_token_after 8 t ≡ None
+unfolding scope_kind_of_sign_token_after
 token_behind_blank_is_no_scope_mark t start = rw start (choice_by_false_conjunction_is_none (is_punct t.kind) t)
 
 -- a scope and what is behind it, as they are read
@@ -178,7 +178,7 @@ pub record ReadsAsScopeBeforeTail (ts : List TokenWithBytes) (scope : Option Sco
   pub read : Option Scope
   pub rest : List TokenWithBytes
   pub is : PerhapsScope 8 ts read rest
-  pub same : IsScopeSameButPlace scope read
+  pub same : ScopeIsReadBackAs scope read
   pub behind : AreTokensShownBy tail rest
 
 -- where the first of some tokens begins, by whether it is a scope's sign

@@ -1,7 +1,7 @@
 -- Hosts as they are written are read as these hosts.
 use Rattle.laws_print.proofs.Common.{◌≡◌, ℕ, zero, suc, ◌+◌, ◌*◌, ◌/◌, ◌%◌, ◌^◌, ◌≤◌, ◌<◌, Bool, true, false, ◌&&◌, ◌||◌, not, List, [], ◌∷◌, ◌++◌}
 use Rattle.laws_print.proofs.Common.{length, Some, None, refl, ap, ◌∙◌, arith, ◌==◌, nat_le, nat_lt, list_all, and_parts, ne_eqb, nat_tests, is_digit}
-use Rattle.laws_print.proofs.Common.{has_byte, id_limit, is_nonempty_digit_string, canonical_number_up_to, parts_around_first_byte, address_of_octets, ipv4_number_of_text, dotted_address, IsAddressNumber}
+use Rattle.laws_print.proofs.Common.{has_byte, id_limit, is_nonempty_digit_string, canonical_number_up_to, parts_around_first_byte, address_of_octets, ipv4_number_of_text, dotted_address, IsIpv4AddressNumber}
 use Rattle.std.proofs.Common.{get_or}
 use Rattle.std.specs.Fmt.{decimal}
 use Rattle.std.proofs.lemmas.Fmt.{decimal_digit, first_decimal}
@@ -93,7 +93,7 @@ IsNumberOfItsOctets n = ((n / 16777216 * 256 + n / 65536 % 256) * 256 + n / 256 
 number_is_that_of_its_octets : (n : ℕ) → IsNumberOfItsOctets n
 number_is_that_of_its_octets n = omega arith
 
-pub number_of_dotted_address_is_read_back : (n : ℕ) → IsAddressNumber n → ipv4_number_of_text (dotted_address n) ≡ Some n
+pub number_of_dotted_address_is_read_back : (n : ℕ) → IsIpv4AddressNumber n → ipv4_number_of_text (dotted_address n) ≡ Some n
 number_of_dotted_address_is_read_back n h =
     let is = address_number_has_octets n h in
     ap ipv4_number_of_text (dotted_address_is_text_of_octets n)

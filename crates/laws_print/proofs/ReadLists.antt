@@ -1,6 +1,6 @@
 -- Lists of users, runas users and hosts as they are written are read as these lists.
 use Rattle.laws_print.proofs.Common.{◌≡◌, Bool, true, false, List, [], ◌∷◌, Some, refl, sym, ap, ◌∙◌, TokenKind, Kind, User, Runas, Cmnd, Atom, Member, IsNonEmptyListOf}
-use Rattle.laws_print.proofs.Common.{TokenWithBytes, atom_of_token, user_atom_of_token, host_atom_of_token, IsMember, AreMembers, IsWritableUserAtom, IsMemberWithoutDigests, atom_read_back, IsMemberSameButPlace, AreItemsPairwiseRelated}
+use Rattle.laws_print.proofs.Common.{TokenWithBytes, atom_of_token, user_atom_of_token, host_atom_of_token, IsMember, AreMembers, IsWritableUserAtom, IsMemberWithoutDigests, atom_read_back, MemberIsReadBackAs, AreItemsPairwiseRelated}
 use Rattle.laws_print.proofs.Common.{WrittenToken, text_of_units, AreTokensShownBy}
 use Rattle.sudoers_grammar.specs.declared.node.Kind.TheVariants.{Host}
 use Rattle.sudoers_grammar.specs.declared.node.Atom.TheVariants as atom
@@ -36,7 +36,7 @@ list_atom_is_read_back Cmnd first a t is kind text = absurd is
 abbrev pub IsListedMemberOfKind : Kind → Member → Type 0
 IsListedMemberOfKind k m = IsMemberWithoutDigests (IsAtomOfListKind k) m
 
-list_member_is_read_back : (k : Kind) (spaced first : Bool) (m : Member) (negated : Bool) (tail : List WrittenToken) (ts : List TokenWithBytes) → negated ≡ m.negated → IsListedMemberOfKind k m → AreTokensShownBy (tokens_of_list_member k spaced first negated m.atom tail) ts → ReadsAsSameThing (IsMember k) IsMemberSameButPlace ts m tail
+list_member_is_read_back : (k : Kind) (spaced first : Bool) (m : Member) (negated : Bool) (tail : List WrittenToken) (ts : List TokenWithBytes) → negated ≡ m.negated → IsListedMemberOfKind k m → AreTokensShownBy (tokens_of_list_member k spaced first negated m.atom tail) ts → ReadsAsSameThing (IsMember k) MemberIsReadBackAs ts m tail
 list_member_is_read_back k spaced first m false tail [] same is shows = absurd shows
 list_member_is_read_back k spaced first m false tail (t ∷ ts) same is shows = record {
   thing = record { start = t.start; stop = t.stop; negated = false; digests = []; atom = atom_read_back m.atom };
@@ -76,7 +76,7 @@ list_member_is_read_back k spaced first m true tail (s ∷ t ∷ ts) same is sho
 }
 
 -- A list is read as it is written.
-pub member_list_is_read_back : (k : Kind) (spaced first : Bool) (ms : List Member) (tail : List WrittenToken) (ts : List TokenWithBytes) → IsNonEmptyListOf (IsListedMemberOfKind k) ms → AreTokensShownBy (tokens_of_member_list k spaced first ms tail) ts → ReadsAsSameThing (AreMembers k) (AreItemsPairwiseRelated IsMemberSameButPlace) ts ms tail
+pub member_list_is_read_back : (k : Kind) (spaced first : Bool) (ms : List Member) (tail : List WrittenToken) (ts : List TokenWithBytes) → IsNonEmptyListOf (IsListedMemberOfKind k) ms → AreTokensShownBy (tokens_of_member_list k spaced first ms tail) ts → ReadsAsSameThing (AreMembers k) (AreItemsPairwiseRelated MemberIsReadBackAs) ts ms tail
 member_list_is_read_back k spaced first =
-    many_read 44 false (IsMember k) IsMemberSameButPlace (IsListedMemberOfKind k) (tokens_of_member k true false) (λ n t us is. list_member_is_read_back k true false n n.negated t us refl is)
+    many_read 44 false (IsMember k) MemberIsReadBackAs (IsListedMemberOfKind k) (tokens_of_member k true false) (λ n t us is. list_member_is_read_back k true false n n.negated t us refl is)
     (tokens_of_member k spaced first) (λ n t us is. list_member_is_read_back k spaced first n n.negated t us refl is)

@@ -1,6 +1,6 @@
 -- The word `Defaults` and a scope as they are written are tokens of the line.
 use Rattle.laws_print.proofs.Common.{◌≡◌, ℕ, Bool, true, false, ◌||◌, List, [], ◌∷◌, ◌++◌, take, Some, None, refl, sym, ap, subst, arith, ◌==◌}
-use Rattle.laws_print.proofs.Common.{if◌then◌else◌, nat_lt, Option, codes, AllByRecursion, TokenContext, ScopeMemberKind, LineUnit, Byte, bytes_after_leading_gap, defaults_word}
+use Rattle.laws_print.proofs.Common.{if◌then◌else◌, nat_lt, Option, codes, AllByRecursion, TokenContext, ScopeNamesOrCommands, LineUnit, Byte, bytes_of_units_after_leading_gap, defaults_word}
 use Rattle.laws_print.proofs.Common.{leading_run_size, is_path_byte, is_word_byte, is_byte_of_include_path, TokenKind, has_host_or_runas_sign, bytes_eq, context_after_token, token_forms_in_context}
 use Rattle.laws_print.proofs.Common.{token_forms_of_parameters, is_among, line_mode, kind_and_size_of_token, hash_include_size_at, units_with_those_of_bytes, Kind, User, Runas, Cmnd, Args, Atom, Member}
 use Rattle.laws_print.proofs.Common.{Scope, Param, IsNonEmptyListOf, IsScopeCommandAtom, IsScopeCommandMember, IsWritableScopeMember, IsWritableScope, IsWritableParam, WrittenToken, text_of_units}
@@ -9,8 +9,8 @@ use Rattle.sudoers_text.specs.declared.part.ByteRunKind.TheVariants as rule
 use Rattle.sudoers_text.specs.declared.token.TokenKind.TheVariants as kind
 use Rattle.sudoers_text.specs.declared.token.Mode.TheVariants as mode
 use Rattle.sudoers_text.specs.declared.context.TokenContext.TheVariants as context
-use Rattle.sudoers_text.specs.declared.context.ScopeMemberKind.TheVariants as scope
-use Rattle.sudoers_text.specs.Piece.{leading_keyword_size}
+use Rattle.sudoers_text.specs.declared.context.ScopeNamesOrCommands.TheVariants as scope
+use Rattle.sudoers_text.specs.Piece.{defaults_or_at_include_word_size}
 use Rattle.sudoers_text.specs.Word.{at_include_words}
 use Rattle.sudoers_grammar.specs.declared.node.Kind.TheVariants.{Host}
 use Rattle.sudoers_grammar.specs.declared.node.Atom.TheVariants as atom
@@ -30,7 +30,7 @@ use Rattle.laws_print.proofs.ParamLists.{context_behind_scope_member_takes_param
 -- ---- commands of a scope
 
 -- What follows a member of a scope.
-pub record IsCutBehindScopeMember (list : ScopeMemberKind) (tail : List WrittenToken) : Type 0 where
+pub record IsCutBehindScopeMember (list : ScopeNamesOrCommands) (tail : List WrittenToken) : Type 0 where
   pub cut : AreTokensCut (context.BehindMember list) false tail
   pub user : EndsUser (line_of_written_tokens tail)
   pub word : EndsWord true (line_of_written_tokens tail)
@@ -73,7 +73,7 @@ further_scope_commands_are_cut (m ∷ ms) tail all ends =
 -- ---- scopes
 
 -- the list of a scope, and the place behind its sign
-abbrev pub member_kind_of_scope_list : Kind → ScopeMemberKind
+abbrev pub member_kind_of_scope_list : Kind → ScopeNamesOrCommands
 member_kind_of_scope_list Cmnd = scope.Commands
 member_kind_of_scope_list k = scope.Names
 
@@ -91,7 +91,7 @@ scope_list_before_tail_is_cut Cmnd [] tail all ends = absurd all
 scope_list_before_tail_is_cut Cmnd (m ∷ ms) tail all ends = signed_scope_command_before_tail_is_cut false false m.negated m.atom (tokens_of_further_scope_commands ms tail) all.0.is (further_scope_commands_are_cut ms tail all.1 ends)
 
 -- the sign of a scope behind `Defaults`
-scope_sign_behind_defaults_is_cut : (b : ℕ) (next : Bool) (rest : List ℕ) → is_byte_of_include_path b ≡ true → ((i first : Bool) → kind_and_size_of_token (token_forms_in_context context.ScopeSign) i first (b ∷ rest) ≡ (kind.Punct, 1)) → ((before : List LineUnit) → bytes_after_leading_gap before ≡ defaults_word → AllowsIdBehindUnits next (Byte b ∷ before))
+scope_sign_behind_defaults_is_cut : (b : ℕ) (next : Bool) (rest : List ℕ) → is_byte_of_include_path b ≡ true → ((i first : Bool) → kind_and_size_of_token (token_forms_in_context context.ScopeSign) i first (b ∷ rest) ≡ (kind.Punct, 1)) → ((before : List LineUnit) → bytes_of_units_after_leading_gap before ≡ defaults_word → AllowsIdBehindUnits next (Byte b ∷ before))
     → IsTokenCutFromPlace context.ScopeSign BehindDefaults (At next) kind.Punct (Byte b ∷ []) rest
 scope_sign_behind_defaults_is_cut b next rest is told leaves =
     let plain = plain_test_byte_is_plain is_byte_of_include_path refl b is in
@@ -140,7 +140,7 @@ scope_mark_follows_defaults Host rest = disjunction_with_true_is_true (leading_r
 scope_mark_follows_defaults Runas rest = disjunction_with_true_is_true (leading_run_size rule.Word (codes "Defaults" ++ (62 ∷ rest)) == 8)
 
 defaults_keyword_is_found_as_word : (i first : Bool) (rest : List ℕ) → FollowsDefaults rest → kind_and_size_of_token (token_forms_in_context (context.First mode.Parameters)) i first (codes "Defaults" ++ rest) ≡ (kind.Word, 8)
-unfolding hash_include_size_at leading_keyword_size
+unfolding hash_include_size_at defaults_or_at_include_word_size
 defaults_keyword_is_found_as_word i first rest follows = ap (λ (t : Bool). by_test t) follows
   where
     by_test : Bool → TokenKind × ℕ
@@ -176,7 +176,7 @@ defaults_keyword_before_blank_is_cut rest follows = first_defaults_keyword_is_cu
 
 defaults_keyword_before_scope_is_cut : (rest : List ℕ) → FollowsDefaults rest → IsTokenCutFromPlace (context.First mode.Parameters) Start BehindDefaults kind.Word (units_of_plain_bytes (codes "Defaults")) rest
 defaults_keyword_before_scope_is_cut rest follows =
-    first_defaults_keyword_is_cut BehindDefaults rest follows (λ before is. ap (λ (us : List LineUnit). bytes_after_leading_gap (units_with_those_of_bytes us (codes "Defaults"))) is) (λ before is. ap (λ (us : List LineUnit). bytes_after_leading_gap (units_put_onto (units_of_plain_bytes (codes "Defaults")) us)) is)
+    first_defaults_keyword_is_cut BehindDefaults rest follows (λ before is. ap (λ (us : List LineUnit). bytes_of_units_after_leading_gap (units_with_those_of_bytes us (codes "Defaults"))) is) (λ before is. ap (λ (us : List LineUnit). bytes_of_units_after_leading_gap (units_put_onto (units_of_plain_bytes (codes "Defaults")) us)) is)
 
 scope_mark_context_follows_defaults : (k : Kind) (rest : List ℕ) → context_after_token (context.First mode.Parameters) kind.Word (text_of_units (units_of_plain_bytes (codes "Defaults"))) (mark_byte_of_scope_kind k ∷ rest) ≡ context.ScopeSign
 scope_mark_context_follows_defaults User rest = refl
@@ -184,7 +184,7 @@ scope_mark_context_follows_defaults k rest = refl
 
 -- ---- the line
 
-parameters_are_cut_behind_scope_member : (list : ScopeMemberKind) (ps : List Param) → IsNonEmptyListOf IsWritableParam ps → IsCutBehindScopeMember list (tokens_of_parameters ps)
+parameters_are_cut_behind_scope_member : (list : ScopeNamesOrCommands) (ps : List Param) → IsNonEmptyListOf IsWritableParam ps → IsCutBehindScopeMember list (tokens_of_parameters ps)
 parameters_are_cut_behind_scope_member list ps all =
     let part = text_of_parameters_begins_with_blank ps all in
     record {

@@ -1,13 +1,13 @@
 -- A user specification as it is written is cut into its tokens, and read as this specification.
 use Rattle.laws_print.proofs.Common.{◌≡◌, ℕ, Bool, true, false, List, [], ◌∷◌, refl, sym, subst, AllByRecursion, Mode, line_mode, HasTokens, User}
 use Rattle.laws_print.proofs.Common.{Member, CmdSpec, HostGroup, TokenWithBytes, tokens_with_bytes, AreMembers, IsCmdSpec, IsHostGroup, Separated, Reads, printed_line}
-use Rattle.laws_print.proofs.Common.{IsWritableUserMember, IsWritableHostMember, IsNonEmptyListOf, IsWritableCommand, IsWritableHostGroup, IsMemberSameButPlace, IsCommandSameButPlace, AreItemsPairwiseRelated, LineReadsBackAs, WrittenToken, line_of_written_tokens}
+use Rattle.laws_print.proofs.Common.{IsWritableUserMember, IsWritableHostMember, IsNonEmptyListOf, IsWritableCommand, IsWritableHostGroup, MemberIsReadBackAs, CommandIsReadBackAs, AreItemsPairwiseRelated, LineReadsBackAs, WrittenToken, line_of_written_tokens}
 use Rattle.laws_print.proofs.Common.{tokens_placed_from_offset, AreTokensCut, AreTokensShownBy}
 use Rattle.sudoers_text.specs.declared.token.Mode.TheVariants as mode
 use Rattle.sudoers_text.specs.declared.context.TokenContext.TheVariants as context
 use Rattle.sudoers_grammar.specs.declared.node.Kind.TheVariants.{Host}
 use Rattle.sudoers_grammar.specs.Node as node
-use Rattle.laws_print.specs.Same.{IsHostGroupSameButPlace}
+use Rattle.laws_print.specs.Same.{HostGroupIsReadBackAs}
 use Rattle.laws_print.proofs.ListTokens.{token_of_mark, tokens_of_list_member, tokens_of_further_members, tokens_of_member_list}
 use Rattle.laws_print.proofs.Whole.{cut_tokens_are_logical_line, IsLogicalLineWithoutNul}
 use Rattle.laws_print.proofs.Shown.{placed_tokens_of_line_show_written, punctuation_of_byte_is_its_mark}
@@ -87,15 +87,15 @@ mode_of_spec_line_is_commands (m ∷ ms) groups all some =
 
 -- ---- what they say
 
-command_spec_list_is_read_back : (cs : List CmdSpec) (tail : List WrittenToken) (ts : List TokenWithBytes) → IsNonEmptyListOf IsWritableCommand cs → AreTokensShownBy (tokens_of_command_spec_list cs tail) ts → ReadsAsSameThing (Separated 44 IsCmdSpec) (AreItemsPairwiseRelated IsCommandSameButPlace) ts cs tail
-command_spec_list_is_read_back = many_read 44 false IsCmdSpec IsCommandSameButPlace IsWritableCommand (tokens_of_one_command_spec true) (command_spec_is_read_back true) (tokens_of_one_command_spec true) (command_spec_is_read_back true)
+command_spec_list_is_read_back : (cs : List CmdSpec) (tail : List WrittenToken) (ts : List TokenWithBytes) → IsNonEmptyListOf IsWritableCommand cs → AreTokensShownBy (tokens_of_command_spec_list cs tail) ts → ReadsAsSameThing (Separated 44 IsCmdSpec) (AreItemsPairwiseRelated CommandIsReadBackAs) ts cs tail
+command_spec_list_is_read_back = many_read 44 false IsCmdSpec CommandIsReadBackAs IsWritableCommand (tokens_of_one_command_spec true) (command_spec_is_read_back true) (tokens_of_one_command_spec true) (command_spec_is_read_back true)
 
-host_group_is_read_back : (g : HostGroup) (tail : List WrittenToken) (ts : List TokenWithBytes) → IsWritableHostGroup g → AreTokensShownBy (tokens_of_host_group g tail) ts → ReadsAsSameThing IsHostGroup IsHostGroupSameButPlace ts g tail
+host_group_is_read_back : (g : HostGroup) (tail : List WrittenToken) (ts : List TokenWithBytes) → IsWritableHostGroup g → AreTokensShownBy (tokens_of_host_group g tail) ts → ReadsAsSameThing IsHostGroup HostGroupIsReadBackAs ts g tail
 host_group_is_read_back g tail ts is shown =
     let hosts = member_list_is_read_back Host true false g.hosts (token_of_mark 61 true ∷ tokens_of_command_spec_list g.commands tail) ts is.hosts shown in
     by_rest hosts.thing hosts.rest hosts.is hosts.alike hosts.behind
   where
-    by_rest : (hosts : List Member) (rest : List TokenWithBytes) → AreMembers Host ts hosts rest → AreItemsPairwiseRelated IsMemberSameButPlace g.hosts hosts → AreTokensShownBy (token_of_mark 61 true ∷ tokens_of_command_spec_list g.commands tail) rest → ReadsAsSameThing IsHostGroup IsHostGroupSameButPlace ts g tail
+    by_rest : (hosts : List Member) (rest : List TokenWithBytes) → AreMembers Host ts hosts rest → AreItemsPairwiseRelated MemberIsReadBackAs g.hosts hosts → AreTokensShownBy (token_of_mark 61 true ∷ tokens_of_command_spec_list g.commands tail) rest → ReadsAsSameThing IsHostGroup HostGroupIsReadBackAs ts g tail
     by_rest hosts [] are same shown = absurd shown
     by_rest hosts (e ∷ rest) are same shown =
         let cmds = command_spec_list_is_read_back g.commands tail rest is.commands shown.2 in
@@ -107,16 +107,16 @@ host_group_is_read_back g tail ts is shown =
           behind = cmds.behind;
         }
 
-host_group_list_is_read_back : (gs : List HostGroup) (ts : List TokenWithBytes) → IsNonEmptyListOf IsWritableHostGroup gs → AreTokensShownBy (tokens_of_host_group_list gs []) ts → ReadsAsSameThing (Separated 58 IsHostGroup) (AreItemsPairwiseRelated IsHostGroupSameButPlace) ts gs []
-host_group_list_is_read_back gs ts = many_read 58 true IsHostGroup IsHostGroupSameButPlace IsWritableHostGroup tokens_of_host_group host_group_is_read_back tokens_of_host_group host_group_is_read_back gs [] ts
+host_group_list_is_read_back : (gs : List HostGroup) (ts : List TokenWithBytes) → IsNonEmptyListOf IsWritableHostGroup gs → AreTokensShownBy (tokens_of_host_group_list gs []) ts → ReadsAsSameThing (Separated 58 IsHostGroup) (AreItemsPairwiseRelated HostGroupIsReadBackAs) ts gs []
+host_group_list_is_read_back gs ts = many_read 58 true IsHostGroup HostGroupIsReadBackAs IsWritableHostGroup tokens_of_host_group host_group_is_read_back tokens_of_host_group host_group_is_read_back gs [] ts
 
 -- what is said of some tokens
 pub record ReadsAsSpecNode (ts : List TokenWithBytes) (users : List Member) (groups : List HostGroup) : Type 0 where
   pub others : List Member
   pub places : List HostGroup
   pub reads : Reads ts (node.Spec others places)
-  pub same_users : AreItemsPairwiseRelated IsMemberSameButPlace users others
-  pub same_groups : AreItemsPairwiseRelated IsHostGroupSameButPlace groups places
+  pub same_users : AreItemsPairwiseRelated MemberIsReadBackAs users others
+  pub same_groups : AreItemsPairwiseRelated HostGroupIsReadBackAs groups places
 
 spec_tokens_read_as_node : (users : List Member) (groups : List HostGroup) (ts : List TokenWithBytes) → IsNonEmptyListOf IsWritableUserMember users → IsNonEmptyListOf IsWritableHostGroup groups → AreTokensShownBy (tokens_of_spec_line users groups) ts → ReadsAsSpecNode ts users groups
 spec_tokens_read_as_node [] groups ts all some shown = absurd all

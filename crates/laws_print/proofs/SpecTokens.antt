@@ -1,6 +1,6 @@
 -- User specifications, token by token, and as they are printed: a device of the laws.
 use Rattle.laws_print.proofs.Common.{◌≡◌, ℕ, Bool, true, false, List, [], ◌∷◌, ◌++◌, ap, ◌∙◌, codes, join_by, append_assoc, User, Member, CmdSpec}
-use Rattle.laws_print.proofs.Common.{HostGroup, printed_member_list, printed_command, printed_line, IsWritableUserMember, IsNonEmptyListOf, IsWritableCommand, IsWritableHostGroup}
+use Rattle.laws_print.proofs.Common.{HostGroup, printed_member_list, printed_runas_options_tags_and_command, printed_line, IsWritableUserMember, IsNonEmptyListOf, IsWritableCommand, IsWritableHostGroup}
 use Rattle.laws_print.proofs.Common.{WrittenToken, line_of_written_tokens}
 use Rattle.sudoers_grammar.specs.declared.node.Kind.TheVariants.{Host}
 use Rattle.sudoers_grammar.specs.Node as node
@@ -40,16 +40,16 @@ tokens_of_spec_line users groups = tokens_of_member_list User false true users (
 
 -- ---- as they are printed
 
-text_of_command_spec_list_is_printed : (cs : List CmdSpec) (tail : List WrittenToken) → IsNonEmptyListOf IsWritableCommand cs → line_of_written_tokens (tokens_of_command_spec_list cs tail) ≡ 32 ∷ (join_by printed_command (codes ", ") cs ++ line_of_written_tokens tail)
+text_of_command_spec_list_is_printed : (cs : List CmdSpec) (tail : List WrittenToken) → IsNonEmptyListOf IsWritableCommand cs → line_of_written_tokens (tokens_of_command_spec_list cs tail) ≡ 32 ∷ (join_by printed_runas_options_tags_and_command (codes ", ") cs ++ line_of_written_tokens tail)
 text_of_command_spec_list_is_printed [] tail all = absurd all
 text_of_command_spec_list_is_printed (c ∷ cs) tail all =
-    many_text 44 false printed_command (tokens_of_one_command_spec true) IsWritableCommand (text_of_command_spec_is_printed true) (32 ∷ []) (printed_command c) (λ t. line_of_written_tokens (tokens_of_one_command_spec true c t)) (λ t. text_of_command_spec_is_printed true c t all.0) cs tail all.1
+    many_text 44 false printed_runas_options_tags_and_command (tokens_of_one_command_spec true) IsWritableCommand (text_of_command_spec_is_printed true) (32 ∷ []) (printed_runas_options_tags_and_command c) (λ t. line_of_written_tokens (tokens_of_one_command_spec true c t)) (λ t. text_of_command_spec_is_printed true c t all.0) cs tail all.1
 
 text_of_host_group_is_printed : (g : HostGroup) (tail : List WrittenToken) → IsWritableHostGroup g → line_of_written_tokens (tokens_of_host_group g tail) ≡ 32 ∷ (printed_host_group g ++ line_of_written_tokens tail)
 text_of_host_group_is_printed g tail is =
     text_of_member_list_is_printed Host true false g.hosts (token_of_mark 61 true ∷ tokens_of_command_spec_list g.commands tail) is.hosts
     ∙ ap (λ (t : List ℕ). 32 ∷ (printed_member_list false Host g.hosts ++ (32 ∷ 61 ∷ t))) (text_of_command_spec_list_is_printed g.commands tail is.commands)
-    ∙ ap (λ (t : List ℕ). 32 ∷ t) (joined (printed_member_list false Host g.hosts) (join_by printed_command (codes ", ") g.commands) (line_of_written_tokens tail))
+    ∙ ap (λ (t : List ℕ). 32 ∷ t) (joined (printed_member_list false Host g.hosts) (join_by printed_runas_options_tags_and_command (codes ", ") g.commands) (line_of_written_tokens tail))
   where
     joined : (a b c : List ℕ) → a ++ (32 ∷ 61 ∷ 32 ∷ (b ++ c)) ≡ (a ++ codes " = " ++ b) ++ c
     joined a b c = simp append_assoc

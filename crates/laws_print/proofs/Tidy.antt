@@ -5,7 +5,7 @@ use Rattle.laws_print.proofs.Common.{LineUnit, Continuation, Pair, Byte, bytes_o
 use Rattle.laws_print.proofs.Common.{backslash_unit_size_by, pair_size_of_unit, reach_past_first_byte, reach_of_units, run_unit_size}
 use Rattle.sudoers_text.specs.declared.part.ByteRunKind.TheVariants as rule
 use Rattle.sudoers_text.specs.Unit.{unit_after_backslash}
-use Rattle.sudoers_text.specs.Part.{is_quoted_byte, is_quoted_byte_but_separator, escape_size_of_unit}
+use Rattle.sudoers_text.specs.Part.{is_quoted_byte, is_quoted_byte_but_separator, pair_or_continuation_size_of_unit}
 use Rattle.laws_print.proofs.Words.{IsNoLineEndByte, passing_byte_differs_from_failing_byte}
 
 -- a byte that is in no line end, and no backslash
@@ -63,7 +63,7 @@ pub record IsBackslashUnitMeasure (size : LineUnit → ℕ) : Type 0 where
 pair_size_is_backslash_unit_measure : IsBackslashUnitMeasure pair_size_of_unit
 pair_size_is_backslash_unit_measure = record { pairs = λ c. refl; lines = λ crlf. inl refl; bytes = refl }
 
-escape_size_is_backslash_unit_measure : IsBackslashUnitMeasure escape_size_of_unit
+escape_size_is_backslash_unit_measure : IsBackslashUnitMeasure pair_or_continuation_size_of_unit
 escape_size_is_backslash_unit_measure = record { pairs = λ c. refl; lines = λ crlf. inr refl; bytes = refl }
 
 measured_pair_is_tidy_front : (size : LineUnit → ℕ) → IsBackslashUnitMeasure size → (c : ℕ) (more : List ℕ) (k : ℕ) → begins_line_end (c ∷ more) ≡ false → size (Pair c) ≡ suc k → HasTidyFrontOfSize (92 ∷ c ∷ more) (suc k)
@@ -170,7 +170,7 @@ pub path_unit_size_measures_tidy_front : MeasuresTidyFront (run_unit_size rule.P
 path_unit_size_measures_tidy_front = first_nonzero_size_measures_tidy_front (size_of_one_matching_byte is_path_byte) (backslash_unit_size_by pair_size_of_unit) (matching_byte_size_measures_tidy_front is_path_byte (byte_passing_test_is_tidy is_path_byte refl refl refl)) (backslash_unit_size_measures_tidy_front pair_size_of_unit pair_size_is_backslash_unit_measure)
 
 pub quote_unit_size_measures_tidy_front : MeasuresTidyFront (run_unit_size rule.Quote)
-quote_unit_size_measures_tidy_front = first_nonzero_size_measures_tidy_front (size_of_one_matching_byte is_quoted_byte) (backslash_unit_size_by escape_size_of_unit) (matching_byte_size_measures_tidy_front is_quoted_byte (byte_passing_test_is_tidy is_quoted_byte refl refl refl)) (backslash_unit_size_measures_tidy_front escape_size_of_unit escape_size_is_backslash_unit_measure)
+quote_unit_size_measures_tidy_front = first_nonzero_size_measures_tidy_front (size_of_one_matching_byte is_quoted_byte) (backslash_unit_size_by pair_or_continuation_size_of_unit) (matching_byte_size_measures_tidy_front is_quoted_byte (byte_passing_test_is_tidy is_quoted_byte refl refl refl)) (backslash_unit_size_measures_tidy_front pair_or_continuation_size_of_unit escape_size_is_backslash_unit_measure)
 
 pub clean_unit_size_measures_tidy_front : MeasuresTidyFront (run_unit_size rule.Clean)
-clean_unit_size_measures_tidy_front = first_nonzero_size_measures_tidy_front (size_of_one_matching_byte is_quoted_byte_but_separator) (backslash_unit_size_by escape_size_of_unit) (matching_byte_size_measures_tidy_front is_quoted_byte_but_separator (byte_passing_test_is_tidy is_quoted_byte_but_separator refl refl refl)) (backslash_unit_size_measures_tidy_front escape_size_of_unit escape_size_is_backslash_unit_measure)
+clean_unit_size_measures_tidy_front = first_nonzero_size_measures_tidy_front (size_of_one_matching_byte is_quoted_byte_but_separator) (backslash_unit_size_by pair_or_continuation_size_of_unit) (matching_byte_size_measures_tidy_front is_quoted_byte_but_separator (byte_passing_test_is_tidy is_quoted_byte_but_separator refl refl refl)) (backslash_unit_size_measures_tidy_front pair_or_continuation_size_of_unit escape_size_is_backslash_unit_measure)

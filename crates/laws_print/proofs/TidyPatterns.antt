@@ -1,7 +1,7 @@
 -- The pattern of a tidy text is a pattern.
 use Rattle.laws_print.proofs.Common.{◌≡◌, ℕ, zero, suc, ◌+◌, ◌≤◌, Bool, true, false, ◌&&◌, ◌||◌, not, List, [], ◌∷◌, ◌++◌, length, refl, sym, ap, subst}
 use Rattle.laws_print.proofs.Common.{◌∙◌, arith, ◌==◌, if◌then◌else◌, append_assoc, not-true, or_parts, eqb-true, is_blank, PatternSpelling, Command}
-use Rattle.laws_print.proofs.Common.{QuotedHost, is_dropped_backslash_before, pattern_of_kept_pair, pattern_of_remaining_bytes, pattern_of_text, has_byte, is_unescaped_pattern_byte, is_backslash_kept_before}
+use Rattle.laws_print.proofs.Common.{QuotedHost, is_dropped_backslash_before, pattern_of_kept_pair, pattern_of_remaining_bytes, pattern_of_text, has_byte, is_pattern_byte_but_backslash, is_backslash_kept_before}
 use Rattle.laws_print.proofs.Common.{is_writable_pattern}
 use Rattle.sudoers_text.specs.Value.{leading_blanks_size}
 use Rattle.sudoers_grammar.specs.declared.pattern.PatternSpelling.TheVariants.{Host}
@@ -15,14 +15,14 @@ use Rattle.laws_print.proofs.Tidy.{pair as a_pair}
 abbrev pub JoinsWithPatterns : PatternSpelling → List ℕ → Type 0
 JoinsWithPatterns s x = (y : List ℕ) → is_writable_pattern s y ≡ true → is_writable_pattern s (x ++ y) ≡ true
 
-pub unescaped_byte_joins_with_patterns : (s : PatternSpelling) (b : ℕ) → is_unescaped_pattern_byte b ≡ true → JoinsWithPatterns s (b ∷ [])
+pub unescaped_byte_joins_with_patterns : (s : PatternSpelling) (b : ℕ) → is_pattern_byte_but_backslash b ≡ true → JoinsWithPatterns s (b ∷ [])
 unescaped_byte_joins_with_patterns s b h [] is = h
 unescaped_byte_joins_with_patterns s b h (c ∷ y) is = by_backslash (b == 92) (or_parts (b == 0 || b == 10 || b == 13) (b == 92) (not-true _ h)).1
   where
-    both : is_unescaped_pattern_byte b ≡ true → is_writable_pattern s (c ∷ y) ≡ true → (is_unescaped_pattern_byte b && is_writable_pattern s (c ∷ y)) ≡ true
+    both : is_pattern_byte_but_backslash b ≡ true → is_writable_pattern s (c ∷ y) ≡ true → (is_pattern_byte_but_backslash b && is_writable_pattern s (c ∷ y)) ≡ true
     both x z = rw (x, z) refl
 
-    by_backslash : (t : Bool) → t ≡ false → (if t then is_backslash_kept_before s c && is_writable_pattern s y else is_unescaped_pattern_byte b && is_writable_pattern s (c ∷ y)) ≡ true
+    by_backslash : (t : Bool) → t ≡ false → (if t then is_backslash_kept_before s c && is_writable_pattern s y else is_pattern_byte_but_backslash b && is_writable_pattern s (c ∷ y)) ≡ true
     by_backslash true e = absurd (cc)
     by_backslash false e = both h is
 
@@ -40,7 +40,7 @@ empty_text_joins_with_patterns s y is = is
 
 -- ---- bytes and pairs
 
-tidy_byte_is_unescaped_pattern_byte : (b : ℕ) → is_tidy_byte b ≡ true → (b == 0) ≡ false → is_unescaped_pattern_byte b ≡ true
+tidy_byte_is_unescaped_pattern_byte : (b : ℕ) → is_tidy_byte b ≡ true → (b == 0) ≡ false → is_pattern_byte_but_backslash b ≡ true
 tidy_byte_is_unescaped_pattern_byte b h nul =
     let a = or_parts (b == 10 || b == 13) (b == 92) (not-true _ h) in
     let c = or_parts (b == 10) (b == 13) a.0 in
@@ -55,7 +55,7 @@ escaped_byte_not_dropped_keeps_backslash : (s : PatternSpelling) (c : ℕ) → I
 escaped_byte_not_dropped_keeps_backslash s c is nul kept =
     rw (nul, is.lf, is.cr, kept) refl
 
-dropped_backslash_byte_is_unescaped : (s : PatternSpelling) (c : ℕ) → IsNoLineEndByte c → (c == 0) ≡ false → is_dropped_backslash_before s c ≡ true → is_unescaped_pattern_byte c ≡ true
+dropped_backslash_byte_is_unescaped : (s : PatternSpelling) (c : ℕ) → IsNoLineEndByte c → (c == 0) ≡ false → is_dropped_backslash_before s c ≡ true → is_pattern_byte_but_backslash c ≡ true
 dropped_backslash_byte_is_unescaped s c is nul lost =
     let backslash : (c == 92) ≡ false = passing_byte_differs_from_failing_byte (is_dropped_backslash_before s) 92 c lost (backslash_before_backslash_is_kept s) in
     rw (nul, is.lf, is.cr, backslash) refl

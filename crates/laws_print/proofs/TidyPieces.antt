@@ -4,7 +4,7 @@ use Rattle.laws_print.proofs.Common.{refl, sym, ap, subst, ◌∙◌, arith, inl
 use Rattle.laws_print.proofs.Common.{length-append, length-take-le, take-append-drop, take-append_seam, not-true, and_parts, eqb-true}
 use Rattle.laws_print.proofs.Common.{TokenKind, LineUnit, Byte, is_id_position_after_units, is_digest_byte}
 use Rattle.laws_print.proofs.Common.{is_byte_of_parameter_name, is_path_byte, size_of_one_matching_byte, first_nonzero_number, reach_of_units, run_unit_size, leading_run_size, is_nonempty_run}
-use Rattle.laws_print.proofs.Common.{reach_past_first_byte, quoted_run_size, closed_quote_size, argument_unit_size, argument_units_size, quote_before_separator_size, TokenForm, Mark, Run, CommentPart}
+use Rattle.laws_print.proofs.Common.{reach_past_first_byte, quotes_and_run_between_size, closed_quote_size, argument_unit_size, argument_units_size, quoted_front_to_inner_separator_size, TokenForm, Mark, Run, CommentPart}
 use Rattle.laws_print.proofs.Common.{QuotedRest, kind_of_form, is_non_unix_group_word, is_piece_of_form, IsTokenOfKindAndSize}
 use Rattle.std.proofs.lemmas.List.{length-drop, take_all, take-take, drop-take}
 use Rattle.std.proofs.lemmas.Bool.{or_cases}
@@ -28,8 +28,8 @@ leading_run_is_tidy : (r : ByteRunKind) → MeasuresTidyFront (run_unit_size r) 
 unfolding leading_run_size
 leading_run_is_tidy r is bytes = reached_text_is_tidy (run_unit_size r) is (length bytes) bytes (omega arith)
 
-quoted_run_size_measures_tidy_front : (r : ByteRunKind) → MeasuresTidyFront (run_unit_size r) → MeasuresTidyFront (quoted_run_size r)
-unfolding quoted_run_size
+quoted_run_size_measures_tidy_front : (r : ByteRunKind) → MeasuresTidyFront (run_unit_size r) → MeasuresTidyFront (quotes_and_run_between_size r)
+unfolding quotes_and_run_between_size
 quoted_run_size_measures_tidy_front r is b rest k e = by_test (b == 34 && has_given_first_byte 34 (drop (leading_run_size r rest) rest)) refl e
   where
     by_drop : (ds : List ℕ) → drop (leading_run_size r rest) rest ≡ ds → (b == 34) ≡ true → has_given_first_byte 34 ds ≡ true → leading_run_size r rest + 2 ≡ suc k → HasTidyFrontOfSize (b ∷ rest) (suc k)
@@ -60,25 +60,25 @@ taken_unit_is_tidy unit is (b ∷ rest) (suc k) some e none =
     subst IsTidyText (sym (ap (λ (n : ℕ). take n (b ∷ rest)) (sym there.long) ∙ ap (take (length there.front)) there.whole ∙ take-append_seam there.front there.rest)) there.tidy
 
 argument_unit_size_measures_tidy_front : MeasuresTidyFront argument_unit_size
-argument_unit_size_measures_tidy_front = first_nonzero_size_measures_tidy_front (run_unit_size rule.Path) (quoted_run_size rule.Clean) path_unit_size_measures_tidy_front (quoted_run_size_measures_tidy_front rule.Clean clean_unit_size_measures_tidy_front)
+argument_unit_size_measures_tidy_front = first_nonzero_size_measures_tidy_front (run_unit_size rule.Path) (quotes_and_run_between_size rule.Clean) path_unit_size_measures_tidy_front (quoted_run_size_measures_tidy_front rule.Clean clean_unit_size_measures_tidy_front)
 
 leading_argument_units_are_tidy : (bytes : List ℕ) → IsTidyText (take (argument_units_size bytes) bytes)
 unfolding argument_units_size
 leading_argument_units_are_tidy bytes = reached_text_is_tidy argument_unit_size argument_unit_size_measures_tidy_front (length bytes) bytes (omega arith)
 
-leading_broken_quote_is_tidy : (bytes : List ℕ) → IsTidyText (take (quote_before_separator_size bytes) bytes)
-unfolding quote_before_separator_size
+leading_broken_quote_is_tidy : (bytes : List ℕ) → IsTidyText (take (quoted_front_to_inner_separator_size bytes) bytes)
+unfolding quoted_front_to_inner_separator_size
 leading_broken_quote_is_tidy [] = done
-leading_broken_quote_is_tidy (b ∷ rest) = by_test (quoted_run_size rule.Clean (b ∷ rest) == 0 && not (closed_quote_size (b ∷ rest) == 0)) refl
+leading_broken_quote_is_tidy (b ∷ rest) = by_test (quotes_and_run_between_size rule.Clean (b ∷ rest) == 0 && not (closed_quote_size (b ∷ rest) == 0)) refl
   where
     by_quote : (t : Bool) → (b == 34) ≡ t → (closed_quote_size (b ∷ rest) == 0) ≡ false → (b == 34) ≡ true
     by_quote true e h = e
     by_quote false e h = absurd (let none : (closed_quote_size (b ∷ rest) == 0) ≡ true = ap (λ (n : ℕ). n == 0) (other_byte_begins_no_closed_quote b rest e) in cc)
 
-    by_test : (t : Bool) → (quoted_run_size rule.Clean (b ∷ rest) == 0 && not (closed_quote_size (b ∷ rest) == 0)) ≡ t → IsTidyText (take (if t then leading_run_size rule.Clean rest + 1 else 0) (b ∷ rest))
+    by_test : (t : Bool) → (quotes_and_run_between_size rule.Clean (b ∷ rest) == 0 && not (closed_quote_size (b ∷ rest) == 0)) ≡ t → IsTidyText (take (if t then leading_run_size rule.Clean rest + 1 else 0) (b ∷ rest))
     by_test false h = done
     by_test true h =
-        let quoted = not-true (closed_quote_size (b ∷ rest) == 0) (and_parts (quoted_run_size rule.Clean (b ∷ rest) == 0) (not (closed_quote_size (b ∷ rest) == 0)) h).1 in
+        let quoted = not-true (closed_quote_size (b ∷ rest) == 0) (and_parts (quotes_and_run_between_size rule.Clean (b ∷ rest) == 0) (not (closed_quote_size (b ∷ rest) == 0)) h).1 in
         let quote : b ≡ 34 = eqb-true b 34 (by_quote (b == 34) refl quoted) in
         let size : leading_run_size rule.Clean rest + 1 ≡ suc (leading_run_size rule.Clean rest) = omega arith in
         subst IsTidyText (sym (ap (λ (n : ℕ). take n (b ∷ rest)) size ∙ ap (λ (c : ℕ). c ∷ take (leading_run_size rule.Clean rest) rest) quote)) (byte refl (leading_run_is_tidy rule.Clean clean_unit_size_measures_tidy_front rest))
@@ -92,14 +92,14 @@ two_tidy_parts_are_tidy_together w m n bytes size front behind =
 argument_of_size_is_tidy : (bytes : List ℕ) (n : ℕ) → n ≤ length bytes → is_argument_of_size bytes n ≡ true → IsTidyText (take n bytes)
 argument_of_size_is_tidy bytes n inside h = by_whole (argument_units_size (take n bytes)) refl (leading_argument_units_are_tidy (take n bytes)) h
   where
-    by_whole : (w : ℕ) → argument_units_size (take n bytes) ≡ w → IsTidyText (take (argument_units_size (take n bytes)) (take n bytes)) → (w == n || (nat_lt 0 (quote_before_separator_size (drop w bytes)) && (w + quote_before_separator_size (drop w bytes) == n))) ≡ true → IsTidyText (take n bytes)
+    by_whole : (w : ℕ) → argument_units_size (take n bytes) ≡ w → IsTidyText (take (argument_units_size (take n bytes)) (take n bytes)) → (w == n || (nat_lt 0 (quoted_front_to_inner_separator_size (drop w bytes)) && (w + quoted_front_to_inner_separator_size (drop w bytes) == n))) ≡ true → IsTidyText (take n bytes)
     by_whole w e front h =
-        elim (or_cases (w == n) (nat_lt 0 (quote_before_separator_size (drop w bytes)) && (w + quote_before_separator_size (drop w bytes) == n)) h) [
+        elim (or_cases (w == n) (nat_lt 0 (quoted_front_to_inner_separator_size (drop w bytes)) && (w + quoted_front_to_inner_separator_size (drop w bytes) == n)) h) [
           | inl is ↦
               let long : length (take n bytes) ≡ n = length-take-le n bytes inside in
               subst IsTidyText (ap (λ (m : ℕ). take m (take n bytes)) (e ∙ eqb-true w n is ∙ sym long) ∙ take_all (length (take n bytes)) (take n bytes) (omega arith)) front
           | inr is ↦
-              two_tidy_parts_are_tidy_together w (quote_before_separator_size (drop w bytes)) n bytes (eqb-true (w + quote_before_separator_size (drop w bytes)) n (and_parts (nat_lt 0 (quote_before_separator_size (drop w bytes))) (w + quote_before_separator_size (drop w bytes) == n) is).1)
+              two_tidy_parts_are_tidy_together w (quoted_front_to_inner_separator_size (drop w bytes)) n bytes (eqb-true (w + quoted_front_to_inner_separator_size (drop w bytes)) n (and_parts (nat_lt 0 (quoted_front_to_inner_separator_size (drop w bytes))) (w + quoted_front_to_inner_separator_size (drop w bytes) == n) is).1)
               (subst (λ (m : ℕ). IsTidyText (take m (take n bytes))) e front) (leading_broken_quote_is_tidy (drop w bytes))
         ]
 
@@ -210,8 +210,8 @@ taken_path_run_begins_with_slash [] n h some = absurd (cc)
 taken_path_run_begins_with_slash (b ∷ bytes) zero h some = absurd (let none = (and_parts (nat_lt 0 (length (take 0 (b ∷ bytes)))) (leading_run_size rule.Path (take 0 (b ∷ bytes)) == length (take 0 (b ∷ bytes))) some).0 in cc)
 taken_path_run_begins_with_slash (b ∷ bytes) (suc n) h some = h
 
-quoted_size_of_empty_text_is_zero : quoted_run_size rule.Quote [] ≡ 0
-unfolding quoted_run_size
+quoted_size_of_empty_text_is_zero : quotes_and_run_between_size rule.Quote [] ≡ 0
+unfolding quotes_and_run_between_size
 quoted_size_of_empty_text_is_zero = refl
 
 -- A piece of one of these forms.
@@ -226,7 +226,7 @@ good_form_piece_has_text_of_kind form a_path before bytes n inside h =
     (path_run_is_tight (take n bytes) parts.1, taken_path_run_begins_with_slash bytes n parts.0 parts.1)
 good_form_piece_has_text_of_kind form a_quoted before bytes n inside h =
     let parts = and_parts (nat_lt 0 n) (n == closed_quote_size bytes) h in
-    taken_unit_is_tidy (quoted_run_size rule.Quote) (quoted_run_size_measures_tidy_front rule.Quote quote_unit_size_measures_tidy_front) bytes n (below_test_implies_below 0 n parts.0) (eqb-true n (closed_quote_size bytes) parts.1) quoted_size_of_empty_text_is_zero
+    taken_unit_is_tidy (quotes_and_run_between_size rule.Quote) (quoted_run_size_measures_tidy_front rule.Quote quote_unit_size_measures_tidy_front) bytes n (below_test_implies_below 0 n parts.0) (eqb-true n (closed_quote_size bytes) parts.1) quoted_size_of_empty_text_is_zero
 good_form_piece_has_text_of_kind form an_argument before bytes n inside h = argument_of_size_is_tidy bytes n inside (and_parts (nat_lt 0 n) (is_argument_of_size bytes n) h).1
 good_form_piece_has_text_of_kind form a_rest before bytes n inside h = rest_of_quoted_argument_is_tidy bytes n (eqb-true n (quoted_argument_rest_size bytes) (and_parts (nat_lt 0 n) (n == quoted_argument_rest_size bytes) h).1)
 good_form_piece_has_text_of_kind form good before bytes n inside h = tt
@@ -254,8 +254,8 @@ path_unit_opens_text b rest k e = by_front (positive_run_begins_with_byte_or_pai
     by_front (at_byte {b = b} h) = by_byte (byte_passing_test_is_tidy is_path_byte refl refl refl b h)
     by_front (at_pair is) = by_pair is
 
-quoted_run_opens_text : (b : ℕ) (rest : List ℕ) (k : ℕ) → quoted_run_size rule.Clean (b ∷ rest) ≡ suc k → OpensWithByteOrPair (b ∷ rest)
-unfolding quoted_run_size
+quoted_run_opens_text : (b : ℕ) (rest : List ℕ) (k : ℕ) → quotes_and_run_between_size rule.Clean (b ∷ rest) ≡ suc k → OpensWithByteOrPair (b ∷ rest)
+unfolding quotes_and_run_between_size
 quoted_run_opens_text b rest k e = by_test (b == 34 && has_given_first_byte 34 (drop (leading_run_size rule.Clean rest) rest)) refl e
   where
     by_test : (t : Bool) → (b == 34 && has_given_first_byte 34 (drop (leading_run_size rule.Clean rest) rest)) ≡ t → (if t then leading_run_size rule.Clean rest + 2 else 0) ≡ suc k → OpensWithByteOrPair (b ∷ rest)
@@ -265,7 +265,7 @@ quoted_run_opens_text b rest k e = by_test (b == 34 && has_given_first_byte 34 (
 argument_unit_opens_text : (b : ℕ) (rest : List ℕ) (k : ℕ) → argument_unit_size (b ∷ rest) ≡ suc k → OpensWithByteOrPair (b ∷ rest)
 argument_unit_opens_text b rest k e = by_first (run_unit_size rule.Path (b ∷ rest)) refl e
   where
-    by_first : (n : ℕ) → run_unit_size rule.Path (b ∷ rest) ≡ n → first_nonzero_number n (quoted_run_size rule.Clean (b ∷ rest)) ≡ suc k → OpensWithByteOrPair (b ∷ rest)
+    by_first : (n : ℕ) → run_unit_size rule.Path (b ∷ rest) ≡ n → first_nonzero_number n (quotes_and_run_between_size rule.Clean (b ∷ rest)) ≡ suc k → OpensWithByteOrPair (b ∷ rest)
     by_first zero h e = quoted_run_opens_text b rest k e
     by_first (suc n) h e = path_unit_opens_text b rest n h
 
@@ -277,29 +277,29 @@ argument_units_open_text b rest k e = by_unit (argument_unit_size (b ∷ rest)) 
     by_unit zero h e = absurd (omega (arith, e))
     by_unit (suc n) h e = argument_unit_opens_text b rest n h
 
-broken_quote_begins_with_quote : (b : ℕ) (rest : List ℕ) → 0 < quote_before_separator_size (b ∷ rest) → (b == 34) ≡ true
-unfolding quote_before_separator_size
+broken_quote_begins_with_quote : (b : ℕ) (rest : List ℕ) → 0 < quoted_front_to_inner_separator_size (b ∷ rest) → (b == 34) ≡ true
+unfolding quoted_front_to_inner_separator_size
 broken_quote_begins_with_quote b rest some = by_quote (b == 34) refl
   where
-    by_test : (t : Bool) → (quoted_run_size rule.Clean (b ∷ rest) == 0 && not (closed_quote_size (b ∷ rest) == 0)) ≡ t → 0 < (if t then leading_run_size rule.Clean rest + 1 else 0) → (closed_quote_size (b ∷ rest) == 0) ≡ true → ⊥
-    by_test true h some none = let not_none = (and_parts (quoted_run_size rule.Clean (b ∷ rest) == 0) (not (closed_quote_size (b ∷ rest) == 0)) h).1 in let other : not true ≡ true = ap not (sym none) ∙ not_none in cc
+    by_test : (t : Bool) → (quotes_and_run_between_size rule.Clean (b ∷ rest) == 0 && not (closed_quote_size (b ∷ rest) == 0)) ≡ t → 0 < (if t then leading_run_size rule.Clean rest + 1 else 0) → (closed_quote_size (b ∷ rest) == 0) ≡ true → ⊥
+    by_test true h some none = let not_none = (and_parts (quotes_and_run_between_size rule.Clean (b ∷ rest) == 0) (not (closed_quote_size (b ∷ rest) == 0)) h).1 in let other : not true ≡ true = ap not (sym none) ∙ not_none in cc
     by_test false h some none = omega (arith, some)
 
     by_quote : (t : Bool) → (b == 34) ≡ t → (b == 34) ≡ true
     by_quote true e = e
-    by_quote false e = absurd (by_test (quoted_run_size rule.Clean (b ∷ rest) == 0 && not (closed_quote_size (b ∷ rest) == 0)) refl some (ap (λ (n : ℕ). n == 0) (other_byte_begins_no_closed_quote b rest e)))
+    by_quote false e = absurd (by_test (quotes_and_run_between_size rule.Clean (b ∷ rest) == 0 && not (closed_quote_size (b ∷ rest) == 0)) refl some (ap (λ (n : ℕ). n == 0) (other_byte_begins_no_closed_quote b rest e)))
 
 pub sized_argument_opens_with_byte_or_pair : (bytes : List ℕ) (n : ℕ) → n ≤ length bytes → (nat_lt 0 n && is_argument_of_size bytes n) ≡ true → OpensWithByteOrPair (take n bytes)
 sized_argument_opens_with_byte_or_pair bytes zero inside h = absurd (cc)
 sized_argument_opens_with_byte_or_pair [] (suc n) inside h = absurd (omega arith)
 sized_argument_opens_with_byte_or_pair (b ∷ rest) (suc n) inside h = by_whole (argument_units_size (take (suc n) (b ∷ rest))) refl (and_parts (nat_lt 0 (suc n)) (is_argument_of_size (b ∷ rest) (suc n)) h).1
   where
-    by_whole : (w : ℕ) → argument_units_size (take (suc n) (b ∷ rest)) ≡ w → (w == suc n || (nat_lt 0 (quote_before_separator_size (drop w (b ∷ rest))) && (w + quote_before_separator_size (drop w (b ∷ rest)) == suc n))) ≡ true → OpensWithByteOrPair (b ∷ take n rest)
+    by_whole : (w : ℕ) → argument_units_size (take (suc n) (b ∷ rest)) ≡ w → (w == suc n || (nat_lt 0 (quoted_front_to_inner_separator_size (drop w (b ∷ rest))) && (w + quoted_front_to_inner_separator_size (drop w (b ∷ rest)) == suc n))) ≡ true → OpensWithByteOrPair (b ∷ take n rest)
     by_whole (suc w) e h = argument_units_open_text b (take n rest) w e
     by_whole zero e h =
-        elim (or_cases (0 == suc n) (nat_lt 0 (quote_before_separator_size (b ∷ rest)) && (0 + quote_before_separator_size (b ∷ rest) == suc n)) h) [
+        elim (or_cases (0 == suc n) (nat_lt 0 (quoted_front_to_inner_separator_size (b ∷ rest)) && (0 + quoted_front_to_inner_separator_size (b ∷ rest) == suc n)) h) [
           | inl is ↦ absurd (let same = eqb-true 0 (suc n) is in omega (arith, same))
           | inr is ↦
-              let some = below_test_implies_below 0 (quote_before_separator_size (b ∷ rest)) (and_parts (nat_lt 0 (quote_before_separator_size (b ∷ rest))) (0 + quote_before_separator_size (b ∷ rest) == suc n) is).0 in
+              let some = below_test_implies_below 0 (quoted_front_to_inner_separator_size (b ∷ rest)) (and_parts (nat_lt 0 (quoted_front_to_inner_separator_size (b ∷ rest))) (0 + quoted_front_to_inner_separator_size (b ∷ rest) == suc n) is).0 in
               subst (λ (x : ℕ). OpensWithByteOrPair (x ∷ take n rest)) (sym (eqb-true b 34 (broken_quote_begins_with_quote b rest some))) (by_byte refl)
         ]

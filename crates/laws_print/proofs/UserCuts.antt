@@ -3,7 +3,7 @@ use Rattle.laws_print.proofs.Common.{◌≡◌, ◌≢◌, ℕ, zero, suc, ◌+�
 use Rattle.laws_print.proofs.Common.{arith, ◌==◌, if◌then◌else◌, codes, nat_lt, list_all, and_parts, nat_tests, TokenContext, LineUnit, Pair, Byte, unit_at}
 use Rattle.laws_print.proofs.Common.{is_id_position_after_units, is_digit, size_of_one_matching_byte, reach_of_units, leading_run_size, is_word_byte, token_forms_in_context, token_forms_in_word_lists, kind_and_size_of_token, size_with_prefix}
 use Rattle.laws_print.proofs.Common.{numeric_id_size, optional_colon_id_size, hash_id_size, non_unix_group_size, colon_and_word_size, text_of_units, AllowsIdBehindUnits, IsTokenCut, AreWrittenUnitsOf}
-use Rattle.laws_print.proofs.Common.{units_of_spelled_word, is_read_as_special_word, IsWritableUserAtom, is_upper, TokenForm, is_alias_byte, is_name, id_limit, Atom}
+use Rattle.laws_print.proofs.Common.{units_of_spelled_word, is_read_as_other_than_user_name, IsWritableUserAtom, is_upper, TokenForm, is_alias_byte, is_name, id_limit, Atom}
 use Rattle.std.specs.Fmt.{decimal}
 use Rattle.sudoers_text.specs.declared.part.ByteRunKind.TheVariants as rule
 use Rattle.sudoers_text.specs.declared.token.TokenKind.TheVariants as kind
@@ -116,9 +116,9 @@ spelled_word_front_is_not_empty b text escaped = omega arith
 spelled_word_front_is_not_empty b text (itself word) = omega arith
 
 pub units_of_user_name_are_word_units : (first : Bool) (b : ℕ) (name : List ℕ) → (0 < length (text_of_units (units_of_user_name first (b ∷ name)))) × AreWrittenUnitsOf is_word_byte (units_of_user_name first (b ∷ name))
-units_of_user_name_are_word_units first b name = by_else (is_read_as_special_word first (spelled_word (b ∷ name))) refl
+units_of_user_name_are_word_units first b name = by_else (is_read_as_other_than_user_name first (spelled_word (b ∷ name))) refl
   where
-    by_else : (t : Bool) → is_read_as_special_word first (spelled_word (b ∷ name)) ≡ t → (0 < length (text_of_units (if t then Pair b ∷ units_of_spelled_word name else units_of_spelled_word (b ∷ name)))) × AreWrittenUnitsOf is_word_byte (if t then Pair b ∷ units_of_spelled_word name else units_of_spelled_word (b ∷ name))
+    by_else : (t : Bool) → is_read_as_other_than_user_name first (spelled_word (b ∷ name)) ≡ t → (0 < length (text_of_units (if t then Pair b ∷ units_of_spelled_word name else units_of_spelled_word (b ∷ name)))) × AreWrittenUnitsOf is_word_byte (if t then Pair b ∷ units_of_spelled_word name else units_of_spelled_word (b ∷ name))
     by_else true e = (omega arith, ((special_spelled_word_can_take_backslash first b name e).pair, units_of_spelled_word_are_word_units name))
     by_else false e = (spelled_word_front_is_not_empty b (text_of_units (units_of_spelled_word (b ∷ name))) (word_units_have_front_of_spelled_word b name), units_of_spelled_word_are_word_units (b ∷ name))
 

@@ -3,7 +3,7 @@ use Rattle.laws_print.proofs.Common.{◌≡◌, ◌≢◌, ℕ, ◌^◌, ◌≤�
 use Rattle.laws_print.proofs.Common.{◌∙◌, arith, inl, inr, ◌==◌, if◌then◌else◌, codes, option_map, nat_le, list_all, bytes_eq, or_parts, and_parts}
 use Rattle.laws_print.proofs.Common.{eqb_tells, bytes_eq-Decides, LineUnit, Pair, is_digit, is_word_byte, value_of_word, is_name, Atom, id_limit}
 use Rattle.laws_print.proofs.Common.{decimal_number, some_if_not_empty, group_atom_after_percent, user_atom_by_prefix, user_atom_of_word, user_atom_of_bounded_id, user_atom_of_token, text_of_units, is_written_unit, units_of_spelled_byte}
-use Rattle.laws_print.proofs.Common.{units_of_spelled_word, is_start_of_non_spec_line, is_read_as_special_word, IsWritableUserAtom}
+use Rattle.laws_print.proofs.Common.{units_of_spelled_word, is_start_of_non_spec_line, is_read_as_other_than_user_name, IsWritableUserAtom}
 use Rattle.sudoers_grammar.specs.declared.node.Atom.TheVariants as atom
 use Rattle.std.specs.Fmt.{decimal}
 use Rattle.std.proofs.lemmas.Fmt.{decimal_is_IsNumeral, digits_decimal, digits_value-decimal}
@@ -69,22 +69,22 @@ pub record CanTakeBackslash (b : ℕ) : Type 0 where
   pub other : (b == 120) ≡ false
 
 -- nothing that begins with `x` is read as something else
-word_with_leading_x_is_not_special : (first : Bool) (more : List ℕ) → is_read_as_special_word first (120 ∷ more) ≡ false
+word_with_leading_x_is_not_special : (first : Bool) (more : List ℕ) → is_read_as_other_than_user_name first (120 ∷ more) ≡ false
 word_with_leading_x_is_not_special true more = refl
 word_with_leading_x_is_not_special false more = refl
 
-pub word_with_leading_backslash_is_not_special : (first : Bool) (more : List ℕ) → is_read_as_special_word first (92 ∷ more) ≡ false
+pub word_with_leading_backslash_is_not_special : (first : Bool) (more : List ℕ) → is_read_as_other_than_user_name first (92 ∷ more) ≡ false
 word_with_leading_backslash_is_not_special true more = refl
 word_with_leading_backslash_is_not_special false more = refl
 
-front_of_special_word_can_take_backslash : (first : Bool) (b : ℕ) (text : List ℕ) → IsFrontOfSpelledWord b text → is_read_as_special_word first text ≡ true → CanTakeBackslash b
+front_of_special_word_can_take_backslash : (first : Bool) (b : ℕ) (text : List ℕ) → IsFrontOfSpelledWord b text → is_read_as_other_than_user_name first text ≡ true → CanTakeBackslash b
 front_of_special_word_can_take_backslash first b text (escaped {more = more}) h = absurd (let none = word_with_leading_backslash_is_not_special first more in cc)
 front_of_special_word_can_take_backslash first b text (itself {more = more} word) h =
     record {
       pair = rw (passing_byte_differs_from_failing_byte is_word_byte 0 b word refl, passing_byte_differs_from_failing_byte is_word_byte 10 b word refl, passing_byte_differs_from_failing_byte is_word_byte 13 b word refl) refl;
       other =
           elim (eqb_tells b 120) [
-            | inl w ↦ absurd (let there : is_read_as_special_word first (120 ∷ more) ≡ true = subst (λ (x : ℕ). is_read_as_special_word first (x ∷ more) ≡ true) w.1 h in let none = word_with_leading_x_is_not_special first more in cc)
+            | inl w ↦ absurd (let there : is_read_as_other_than_user_name first (120 ∷ more) ≡ true = subst (λ (x : ℕ). is_read_as_other_than_user_name first (x ∷ more) ≡ true) w.1 h in let none = word_with_leading_x_is_not_special first more in cc)
             | inr w ↦ w.0
           ];
     }
@@ -92,7 +92,7 @@ front_of_special_word_can_take_backslash first b text (itself {more = more} word
 pub spelled_word_has_front_of_its_byte : (b : ℕ) (name : List ℕ) → IsFrontOfSpelledWord b (spelled_word (b ∷ name))
 spelled_word_has_front_of_its_byte b name = subst (λ (t : List ℕ). IsFrontOfSpelledWord b t) (text_of_word_units_is_spelled_word (b ∷ name)) (word_units_have_front_of_spelled_word b name)
 
-pub special_spelled_word_can_take_backslash : (first : Bool) (b : ℕ) (name : List ℕ) → is_read_as_special_word first (spelled_word (b ∷ name)) ≡ true → CanTakeBackslash b
+pub special_spelled_word_can_take_backslash : (first : Bool) (b : ℕ) (name : List ℕ) → is_read_as_other_than_user_name first (spelled_word (b ∷ name)) ≡ true → CanTakeBackslash b
 special_spelled_word_can_take_backslash first b name h = front_of_special_word_can_take_backslash first b (spelled_word (b ∷ name)) (spelled_word_has_front_of_its_byte b name) h
 
 -- a text that is no alias's name, and not `ALL`
@@ -111,7 +111,7 @@ pub record IsNotReadAsSpecialWord (first : Bool) (text : List ℕ) : Type 0 wher
   pub plus : has_first_byte 43 text ≡ false
   pub line : (first && is_start_of_non_spec_line text) ≡ false
 
-pub special_word_test_implies_not_special : (first : Bool) (text : List ℕ) → is_read_as_special_word first text ≡ false → IsNotReadAsSpecialWord first text
+pub special_word_test_implies_not_special : (first : Bool) (text : List ℕ) → is_read_as_other_than_user_name first text ≡ false → IsNotReadAsSpecialWord first text
 special_word_test_implies_not_special first text h =
     let a = or_parts (is_name text || has_first_byte 37 text || has_first_byte 43 text) (first && is_start_of_non_spec_line text) h in
     let c = or_parts (is_name text || has_first_byte 37 text) (has_first_byte 43 text) a.0 in
@@ -121,9 +121,9 @@ special_word_test_implies_not_special first text h =
 -- Names are read as they are written.
 user_name_units_are_read_back : (first : Bool) (name : List ℕ) → name ≢ [] → user_atom_of_word (text_of_units (units_of_user_name first name)) ≡ Some (atom.Name name)
 user_name_units_are_read_back first [] h = absurd (h refl)
-user_name_units_are_read_back first (b ∷ name) h = by_else (is_read_as_special_word first (spelled_word (b ∷ name))) refl
+user_name_units_are_read_back first (b ∷ name) h = by_else (is_read_as_other_than_user_name first (spelled_word (b ∷ name))) refl
   where
-    by_else : (t : Bool) → is_read_as_special_word first (spelled_word (b ∷ name)) ≡ t → user_atom_of_word (text_of_units (if t then Pair b ∷ units_of_spelled_word name else units_of_spelled_word (b ∷ name))) ≡ Some (atom.Name (b ∷ name))
+    by_else : (t : Bool) → is_read_as_other_than_user_name first (spelled_word (b ∷ name)) ≡ t → user_atom_of_word (text_of_units (if t then Pair b ∷ units_of_spelled_word name else units_of_spelled_word (b ∷ name))) ≡ Some (atom.Name (b ∷ name))
     by_else true e =
         let can = special_spelled_word_can_take_backslash first b name e in
         unnamed_user_word_is_read_by_prefix (92 ∷ b ∷ text_of_units (units_of_spelled_word name)) (atom.Name (b ∷ name)) refl (ap (λ (v : List ℕ). option_map atom.Name (some_if_not_empty v)) (value_of_backslashed_word_is_word b name can.pair can.other))

@@ -11,7 +11,7 @@ use Rattle.sudoers_text.specs.declared.part.ByteRunKind.TheVariants as rule
 use Rattle.sudoers_text.specs.declared.token.TokenKind.TheVariants as kind
 use Rattle.sudoers_text.specs.Unit.{unit_after_backslash, begins_lf, begins_line_end}
 use Rattle.sudoers_text.specs.Part.{is_punct, has_given_first_byte}
-use Rattle.sudoers_text.specs.Token.{units_with_rest_of_bytes}
+use Rattle.sudoers_text.specs.Token.{units_with_those_after_skipped_bytes}
 use Rattle.laws_print.proofs.Units.{units_of_plain_bytes}
 use Rattle.laws_print.proofs.Lines.{appended_closed_texts_are_closed, empty_text_is_closed}
 use Rattle.sudoers_text.proofs.Reach.{reach_without_first_unit_is_zero}
@@ -171,8 +171,8 @@ bytes_of_unit_are_closed : (test : ℕ → Bool) (u : LineUnit) → test 92 ≡ 
 bytes_of_unit_are_closed test (Byte b) none h before rest = let e : (b == 92) ≡ false = passing_byte_differs_from_failing_byte test 92 b h none in rw e refl
 bytes_of_unit_are_closed test (Pair c) none h before rest =
     let is = (written_pair_is_no_nul_nor_break c h).1 in
-    ap (λ (u : LineUnit). units_with_rest_of_bytes (length (bytes_of_unit u) - 1) (u ∷ before) (c ∷ rest)) (unit_after_backslash_is_pair c rest is)
-    ∙ sym (ap (λ (u : LineUnit). units_with_those_of_bytes (units_with_rest_of_bytes (length (bytes_of_unit u) - 1) (u ∷ before) (c ∷ [])) rest) (unit_after_backslash_is_pair c [] is))
+    ap (λ (u : LineUnit). units_with_those_after_skipped_bytes (length (bytes_of_unit u) - 1) (u ∷ before) (c ∷ rest)) (unit_after_backslash_is_pair c rest is)
+    ∙ sym (ap (λ (u : LineUnit). units_with_those_of_bytes (units_with_those_after_skipped_bytes (length (bytes_of_unit u) - 1) (u ∷ before) (c ∷ [])) rest) (unit_after_backslash_is_pair c [] is))
 bytes_of_unit_are_closed test u none h before rest = absurd (cc)
 
 pub text_of_units_is_closed : (test : ℕ → Bool) → test 92 ≡ false → (us : List LineUnit) → AreWrittenUnitsOf test us → IsClosedText (text_of_units us)

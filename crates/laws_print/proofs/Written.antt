@@ -5,7 +5,7 @@ use Rattle.sudoers_text.specs.declared.part.ByteRunKind.TheVariants as rule
 use Rattle.sudoers_text.specs.declared.token.TokenKind.{TokenKind}
 use Rattle.sudoers_text.specs.declared.token.Token.{Token}
 use Rattle.sudoers_text.specs.declared.context.TokenContext.{TokenContext}
-use Rattle.sudoers_text.specs.Unit.{LineUnit, bytes_of_unit, unit_at, is_id_position_after_units, bytes_after_leading_gap, defaults_word}
+use Rattle.sudoers_text.specs.Unit.{LineUnit, bytes_of_unit, unit_at, is_id_position_after_units, bytes_of_units_after_leading_gap, defaults_word}
 use Rattle.sudoers_text.specs.Part.{leading_run_size}
 use Rattle.sudoers_text.specs.Token.{units_with_those_of_bytes, is_line_end_or_empty}
 use Rattle.sudoers_text.specs.Context.{token_forms_in_context, context_after_token}
@@ -68,7 +68,7 @@ pub data TokenPlace : Type 0 where
 abbrev pub StandsAtPlace : TokenPlace → List LineUnit → Type 0
 StandsAtPlace (At item) before = AllowsIdBehindUnits item before
 StandsAtPlace Start before = before ≡ []
-StandsAtPlace BehindDefaults before = bytes_after_leading_gap before ≡ defaults_word
+StandsAtPlace BehindDefaults before = bytes_of_units_after_leading_gap before ≡ defaults_word
 
 abbrev pub IsPossibleAtPlace : TokenPlace → Bool → Type 0
 IsPossibleAtPlace (At item) i = item ≡ true → i ≡ true

@@ -14,7 +14,7 @@ abbrev pub atom_read_back : Atom → Atom
 atom_read_back (atom.Host pattern) = if is_read_as_host_name (escaped_pattern HostName pattern) then atom.Host pattern else atom.Host (92 ∷ pattern)
 atom_read_back a = a
 
-pub record IsMemberSameButPlace (m n : Member) : Type 0 where
+pub record MemberIsReadBackAs (m n : Member) : Type 0 where
   pub negated : m.negated ≡ n.negated
   pub digests : m.digests ≡ n.digests
   pub atom : atom_read_back m.atom ≡ n.atom
@@ -26,41 +26,41 @@ AreItemsPairwiseRelated R [] (y ∷ ys) = ⊥
 AreItemsPairwiseRelated R (x ∷ xs) [] = ⊥
 AreItemsPairwiseRelated R (x ∷ xs) (y ∷ ys) = R x y × AreItemsPairwiseRelated R xs ys
 
-pub record IsDefinitionSameButPlace (d e : Def) : Type 0 where
+pub record DefinitionIsReadBackAs (d e : Def) : Type 0 where
   pub name : d.name ≡ e.name
-  pub members : AreItemsPairwiseRelated IsMemberSameButPlace d.members e.members
+  pub members : AreItemsPairwiseRelated MemberIsReadBackAs d.members e.members
 
-abbrev pub IsRunasSameButPlace : Option RunasSpec → Option RunasSpec → Type 0
-IsRunasSameButPlace None None = Unit {0}
-IsRunasSameButPlace None (Some s) = ⊥
-IsRunasSameButPlace (Some r) None = ⊥
-IsRunasSameButPlace (Some r) (Some s) = AreItemsPairwiseRelated IsMemberSameButPlace r.users s.users × AreItemsPairwiseRelated IsMemberSameButPlace r.groups s.groups
+abbrev pub RunasIsReadBackAs : Option RunasSpec → Option RunasSpec → Type 0
+RunasIsReadBackAs None None = Unit {0}
+RunasIsReadBackAs None (Some s) = ⊥
+RunasIsReadBackAs (Some r) None = ⊥
+RunasIsReadBackAs (Some r) (Some s) = AreItemsPairwiseRelated MemberIsReadBackAs r.users s.users × AreItemsPairwiseRelated MemberIsReadBackAs r.groups s.groups
 
-pub record IsCommandSameButPlace (c d : CmdSpec) : Type 0 where
-  pub runas : IsRunasSameButPlace c.runas d.runas
+pub record CommandIsReadBackAs (c d : CmdSpec) : Type 0 where
+  pub runas : RunasIsReadBackAs c.runas d.runas
   pub options : c.options ≡ d.options
   pub tags : c.tags ≡ d.tags
-  pub member : IsMemberSameButPlace c.member d.member
+  pub member : MemberIsReadBackAs c.member d.member
 
-pub record IsHostGroupSameButPlace (g h : HostGroup) : Type 0 where
-  pub hosts : AreItemsPairwiseRelated IsMemberSameButPlace g.hosts h.hosts
-  pub commands : AreItemsPairwiseRelated IsCommandSameButPlace g.commands h.commands
+pub record HostGroupIsReadBackAs (g h : HostGroup) : Type 0 where
+  pub hosts : AreItemsPairwiseRelated MemberIsReadBackAs g.hosts h.hosts
+  pub commands : AreItemsPairwiseRelated CommandIsReadBackAs g.commands h.commands
 
-abbrev pub IsScopeSameButPlace : Option Scope → Option Scope → Type 0
-IsScopeSameButPlace None None = Unit {0}
-IsScopeSameButPlace None (Some t) = ⊥
-IsScopeSameButPlace (Some s) None = ⊥
-IsScopeSameButPlace (Some s) (Some t) = (s.kind ≡ t.kind) × AreItemsPairwiseRelated IsMemberSameButPlace s.members t.members
+abbrev pub ScopeIsReadBackAs : Option Scope → Option Scope → Type 0
+ScopeIsReadBackAs None None = Unit {0}
+ScopeIsReadBackAs None (Some t) = ⊥
+ScopeIsReadBackAs (Some s) None = ⊥
+ScopeIsReadBackAs (Some s) (Some t) = (s.kind ≡ t.kind) × AreItemsPairwiseRelated MemberIsReadBackAs s.members t.members
 
 -- The lines say the same, places aside, and the backslash before the first byte of a host.
-abbrev pub IsNodeSameButPlace : Node → Node → Type 0
-IsNodeSameButPlace (node.Defaults scope params) (node.Defaults other settings) = IsScopeSameButPlace scope other × (params ≡ settings)
-IsNodeSameButPlace (node.Alias k defs) (node.Alias j others) = (k ≡ j) × AreItemsPairwiseRelated IsDefinitionSameButPlace defs others
-IsNodeSameButPlace (node.Spec users groups) (node.Spec others places) = AreItemsPairwiseRelated IsMemberSameButPlace users others × AreItemsPairwiseRelated IsHostGroupSameButPlace groups places
-IsNodeSameButPlace n m = ⊥
+abbrev pub NodeIsReadBackAs : Node → Node → Type 0
+NodeIsReadBackAs (node.Defaults scope params) (node.Defaults other settings) = ScopeIsReadBackAs scope other × (params ≡ settings)
+NodeIsReadBackAs (node.Alias k defs) (node.Alias j others) = (k ≡ j) × AreItemsPairwiseRelated DefinitionIsReadBackAs defs others
+NodeIsReadBackAs (node.Spec users groups) (node.Spec others places) = AreItemsPairwiseRelated MemberIsReadBackAs users others × AreItemsPairwiseRelated HostGroupIsReadBackAs groups places
+NodeIsReadBackAs n m = ⊥
 
 -- The line is read as saying the same.
 pub record LineReadsBackAs (line : List ℕ) (n : Node) : Type 0 where
   pub read : Node
   pub reads : LineReadsAsNode line read
-  pub same : IsNodeSameButPlace n read
+  pub same : NodeIsReadBackAs n read

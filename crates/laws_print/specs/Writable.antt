@@ -26,8 +26,8 @@ use Rattle.sudoers_grammar.specs.Grammar.{MayHaveDigests}
 -- ---- patterns
 
 -- a byte of a pattern that is no backslash
-abbrev pub is_unescaped_pattern_byte : ℕ → Bool
-is_unescaped_pattern_byte b = not (b == 0 || b == 10 || b == 13 || b == 92)
+abbrev pub is_pattern_byte_but_backslash : ℕ → Bool
+is_pattern_byte_but_backslash b = not (b == 0 || b == 10 || b == 13 || b == 92)
 
 -- a byte that keeps the backslash before it
 abbrev pub is_backslash_kept_before : PatternSpelling → ℕ → Bool
@@ -36,8 +36,8 @@ is_backslash_kept_before s c = not (c == 0 || c == 10 || c == 13 || is_dropped_b
 -- A pattern: such bytes, and backslashes that each stand before a byte that keeps it.
 abbrev pub is_writable_pattern : PatternSpelling → List ℕ → Bool
 is_writable_pattern s [] = true
-is_writable_pattern s (b ∷ []) = is_unescaped_pattern_byte b
-is_writable_pattern s (b ∷ c ∷ rest) = if b == 92 then is_backslash_kept_before s c && is_writable_pattern s rest else is_unescaped_pattern_byte b && is_writable_pattern s (c ∷ rest)
+is_writable_pattern s (b ∷ []) = is_pattern_byte_but_backslash b
+is_writable_pattern s (b ∷ c ∷ rest) = if b == 92 then is_backslash_kept_before s c && is_writable_pattern s rest else is_pattern_byte_but_backslash b && is_writable_pattern s (c ∷ rest)
 
 -- ---- members
 
@@ -58,12 +58,12 @@ IsWritableUserAtom (atom.Netgroup name) = name ≢ []
 IsWritableUserAtom a = ⊥
 
 -- the number of an address
-abbrev pub IsAddressNumber : ℕ → Type 0
-IsAddressNumber n = n < 4294967296
+abbrev pub IsIpv4AddressNumber : ℕ → Type 0
+IsIpv4AddressNumber n = n < 4294967296
 
 abbrev pub IsWritableMask : Mask → Type 0
 IsWritableMask (mask.Bits bits) = bits ≤ 32
-IsWritableMask (mask.Dotted a) = IsAddressNumber a.number
+IsWritableMask (mask.Dotted a) = IsIpv4AddressNumber a.number
 
 -- A list of hosts can hold it.
 abbrev pub IsWritableHostAtom : Atom → Type 0
@@ -71,8 +71,8 @@ IsWritableHostAtom atom.All = Unit {0}
 IsWritableHostAtom (atom.Alias name) = IsAliasName name
 IsWritableHostAtom (atom.Netgroup name) = (name ≢ []) × (list_all is_word_byte name ≡ true)
 IsWritableHostAtom (atom.Host pattern) = (pattern ≢ []) × (is_writable_pattern HostName pattern ≡ true)
-IsWritableHostAtom (atom.Address a) = IsAddressNumber a.number
-IsWritableHostAtom (atom.Network a m) = IsAddressNumber a.number × IsWritableMask m
+IsWritableHostAtom (atom.Address a) = IsIpv4AddressNumber a.number
+IsWritableHostAtom (atom.Network a m) = IsIpv4AddressNumber a.number × IsWritableMask m
 IsWritableHostAtom a = ⊥
 
 -- Arguments are no regular expression.

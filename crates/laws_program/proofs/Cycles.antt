@@ -1,9 +1,9 @@
 -- Where no reachable alias of a policy is cyclic, none is in the rules that are kept of it with its aliases replaced.
 use Rattle.laws_program.proofs.Common.{◌≡◌, inl, inr, Bool, true, false, if◌then◌else◌, List, [], ◌∷◌, ◌++◌, map, refl, sym, ap, subst, ◌∙◌, AllByRecursion}
-use Rattle.laws_program.proofs.Common.{flat_map, filter, flat_map-append, Kind, Node, Line, PlacedDefinition, definitions_of_lines, ListHasElement, IsReachedBySteps, here, onward, alias_names_among_members, DefinitionMentionsName}
-use Rattle.laws_program.proofs.Common.{root_names_in_node, root_alias_names, IsReachable, HasReachableCycle, is_used, all_append, rules_of_policy_lines, alias_node_of_definition, used_definitions, lines_with_aliases_replaced}
+use Rattle.laws_program.proofs.Common.{flat_map, filter, flat_map-append, Kind, Node, Line, PlacedDefinition, definitions_of_lines, ListHasElement, IsReachedByChainOfSteps, here, onward, alias_names_among_members, DefinitionMentionsName}
+use Rattle.laws_program.proofs.Common.{root_names_in_node, root_alias_names, IsReachedFromSpecOrDefaults, HasCyclicAliasReachedFromSpecOrDefaults, is_used, all_append, rules_of_policy_lines, alias_node_of_definition, used_definitions, lines_with_aliases_replaced}
 use Rattle.sudoers_grammar.specs.Node as node
-use Rattle.sudoers_cvt_rules.specs.Rules.{defaults_line_nodes_in}
+use Rattle.sudoers_cvt_rules.specs.Rules.{defaults_nodes_of_line_node}
 use Rattle.laws_program.proofs.Aliases.{KindAndDefinition, kinds_and_definitions_of_placed}
 use Rattle.sudoers_match_list.proofs.Defined.{list_element_has_property_of_all}
 use Rattle.laws_program.proofs.Flattened.{lines_expanded_keep_definitions, line_with_aliases_expanded}
@@ -16,10 +16,10 @@ use Rattle.laws_program.proofs.Reached.{node_met}
 
 module _ (lines : List Line) (k : Kind) where
   abbrev AreReached : List AliasName → Type 0
-  AreReached names = AllByRecursion (IsReachable k lines) names
+  AreReached names = AllByRecursion (IsReachedFromSpecOrDefaults k lines) names
 
   reached_roots : AreReached (root_alias_names k lines)
-  reached_roots = of_has (IsReachable k lines) (root_alias_names k lines) (λ x h. here x h)
+  reached_roots = of_has (IsReachedFromSpecOrDefaults k lines) (root_alias_names k lines) (λ x h. here x h)
 
   abbrev EachReached : List Line → Type 0
   EachReached ls = AllByRecursion (λ (line : Line). AreReached (root_names_in_node k line.node)) ls
@@ -28,7 +28,7 @@ module _ (lines : List Line) (k : Kind) where
   each_reached [] all = tt
   each_reached (line ∷ ls) all =
       let rest = flat_map (λ (l : Line). root_names_in_node k l.node) ls in
-      (node_met lines k line.node (left_of (IsReachable k lines) (root_names_in_node k line.node) rest all), each_reached ls (right_of (IsReachable k lines) (root_names_in_node k line.node) rest all))
+      (node_met lines k line.node (left_of (IsReachedFromSpecOrDefaults k lines) (root_names_in_node k line.node) rest all), each_reached ls (right_of (IsReachedFromSpecOrDefaults k lines) (root_names_in_node k line.node) rest all))
 
   -- some of the lines, as lines of their own
   some_reached : (from : Node → List Node) → ((n : Node) → AreReached (root_names_in_node k n) → AreReached (flat_map (root_names_in_node k) (from n))) → (ls : List Line) → EachReached ls
@@ -37,14 +37,14 @@ module _ (lines : List Line) (k : Kind) where
   some_reached from each (line ∷ ls) all =
       let rest = flat_map (λ (l : Line). from l.node) ls in
       subst AreReached (sym (flat_map-append (root_names_in_node k) (from line.node) rest))
-      (all_append (IsReachable k lines) (flat_map (root_names_in_node k) (from line.node)) (flat_map (root_names_in_node k) rest) (each line.node all.0) (some_reached from each ls all.1))
+      (all_append (IsReachedFromSpecOrDefaults k lines) (flat_map (root_names_in_node k) (from line.node)) (flat_map (root_names_in_node k) rest) (each line.node all.0) (some_reached from each ls all.1))
 
-  of_defaults : (n : Node) → AreReached (root_names_in_node k n) → AreReached (flat_map (root_names_in_node k) (defaults_line_nodes_in n))
-  of_defaults (node.Defaults scope params) all = all_append (IsReachable k lines) (root_names_in_node k (node.Defaults scope params)) [] all tt
+  of_defaults : (n : Node) → AreReached (root_names_in_node k n) → AreReached (flat_map (root_names_in_node k) (defaults_nodes_of_line_node n))
+  of_defaults (node.Defaults scope params) all = all_append (IsReachedFromSpecOrDefaults k lines) (root_names_in_node k (node.Defaults scope params)) [] all tt
   of_defaults n all = tt
 
   of_specs : (n : Node) → AreReached (root_names_in_node k n) → AreReached (flat_map (root_names_in_node k) (user_spec_nodes_in n))
-  of_specs (node.Spec users groups) all = all_append (IsReachable k lines) (root_names_in_node k (node.Spec users groups)) [] all tt
+  of_specs (node.Spec users groups) all = all_append (IsReachedFromSpecOrDefaults k lines) (root_names_in_node k (node.Spec users groups)) [] all tt
   of_specs n all = tt
 
   kept_reached : AreReached (root_alias_names k (lines_of_used_rules (lines_with_aliases_replaced lines)))
@@ -55,8 +55,8 @@ module _ (lines : List Line) (k : Kind) where
       let ss = flat_map (root_names_in_node k) (flat_map (λ (line : Line). user_spec_nodes_in line.node) new) in
       let es = flat_map (root_names_in_node k) (map alias_node_of_definition (used_definitions new)) in
       subst AreReached (sym (flat_map_over_lines_is_over_nodes (root_names_in_node k) (lines_of_used_rules new) ∙ all_kept (root_names_in_node k) new))
-      (all_append (IsReachable k lines) (ds ++ es) ss
-      (all_append (IsReachable k lines) ds es (some_reached defaults_line_nodes_in of_defaults new each)
+      (all_append (IsReachedFromSpecOrDefaults k lines) (ds ++ es) ss
+      (all_append (IsReachedFromSpecOrDefaults k lines) ds es (some_reached defaults_nodes_of_line_node of_defaults new each)
       (subst AreReached (sym (none_of_defs (root_names_in_node k) new (λ j d. refl) (used_definitions new))) tt))
       (some_reached user_spec_nodes_in of_specs new each))
 
@@ -105,16 +105,16 @@ module _ (lines : List Line) where
         mentions = subst (λ (s : KindAndDefinition). ListHasElement (alias_names_among_members s.1.members) y) (sym e.2) j.mentions;
       }
 
-  reached : (k : Kind) (x : AliasName) → IsReachable k (lines_of_used_rules (lines_with_aliases_replaced lines)) x → IsReachable k lines x
-  reached k x (here y h) = list_element_has_property_of_all (IsReachable k lines) (root_alias_names k (lines_of_used_rules (lines_with_aliases_replaced lines))) (kept_reached lines k) y h
+  reached : (k : Kind) (x : AliasName) → IsReachedFromSpecOrDefaults k (lines_of_used_rules (lines_with_aliases_replaced lines)) x → IsReachedFromSpecOrDefaults k lines x
+  reached k x (here y h) = list_element_has_property_of_all (IsReachedFromSpecOrDefaults k lines) (root_alias_names k (lines_of_used_rules (lines_with_aliases_replaced lines))) (kept_reached lines k) y h
   reached k x (onward y z c j) = onward y z (reached k y c) (joined k y z j)
 
-  chained : (k : Kind) (From : AliasName → Type 0) (x : AliasName) → IsReachedBySteps (DefinitionMentionsName k (definitions_of_lines (lines_of_used_rules (lines_with_aliases_replaced lines)))) From x → IsReachedBySteps (DefinitionMentionsName k (definitions_of_lines lines)) From x
+  chained : (k : Kind) (From : AliasName → Type 0) (x : AliasName) → IsReachedByChainOfSteps (DefinitionMentionsName k (definitions_of_lines (lines_of_used_rules (lines_with_aliases_replaced lines)))) From x → IsReachedByChainOfSteps (DefinitionMentionsName k (definitions_of_lines lines)) From x
   chained k From x (here y h) = here y h
   chained k From x (onward y z c j) = onward y z (chained k From y c) (joined k y z j)
 
   -- A reachable cyclic alias there was one in the policy.
-  pub cycle_back : HasReachableCycle (lines_of_used_rules (lines_with_aliases_replaced lines)) → HasReachableCycle lines
+  pub cycle_back : HasCyclicAliasReachedFromSpecOrDefaults (lines_of_used_rules (lines_with_aliases_replaced lines)) → HasCyclicAliasReachedFromSpecOrDefaults lines
   cycle_back h =
       let e = was_there h.alias h.stands in
       let there = reached h.alias.kind h.alias.def.name h.reached in
@@ -122,6 +122,6 @@ module _ (lines : List Line) where
       record {
         alias = e.0;
         stands = e.1;
-        reached = subst (λ (s : KindAndDefinition). IsReachable s.0 lines s.1.name) (sym e.2) there;
-        cyclic = subst (λ (s : KindAndDefinition). IsReachedBySteps (DefinitionMentionsName s.0 (definitions_of_lines lines)) (ListHasElement (alias_names_among_members s.1.members)) s.1.name) (sym e.2) round;
+        reached = subst (λ (s : KindAndDefinition). IsReachedFromSpecOrDefaults s.0 lines s.1.name) (sym e.2) there;
+        cyclic = subst (λ (s : KindAndDefinition). IsReachedByChainOfSteps (DefinitionMentionsName s.0 (definitions_of_lines lines)) (ListHasElement (alias_names_among_members s.1.members)) s.1.name) (sym e.2) round;
       }

@@ -1,7 +1,7 @@
 -- What `edit` wrote leads back.
 use Rattle.laws_program.proofs.Common.{◌≡◌, ◌≢◌, ◌∙◌, ℕ, suc, ◌≤◌, Bool, true, false, List, [], ◌∷◌, ◌++◌, length, map, slice_index, Option, Some, None, Result, Ok, Err}
 use Rattle.laws_program.proofs.Common.{refl, sym, ap, subst, arith, if◌then◌else◌, AllByRecursion, join, append-nil, codes, flat_map, list_any, ◌==◌}
-use Rattle.laws_program.proofs.Common.{physical_lines, script_and_policy_text}
+use Rattle.laws_program.proofs.Common.{physical_lines, script_shape_and_policy_text}
 use Rattle.std.proofs.Common.{take, drop, ◌<◌, ◌^◌}
 use Rattle.std.proofs.Math.Seq.{take-length}
 use Rattle.std.proofs.lemmas.Bool.{le-ltb, ltb-false}
@@ -18,8 +18,8 @@ use Rattle.sudoers_bundle.specs.Bundle.{AllFitInBundle, bundle_of_files, files_o
 use Rattle.sudoers_edit_script.specs.Script.{edit_limit, spelling_of_edits, HaveFittingNumbers, AreSpellable}
 use Rattle.sudoers_edit_script.specs.ScriptReading.{edits_spelled_by_text}
 use Rattle.sudoers_edit_script.specs.declared.edit.Edit.{Edit}
-use Rattle.sudoers_edit_script.specs.declared.script.ScriptFault.{ScriptFault}
-use Rattle.sudoers_edit_script.specs.declared.script.ScriptFault.TheVariants as script
+use Rattle.sudoers_edit_script.specs.declared.script_reader.ScriptFault.{ScriptFault}
+use Rattle.sudoers_edit_script.specs.declared.script_reader.ScriptFault.TheVariants as script
 use Rattle.sudoers_edit.specs.Editing.{policy_or_first_refusal, inv_run}
 use Rattle.sudoers_edit.specs.Named.{HaveSpellableNames}
 use Rattle.sudoers_edit.specs.WayBack.{HasRestoringInverse, names_of_named_files}
@@ -30,7 +30,7 @@ use Rattle.sudoers_run.specs.declared.fault.ToolFault.{ToolFault}
 use Rattle.sudoers_run.specs.declared.fault.ToolFault.TheVariants as tool
 use Rattle.sudoers_run.specs.declared.input_shape.EditInputShape.{EditInputShape}
 use Rattle.sudoers_run.specs.declared.input_shape.EditInputShape.TheVariants as shape
-use Rattle.sudoers_run.specs.Edit.{edit_input_limit, edit_output_of_input, edit_output_after_given, edit_output_of_parts, bundle_result_with_tool_fault, layer_result_with_tool_fault, load_result_with_layer_fault, edit_output_of_files, edit_output_after_undo_redo, given_files_result, files_in_given_shape, inverse_and_edited_policy, edits_after_undo_and_redo, edits_left_after_undo_redo, inverse_and_files_text, script_result_with_layer_fault, edit_result_with_layer_fault, ◌>>=◌}
+use Rattle.sudoers_run.specs.Edit.{edit_input_limit, edit_output_of_input, result_after_reading_given_files, edit_output_of_parts, bundle_result_with_tool_fault, layer_result_with_tool_fault, load_result_with_layer_fault, edit_output_of_files, edit_output_after_undo_redo, files_of_text_in_shape, files_in_given_shape, text_of_inverse_and_edited_policy, edits_after_undo_and_redo, edit_count_after_undo_redo, inverse_and_files_text, script_result_with_layer_fault, edit_result_with_layer_fault, ◌>>=◌}
 use Rattle.laws_program.specs.WayBack.{EditOutputRestoresPolicy}
 use Rattle.laws_program.proofs.MarkLemmas.{script_is_split_at_bundle, script_is_split_at_end_mark, split_policy_text_is_bounded}
 
@@ -73,13 +73,13 @@ leading_edits_of_spellable_are_spellable (edit ∷ edits) rest s = (s.0, leading
 
 edits_after_undo_are_spellable : (undo redo : ℕ) (edits : List Edit) → AreSpellable edits → AreSpellable (edits_after_undo_and_redo undo redo edits)
 edits_after_undo_are_spellable undo redo edits s =
-    let count : ℕ = edits_left_after_undo_redo undo redo (length edits) in
+    let count : ℕ = edit_count_after_undo_redo undo redo (length edits) in
     leading_edits_of_spellable_are_spellable (take count edits) (drop count edits) (subst AreSpellable (sym (take-append-drop count edits)) s)
 
 -- where none is taken back, all stand
 undo_of_no_edit_keeps_all_edits : (edits : List Edit) → edits_after_undo_and_redo 0 0 edits ≡ edits
 undo_of_no_edit_keeps_all_edits edits =
-    let count : edits_left_after_undo_redo 0 0 (length edits) ≡ length edits = omega arith in
+    let count : edit_count_after_undo_redo 0 0 (length edits) ≡ length edits = omega arith in
     ap (λ n. take n edits) count ∙ take-length edits
 
 -- FILES AS THEY WERE GIVEN
@@ -95,14 +95,14 @@ policy_text_of_files_in_shape shape.OneText files = flat_map (λ (file : NamedFi
 policy_text_of_files_in_shape shape.Bundle files = bundle_of_files files
 
 -- files that can be given are read of their text
-given_files_are_read_of_their_text : LawsOfPoliciesBundlesAndScripts → (form : EditInputShape) (files : List NamedFile) → CanBeGivenInShape form files → given_files_result form (policy_text_of_files_in_shape form files) ≡ Ok files
+given_files_are_read_of_their_text : LawsOfPoliciesBundlesAndScripts → (form : EditInputShape) (files : List NamedFile) → CanBeGivenInShape form files → files_of_text_in_shape form (policy_text_of_files_in_shape form files) ≡ Ok files
 unfolding policy_text_of_files_in_shape
 given_files_are_read_of_their_text l _ _ (alone text) = ap (λ (t : List ℕ). Ok (single_file_named_policy t)) (append-nil text)
 given_files_are_read_of_their_text l _ _ (several file files held) = ap bundle_result_with_tool_fault (l.bundled (file ∷ files) held)
 
 -- their text behind a script is told from it
 script_and_given_files_are_split_again : LawsOfPoliciesBundlesAndScripts → (edits : List Edit) → AreSpellable edits → (form : EditInputShape) (files : List NamedFile) → CanBeGivenInShape form files
-    → script_and_policy_text (spelling_of_edits edits ++ files_in_given_shape form files) ≡ Some (spelling_of_edits edits, form, policy_text_of_files_in_shape form files)
+    → script_shape_and_policy_text (spelling_of_edits edits ++ files_in_given_shape form files) ≡ Some (spelling_of_edits edits, form, policy_text_of_files_in_shape form files)
 unfolding policy_text_of_files_in_shape
 script_and_given_files_are_split_again l edits can _ _ (alone text) =
     script_is_split_at_end_mark l.pieces (spelling_of_edits edits) (flat_map (λ (file : NamedFile). file.bytes) (single_file_named_policy text)) (λ rest. l.before edits rest can) (l.plain edits can)
@@ -120,7 +120,7 @@ unfolding policy_text_of_files_in_shape
 nonempty_bundle_text_is_of_given_files l text [] some small is = absurd (some (l.unbundled text [] is))
 nonempty_bundle_text_is_of_given_files l text (file ∷ files) some small is = record { can = several file files (l.held text (file ∷ files) is small); is = sym (l.unbundled text (file ∷ files) is) }
 
-read_policy_text_is_of_given_files : LawsOfPoliciesBundlesAndScripts → (form : EditInputShape) (text : List ℕ) (files : List NamedFile) → (form ≡ shape.Bundle → text ≢ []) → length text < 2 ^ 64 → given_files_result form text ≡ Ok files
+read_policy_text_is_of_given_files : LawsOfPoliciesBundlesAndScripts → (form : EditInputShape) (text : List ℕ) (files : List NamedFile) → (form ≡ shape.Bundle → text ≢ []) → length text < 2 ^ 64 → files_of_text_in_shape form text ≡ Ok files
     → IsTextOfGivenFiles form text files
 unfolding policy_text_of_files_in_shape
 read_policy_text_is_of_given_files l shape.OneText text files some small is =
@@ -175,9 +175,9 @@ record IsEditRunOfInput (input out : List ℕ) : Type 0 where
   script : List ℕ
   form : EditInputShape
   text : List ℕ
-  parts : script_and_policy_text input ≡ Some (script, form, text)
+  parts : script_shape_and_policy_text input ≡ Some (script, form, text)
   files : List NamedFile
-  were : given_files_result form text ≡ Ok files
+  were : files_of_text_in_shape form text ≡ Ok files
   edits : List Edit
   can : AreSpellable edits
   policy : LoadedPolicy
@@ -210,7 +210,7 @@ ok_tool_result_is_of_ok_layer : (r : Result (List ℕ) LayerFault) (out : List �
 ok_tool_result_is_of_ok_layer (Ok text) out e = let same : text ≡ out = cc in ap (λ z. Ok z) same
 ok_tool_result_is_of_ok_layer (Err fault) out e = absurd (cc)
 
-ok_output_implies_files_were_given : (r : Result (List NamedFile) ToolFault) (next : List NamedFile → Result (List ℕ) ToolFault) (out : List ℕ) → edit_output_after_given next r ≡ Ok out
+ok_output_implies_files_were_given : (r : Result (List NamedFile) ToolFault) (next : List NamedFile → Result (List ℕ) ToolFault) (out : List ℕ) → result_after_reading_given_files next r ≡ Ok out
     → (files : List NamedFile) × (r ≡ Ok files) × (next files ≡ Ok out)
 ok_output_implies_files_were_given (Ok files) next out e = (files, refl, e)
 ok_output_implies_files_were_given (Err fault) next out e = absurd (cc)
@@ -219,7 +219,7 @@ abbrev ScriptShapeAndPolicyText : Type 0
 ScriptShapeAndPolicyText = List ℕ × EditInputShape × List ℕ
 
 ok_output_implies_input_was_split : (undo redo : ℕ) (o : Option ScriptShapeAndPolicyText) (out : List ℕ) → edit_output_of_parts undo redo o ≡ Ok out
-    → (p : ScriptShapeAndPolicyText) × (o ≡ Some p) × (edit_output_after_given (λ files. layer_result_with_tool_fault (edit_output_of_files p.1 undo redo p.0 files)) (given_files_result p.1 p.2) ≡ Ok out)
+    → (p : ScriptShapeAndPolicyText) × (o ≡ Some p) × (result_after_reading_given_files (λ files. layer_result_with_tool_fault (edit_output_of_files p.1 undo redo p.0 files)) (files_of_text_in_shape p.1 p.2) ≡ Ok out)
 ok_output_implies_input_was_split undo redo None out e = absurd (cc)
 ok_output_implies_input_was_split undo redo (Some p) out e = (p, refl, e)
 
@@ -229,15 +229,15 @@ ok_output_implies_input_within_limit false r out e = (refl, e)
 
 ok_edit_output_has_its_run : LawsOfPoliciesBundlesAndScripts → (undo redo : ℕ) (input out : List ℕ) → edit_output_of_input undo redo input ≡ Ok out → IsEditRunOfInput input out
 ok_edit_output_has_its_run l undo redo input out e =
-    let w = ok_output_implies_input_within_limit (nat_lt edit_input_limit (length input)) (edit_output_of_parts undo redo (script_and_policy_text input)) out e in
-    let a = ok_output_implies_input_was_split undo redo (script_and_policy_text input) out w.1 in
+    let w = ok_output_implies_input_within_limit (nat_lt edit_input_limit (length input)) (edit_output_of_parts undo redo (script_shape_and_policy_text input)) out e in
+    let a = ok_output_implies_input_was_split undo redo (script_shape_and_policy_text input) out w.1 in
     let form : EditInputShape = a.0.1 in
-    let g = ok_output_implies_files_were_given (given_files_result form a.0.2) (λ files. layer_result_with_tool_fault (edit_output_of_files form undo redo a.0.0 files)) out a.2 in
+    let g = ok_output_implies_files_were_given (files_of_text_in_shape form a.0.2) (λ files. layer_result_with_tool_fault (edit_output_of_files form undo redo a.0.0 files)) out a.2 in
     let told : edit_output_of_files form undo redo a.0.0 g.0 ≡ Ok out = ok_tool_result_is_of_ok_layer (edit_output_of_files form undo redo a.0.0 g.0) out g.2 in
     let of_edits : List Edit → Result (List ℕ) LayerFault = λ edits. load_result_with_layer_fault (policy_or_load_fault g.0) >>= edit_output_after_undo_redo form undo redo edits in
     let b = ok_after_script_implies_script_read (edits_spelled_by_text a.0.0) of_edits out told in
     let c = ok_after_load_implies_policy_loaded (policy_or_load_fault g.0) (edit_output_after_undo_redo form undo redo b.0) out b.2 in
-    let all = ok_after_edits_implies_edits_were_ok (policy_or_first_refusal 0 b.0 c.0) (λ _. inverse_and_edited_policy form (edits_after_undo_and_redo undo redo b.0) c.0) out c.2 in
+    let all = ok_after_edits_implies_edits_were_ok (policy_or_first_refusal 0 b.0 c.0) (λ _. text_of_inverse_and_edited_policy form (edits_after_undo_and_redo undo redo b.0) c.0) out c.2 in
     let stood : List Edit = edits_after_undo_and_redo undo redo b.0 in
     let inverse : List Edit = inv_run stood c.0 in
     let d = ok_after_edits_implies_edits_were_ok (policy_or_first_refusal 0 stood c.0) (inverse_and_files_text form inverse) out all.2 in
@@ -271,15 +271,15 @@ script_and_files_have_their_edit_output l edits form files policy new can few ma
     let split = script_and_given_files_are_split_again l edits can form files may in
     let gives : inverse_and_files_text form inverse new ≡ Ok out = rw (le-ltb edit_limit (length inverse) least) refl in
     let last : edit_output_after_undo_redo form 0 0 edits policy ≡ Ok out =
-    ap (λ r. edit_result_with_layer_fault r >>= (λ _. inverse_and_edited_policy form (edits_after_undo_and_redo 0 0 edits) policy)) ran
-    ∙ ap (λ stood. inverse_and_edited_policy form stood policy) (undo_of_no_edit_keeps_all_edits edits)
+    ap (λ r. edit_result_with_layer_fault r >>= (λ _. text_of_inverse_and_edited_policy form (edits_after_undo_and_redo 0 0 edits) policy)) ran
+    ∙ ap (λ stood. text_of_inverse_and_edited_policy form stood policy) (undo_of_no_edit_keeps_all_edits edits)
     ∙ ap (λ r. edit_result_with_layer_fault r >>= inverse_and_files_text form inverse) ran ∙ gives in
     let mid : edit_output_of_files form 0 0 (spelling_of_edits edits) files ≡ Ok out =
     ap (λ r. script_result_with_layer_fault r >>= (λ edits. load_result_with_layer_fault (policy_or_load_fault files) >>= edit_output_after_undo_redo form 0 0 edits)) (l.reads edits can few)
     ∙ ap (λ r. load_result_with_layer_fault r >>= edit_output_after_undo_redo form 0 0 edits) read ∙ last in
     rw (le-ltb edit_input_limit (length (spelling_of_edits edits ++ files_in_given_shape form files)) short)
     (ap (edit_output_of_parts 0 0) split
-    ∙ ap (edit_output_after_given (λ fs. layer_result_with_tool_fault (edit_output_of_files form 0 0 (spelling_of_edits edits) fs))) (given_files_are_read_of_their_text l form files may)
+    ∙ ap (result_after_reading_given_files (λ fs. layer_result_with_tool_fault (edit_output_of_files form 0 0 (spelling_of_edits edits) fs))) (given_files_are_read_of_their_text l form files may)
     ∙ ap layer_result_with_tool_fault mid)
 
 -- THE LAW
@@ -305,7 +305,7 @@ edit_output_restores_policy l undo redo input out e short =
     let next : edit_output_of_input 0 0 out ≡ Ok back =
     ap (edit_output_of_input 0 0) (sym w.is) ∙ script_and_files_have_their_edit_output l inverse w.form (named_files_of_policy w.new) w.new w.policy able w.few may taken.loaded taken.back least size in
     let first : CanBeGivenInShape w.form (named_files_of_policy w.policy) = subst (CanBeGivenInShape w.form) (sym (l.bytes w.files w.policy w.read)) were.can in
-    let split : script_and_policy_text back ≡ Some (spelling_of_edits second, w.form, policy_text_of_files_in_shape w.form (named_files_of_policy w.policy)) = script_and_given_files_are_split_again l second fits w.form (named_files_of_policy w.policy) first in
+    let split : script_shape_and_policy_text back ≡ Some (spelling_of_edits second, w.form, policy_text_of_files_in_shape w.form (named_files_of_policy w.policy)) = script_and_given_files_are_split_again l second fits w.form (named_files_of_policy w.policy) first in
     let same : policy_text_of_files_in_shape w.form (named_files_of_policy w.policy) ≡ w.text = ap (policy_text_of_files_in_shape w.form) (l.bytes w.files w.policy w.read) ∙ were.is in
     record {
       back = back;

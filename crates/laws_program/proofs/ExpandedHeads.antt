@@ -1,11 +1,11 @@
 -- What holds of a command beside its member, where its alias became several commands.
 use Rattle.laws_program.proofs.Common.{◌≡◌, Bool, List, ◌++◌, Option, Some, None, refl, sym, ap, ◌∙◌, ◌==◌, option_or, OptionName, Tag, RunasSpec, CmdSpec}
-use Rattle.laws_program.proofs.Common.{Member, Line, AreRunasSpecsAlike, SettingsOfCommand, empty_command_settings, settings_after_command, last_value_named, ordinal_of_option, final_value_of_option, ordinal_of_tag, final_value_of_tag, command_with_member}
+use Rattle.laws_program.proofs.Common.{Member, Line, AreRunasSpecsAlike, AccumulatedCommandSettings, empty_command_settings, settings_after_command, last_value_named, ordinal_of_option, final_value_of_option, ordinal_of_tag, final_value_of_tag, command_with_runas_and_member}
 use Rattle.laws_program.proofs.Twice.{last_value_of_appended_is_option_or}
 use Rattle.sudoers_match_list.specs.Alike.{unchanged_atom}
 
 -- Both say the same, the second in the other policy.
-pub record AreCommandSettingsExpandedAlike (lines others : List Line) (h g : SettingsOfCommand) : Type 0 where
+pub record AreCommandSettingsExpandedAlike (lines others : List Line) (h g : AccumulatedCommandSettings) : Type 0 where
   pub runas : AreRunasSpecsAlike unchanged_atom lines others h.runas g.runas
   pub options : (name : OptionName) → final_value_of_option g.options name ≡ final_value_of_option h.options name
   pub tags : (name : Tag) → final_value_of_tag g.tags name ≡ final_value_of_tag h.tags name
@@ -46,9 +46,9 @@ module _ (lines others : List Line) where
   runas_again (Some r) (Some s) before was same old = same
   runas_again own its before was same old = absurd same
 
-  module _ (h : SettingsOfCommand) (c : CmdSpec) (r : Option RunasSpec) (same : RunasAlike c.runas r) where
+  module _ (h : AccumulatedCommandSettings) (c : CmdSpec) (r : Option RunasSpec) (same : RunasAlike c.runas r) where
     -- the first of the commands that stand for this one
-    pub first_head : (g : SettingsOfCommand) (m : Member) → AreCommandSettingsExpandedAlike lines others h g → AreCommandSettingsExpandedAlike lines others (settings_after_command h c) (settings_after_command g (command_with_member r c m))
+    pub first_head : (g : AccumulatedCommandSettings) (m : Member) → AreCommandSettingsExpandedAlike lines others h g → AreCommandSettingsExpandedAlike lines others (settings_after_command h c) (settings_after_command g (command_with_runas_and_member r c m))
     first_head g m old = record {
       runas = runas_more c.runas r h.runas g.runas same old.runas;
       options = λ name. appended_values_keep_same_last_value (λ other. ordinal_of_option name == ordinal_of_option other) h.options g.options c.options (old.options name);
@@ -56,7 +56,7 @@ module _ (lines others : List Line) where
     }
 
     -- one of those that follow
-    pub next_head : (g : SettingsOfCommand) (m : Member) → AreCommandSettingsExpandedAlike lines others (settings_after_command h c) g → AreCommandSettingsExpandedAlike lines others (settings_after_command h c) (settings_after_command g (command_with_member r c m))
+    pub next_head : (g : AccumulatedCommandSettings) (m : Member) → AreCommandSettingsExpandedAlike lines others (settings_after_command h c) g → AreCommandSettingsExpandedAlike lines others (settings_after_command h c) (settings_after_command g (command_with_runas_and_member r c m))
     next_head g m old = record {
       runas = runas_again c.runas r h.runas g.runas same old.runas;
       options = λ name. values_appended_twice_give_same_last (λ other. ordinal_of_option name == ordinal_of_option other) h.options g.options c.options (old.options name);

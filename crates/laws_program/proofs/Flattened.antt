@@ -9,7 +9,7 @@ use Rattle.sudoers_grammar.specs.Node as node
 use Rattle.sudoers_tree.specs.Policy.{AreValidWalkLines}
 use Rattle.sudoers_match_list.specs.Flat.{signed_atom_under_negation, IsFlatListOf, many}
 use Rattle.sudoers_match_list.specs.Cycle.{ListLeadsToCyclicAlias}
-use Rattle.sudoers_match_list.specs.Alike.{unchanged_atom, signed_atom_rewritten}
+use Rattle.sudoers_match_list.specs.Alike.{unchanged_atom, signed_atom_with_atom_mapped}
 use Rattle.sudoers_match.specs.internal.Straight.{RunasSpecLeadsToNoCycle}
 use Rattle.sudoers_cvt_rewrite.proofs.Lists.{longer}
 use Rattle.sudoers_cvt_rewrite.proofs.Members.{aliases_of_valid_lines_have_members}
@@ -24,7 +24,7 @@ pub record LawsOfFlatLists : Type 0 where
   pub is : (k : Kind) (lines : List Line) → AreValidWalkLines lines → (ms : List Member) (fs : List SignedAtom) → IsFlatListOf k lines ms fs → fs ≡ map signed_atom_of_member (fully_expanded_list k lines ms)
   pub straight : (k : Kind) (lines : List Line) (ms : List Member) → AllByRecursion (λ (m : Member). alias_members_of_atom k lines m.atom ≡ None) ms → IsFlatListOf k lines ms (map signed_atom_of_member ms)
   pub same : (write : Atom → Atom) (k : Kind) (lines others : List Line) (ms ns : List Member) (fs : List SignedAtom) → IsFlatListOf k lines ms fs
-      → IsFlatListOf k others ns (map (signed_atom_rewritten write) fs) → HaveSameFlatListAfterRewrite write k lines others ms ns
+      → IsFlatListOf k others ns (map (signed_atom_with_atom_mapped write) fs) → HaveSameFlatListAfterRewrite write k lines others ms ns
 
 -- ---- definitions stay
 
@@ -73,7 +73,7 @@ module _ (k : Kind) (lines others : List Line) where
   members_undefined keep [] all = tt
   members_undefined keep (m ∷ ms) all = (keep k m.atom all.0, members_undefined keep ms all.1)
 
-unchanged_atoms_are_kept_in_signed_list : (fs : List SignedAtom) → map (signed_atom_rewritten unchanged_atom) fs ≡ fs
+unchanged_atoms_are_kept_in_signed_list : (fs : List SignedAtom) → map (signed_atom_with_atom_mapped unchanged_atom) fs ≡ fs
 unchanged_atoms_are_kept_in_signed_list [] = refl
 unchanged_atoms_are_kept_in_signed_list (s ∷ fs) = ap (λ gs. s ∷ gs) (unchanged_atoms_are_kept_in_signed_list fs)
 

@@ -11,9 +11,9 @@ use Rattle.std.specs.Str.{bytes_eq}
 use Rattle.std.proofs.lemmas.Slice.Eq.{bytes_eq-Decides}
 use Rattle.sudoers_grammar.specs.Piece.{has_byte}
 use Rattle.sudoers_tree.specs.Lead.{folder_of}
-use Rattle.sudoers_tree.specs.Targets.{base_name_of_file, ends_in_tilde, is_includable_base_name, is_includable_from_folder}
+use Rattle.sudoers_tree.specs.Targets.{base_name_of_file_name, ends_in_tilde, is_includable_base_name, is_includable_from_folder}
 use Rattle.sudoers_tree.specs.declared.named_files.NamedFile.{NamedFile}
-use Rattle.sudoers_files.specs.Folder.{names_sorted_and_unique, file_name_of_base_in_folder, sorted_file_names_in_folder}
+use Rattle.sudoers_files.specs.Folder.{sorted_names_with_names_inserted, file_name_of_base_in_folder, sorted_file_names_in_folder}
 use Rattle.sudoers_files.specs.Shelf.{base_names_in_folder, included_base_names_in}
 use Rattle.laws_program.proofs.WalkSteps.{disjunction_with_true_second_is_true}
 
@@ -36,7 +36,7 @@ folder_dropped_leaves_base_name : (dir base : List ℕ) → drop (length (dir ++
 folder_dropped_leaves_base_name [] base = refl
 folder_dropped_leaves_base_name (d ∷ dir) base = folder_dropped_leaves_base_name dir base
 
-base_of_name_in_folder_is_base : (dir base : List ℕ) → has_byte 47 base ≡ false → base_name_of_file (file_name_of_base_in_folder dir base) ≡ base
+base_of_name_in_folder_is_base : (dir base : List ℕ) → has_byte 47 base ≡ false → base_name_of_file_name (file_name_of_base_in_folder dir base) ≡ base
 base_of_name_in_folder_is_base dir base none = ap (λ f. drop (length f) (file_name_of_base_in_folder dir base)) (folder_of_name_in_folder_is_folder dir base none) ∙ folder_dropped_leaves_base_name dir base
 
 includable_base_name_has_no_slash : (base : List ℕ) → is_includable_base_name base ≡ true → has_byte 47 base ≡ false
@@ -67,12 +67,12 @@ abbrev pub base_names_with_includables_added : List (List ℕ) → List (List �
 base_names_with_includables_added before [] = before
 base_names_with_includables_added before (base ∷ bases) = base_names_with_includables_added (base_names_with_includable_added base before) bases
 
-includable_base_names_are_sorted_and_unique : (before bases : List (List ℕ)) → names_sorted_and_unique before (filter is_includable_base_name bases) ≡ base_names_with_includables_added before bases
+includable_base_names_are_sorted_and_unique : (before bases : List (List ℕ)) → sorted_names_with_names_inserted before (filter is_includable_base_name bases) ≡ base_names_with_includables_added before bases
 includable_base_names_are_sorted_and_unique before [] = refl
 includable_base_names_are_sorted_and_unique before (base ∷ bases) = by (is_includable_base_name base) (λ names. includable_base_names_are_sorted_and_unique names bases)
   where
-    by : (t : Bool) → ((names : List (List ℕ)) → names_sorted_and_unique names (filter is_includable_base_name bases) ≡ base_names_with_includables_added names bases)
-        → names_sorted_and_unique before (if t then base ∷ filter is_includable_base_name bases else filter is_includable_base_name bases)
+    by : (t : Bool) → ((names : List (List ℕ)) → sorted_names_with_names_inserted names (filter is_includable_base_name bases) ≡ base_names_with_includables_added names bases)
+        → sorted_names_with_names_inserted before (if t then base ∷ filter is_includable_base_name bases else filter is_includable_base_name bases)
         ≡ base_names_with_includables_added (if t then insert_key (slice_cmp nat_cmp) before base else before) bases
     by true later = later (insert_key (slice_cmp nat_cmp) before base)
     by false later = later before

@@ -14,9 +14,9 @@ use Rattle.sudoers_tree.specs.declared.named_files.NamedFile.{NamedFile}
 use Rattle.sudoers_tree.specs.Files.{ParsedFile, name_of_optional_file as read_name, name_of_numbered_file}
 use Rattle.sudoers_tree.specs.Lead.{folder_of}
 use Rattle.sudoers_tree.specs.Load.{is_name_among}
-use Rattle.sudoers_tree.specs.Targets.{base_name_of_file, included_files_of_folder, is_includable_base_name, is_file_name_before, is_includable_from_folder, number_of_first_file_named, file_inserted_in_name_order}
+use Rattle.sudoers_tree.specs.Targets.{base_name_of_file_name, included_files_of_folder, is_includable_base_name, is_file_name_before, is_includable_from_folder, number_of_first_file_named, file_inserted_in_name_order}
 use Rattle.sudoers_files.specs.Folder.{file_name_of_base_in_folder, sorted_file_names_in_folder}
-use Rattle.sudoers_files.specs.Shelf.{limited_bytes_of_named_file, base_names_in_folder, included_base_names_in}
+use Rattle.sudoers_files.specs.Shelf.{named_file_bytes_truncated_past_limit, base_names_in_folder, included_base_names_in}
 use Rattle.laws_program.proofs.WalkSteps.{true_disjunction_has_true_part, disjunction_with_true_first_is_true, disjunction_with_true_second_is_true}
 use Rattle.laws_program.proofs.FolderNames.{inserted_key_keeps_property_of_all, includable_name_in_folder_is_included, file_names_included_from_folder, sorted_folder_names_are_included_names, added_bases_keep_names_includable, base_names_with_includables_added, name_has_equal_bytes_to_itself, base_names_with_includable_added}
 use Rattle.laws_program.proofs.SortedNames.{IsNameInList, AreNamesAscending, smaller_name_is_below_all_too, name_in_folder_is_of_its_base, known_includable_file_is_included, byte_order_of_names, added_base_names_keep_ascending, greater_name_has_lesser_reversed, common_folder_keeps_ascending, ascending_lists_of_same_names_are_equal}
@@ -31,7 +31,7 @@ IsFirstFileOfItsName files k = number_of_first_file_named (name_of_numbered_file
 
 -- the file of this name is known
 abbrev pub IsNameOfKnownFile : List NamedFile → List ℕ → Type 0
-IsNameOfKnownFile known name = (bytes : List ℕ) × (limited_bytes_of_named_file name known ≡ Some bytes)
+IsNameOfKnownFile known name = (bytes : List ℕ) × (named_file_bytes_truncated_past_limit name known ≡ Some bytes)
 
 -- ---- the order of the files of a folder
 
@@ -194,7 +194,7 @@ added_base_names_keep_property_of_all P before (base ∷ bases) all more = added
 further_file_keeps_known_name : (file : NamedFile) (known : List NamedFile) (name : List ℕ) → IsNameOfKnownFile known name → IsNameOfKnownFile (file ∷ known) name
 further_file_keeps_known_name file known name there = by (bytes_eq name file.name)
   where
-    by : (t : Bool) → (bytes : List ℕ) × ((if t then Some (take (text_limit + 1) file.bytes) else limited_bytes_of_named_file name known) ≡ Some bytes)
+    by : (t : Bool) → (bytes : List ℕ) × ((if t then Some (take (text_limit + 1) file.bytes) else named_file_bytes_truncated_past_limit name known) ≡ Some bytes)
     by true = (take (text_limit + 1) file.bytes, refl)
     by false = there
 
@@ -207,15 +207,15 @@ base_names_in_folder_are_known : (known : List NamedFile) (dir : List ℕ) → A
 base_names_in_folder_are_known [] dir = tt
 base_names_in_folder_are_known (file ∷ known) dir = by (bytes_eq (folder_of file.name) (dir ++ 47 ∷ [])) refl (further_file_keeps_known_base_names dir file known (base_names_in_folder dir known) (base_names_in_folder_are_known known dir))
   where
-    here : folder_of file.name ≡ dir ++ 47 ∷ [] → IsNameOfKnownFile (file ∷ known) (file_name_of_base_in_folder dir (base_name_of_file file.name))
+    here : folder_of file.name ≡ dir ++ 47 ∷ [] → IsNameOfKnownFile (file ∷ known) (file_name_of_base_in_folder dir (base_name_of_file_name file.name))
     here is = (
       take (text_limit + 1) file.bytes,
-      ap (λ t. if t then Some (take (text_limit + 1) file.bytes) else limited_bytes_of_named_file (file_name_of_base_in_folder dir (base_name_of_file file.name)) known)
-          ((bytes_eq-Decides (file_name_of_base_in_folder dir (base_name_of_file file.name)) file.name).1 (sym (name_in_folder_is_of_its_base dir file.name is))),
+      ap (λ t. if t then Some (take (text_limit + 1) file.bytes) else named_file_bytes_truncated_past_limit (file_name_of_base_in_folder dir (base_name_of_file_name file.name)) known)
+          ((bytes_eq-Decides (file_name_of_base_in_folder dir (base_name_of_file_name file.name)) file.name).1 (sym (name_in_folder_is_of_its_base dir file.name is))),
     )
 
     by : (t : Bool) → bytes_eq (folder_of file.name) (dir ++ 47 ∷ []) ≡ t → AllByRecursion (λ base. IsNameOfKnownFile (file ∷ known) (file_name_of_base_in_folder dir base)) (base_names_in_folder dir known)
-        → AllByRecursion (λ base. IsNameOfKnownFile (file ∷ known) (file_name_of_base_in_folder dir base)) (if t then base_name_of_file file.name ∷ base_names_in_folder dir known else base_names_in_folder dir known)
+        → AllByRecursion (λ base. IsNameOfKnownFile (file ∷ known) (file_name_of_base_in_folder dir base)) (if t then base_name_of_file_name file.name ∷ base_names_in_folder dir known else base_names_in_folder dir known)
     by true e later = (here ((bytes_eq-Decides (folder_of file.name) (dir ++ 47 ∷ [])).0 e), later)
     by false e later = later
 
@@ -252,7 +252,7 @@ folder_files_are_among_included_names : (known : List NamedFile) (all : List Par
 folder_files_are_among_included_names known all there dir [] members = tt
 folder_files_are_among_included_names known all there dir (g ∷ numbers) members =
     let named : name_of_numbered_file all g ≡ members.0.reading.name = ap read_name members.0.there in
-    let parts = true_conjunction_has_true_parts (bytes_eq (folder_of members.0.reading.name) (dir ++ 47 ∷ [])) (is_includable_base_name (base_name_of_file members.0.reading.name)) members.0.inside in
+    let parts = true_conjunction_has_true_parts (bytes_eq (folder_of members.0.reading.name) (dir ++ 47 ∷ [])) (is_includable_base_name (base_name_of_file_name members.0.reading.name)) members.0.inside in
     let file = there g members.0.reading members.0.there in (
       subst (λ n. IsNameInList n (file_names_included_from_folder dir (base_names_in_folder dir known))) (sym named)
           (known_includable_file_is_included known dir members.0.reading.name file.0 ((bytes_eq-Decides (folder_of members.0.reading.name) (dir ++ 47 ∷ [])).0 parts.0) parts.1 file.1),

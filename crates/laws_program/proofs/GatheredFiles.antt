@@ -13,14 +13,14 @@ use Rattle.sudoers_tree.specs.declared.load_fault.LoadFault.TheVariants as load_
 use Rattle.sudoers_tree.specs.Files.{ParsedFile, AreParsedUntilFault, lines_parsed_until_fault, parsed_file_of_texts}
 use Rattle.sudoers_tree.specs.Files.AreParsedUntilFault.{whole, broken}
 use Rattle.sudoers_tree.specs.Line.{Line}
-use Rattle.sudoers_tree.specs.Load.{LoadedPolicy, parsed_file_or_cut_fault, file_limit, first_repeated_file_name, is_name_among, policy_or_load_fault, policy_of_parsed_files, parsed_files_or_cut_fault, result_unless_repeated_name}
+use Rattle.sudoers_tree.specs.Load.{LoadedPolicy, parsed_file_of_cut_or_fault, file_limit, first_repeated_file_name, is_name_among, policy_or_load_fault, policy_of_parsed_files, parsed_files_or_cut_fault, result_unless_repeated_name}
 use Rattle.sudoers_tree.specs.Policy.{texts_of_lines}
 use Rattle.sudoers_tree.specs.Targets.{number_of_first_file_named}
 use Rattle.sudoers_tree.specs.Walk.{load_result_and_then as then_load}
 use Rattle.sudoers_files.specs.declared.fault.GatherFault.{GatherFault}
-use Rattle.sudoers_files.specs.Gather.{gathered_from_root_bytes, gathered_files_or_fault, gathered_after_visit}
+use Rattle.sudoers_files.specs.Gather.{gathered_from_root_bytes, gathered_files_or_fault, gathered_after_file_visit}
 use Rattle.sudoers_files.specs.Included.{file_names_included_by_file}
-use Rattle.sudoers_files.specs.Shelf.{limited_bytes_of_named_file}
+use Rattle.sudoers_files.specs.Shelf.{named_file_bytes_truncated_past_limit}
 use Rattle.sudoers_files.proofs.Keeping.{HasKnownBytesOfName, names_of_found_files, IsKeptByAppendingKnownFile, visits_keep_property_kept_by_visit, visit_keeps_property_kept_by_appending}
 
 abbrev pub GatherResult : Type 0
@@ -34,22 +34,22 @@ appended_element_keeps_property_of_all P (y ∷ xs) x all is = (all.0, appended_
 
 pub gathered_files_are_from_known : (known : List NamedFile) (root : List ℕ) (final : List NamedFile) → gathered_files_or_fault known root ≡ Ok final → AllByRecursion (HasKnownBytesOfName known) final
 unfolding gathered_files_or_fault
-gathered_files_are_from_known known root final is = by (limited_bytes_of_named_file root known) refl is
+gathered_files_are_from_known known root final is = by (named_file_bytes_truncated_past_limit root known) refl is
   where
     all : IsKeptByAppendingKnownFile known (AllByRecursion (HasKnownBytesOfName known))
     all before file there some = appended_element_keeps_property_of_all (HasKnownBytesOfName known) before file some there
 
-    by : (o : Option (List ℕ)) → limited_bytes_of_named_file root known ≡ o → gathered_from_root_bytes known root o ≡ Ok final → AllByRecursion (HasKnownBytesOfName known) final
+    by : (o : Option (List ℕ)) → named_file_bytes_truncated_past_limit root known ≡ o → gathered_from_root_bytes known root o ≡ Ok final → AllByRecursion (HasKnownBytesOfName known) final
     by None there e = absurd cc
     by (Some bytes) there e =
         let file : NamedFile = record { name = root; bytes = bytes } in
-        visits_keep_property_kept_by_visit (AllByRecursion (HasKnownBytesOfName known)) (gathered_after_visit file_limit known) (visit_keeps_property_kept_by_appending (AllByRecursion (HasKnownBytesOfName known)) known all file_limit) (file ∷ []) final (file_names_included_by_file known file) (there, tt) e
+        visits_keep_property_kept_by_visit (AllByRecursion (HasKnownBytesOfName known)) (gathered_after_file_visit file_limit known) (visit_keeps_property_kept_by_appending (AllByRecursion (HasKnownBytesOfName known)) known all file_limit) (file ∷ []) final (file_names_included_by_file known file) (there, tt) e
 
 -- what is read of a file that is known
 pub record IsParsedKnownFile (known : List NamedFile) (reading : ParsedFile) : Type 0 where
   pub bytes : List ℕ
   pub lines : List (List ℕ)
-  pub there : limited_bytes_of_named_file reading.name known ≡ Some bytes
+  pub there : named_file_bytes_truncated_past_limit reading.name known ≡ Some bytes
   pub cuts : cut_outcome_of_text bytes ≡ Ok lines
   pub is : reading ≡ parsed_file_of_texts reading.name lines
 
@@ -72,7 +72,7 @@ parsed_files_are_known_and_named_alike known before read (file ∷ files) all fr
     Later = (lines : List (List ℕ)) → AllByRecursion (IsParsedKnownFile known) (before ++ parsed_file_of_texts file.name lines ∷ []) → parsed_files_or_cut_fault (before ++ parsed_file_of_texts file.name lines ∷ []) files ≡ Ok read
         → AllByRecursion (IsParsedKnownFile known) read × (names_of_parsed_files read ≡ names_of_parsed_files (before ++ parsed_file_of_texts file.name lines ∷ []) ++ names_of_found_files files)
 
-    by : (r : Result (List (List ℕ)) TextFault) → cut_outcome_of_text file.bytes ≡ r → then_load (parsed_file_or_cut_fault file.name r) (λ reading. parsed_files_or_cut_fault (before ++ reading ∷ []) files) ≡ Ok read → Later
+    by : (r : Result (List (List ℕ)) TextFault) → cut_outcome_of_text file.bytes ≡ r → then_load (parsed_file_of_cut_or_fault file.name r) (λ reading. parsed_files_or_cut_fault (before ++ reading ∷ []) files) ≡ Ok read → Later
         → AllByRecursion (IsParsedKnownFile known) read × (names_of_parsed_files read ≡ names_of_parsed_files before ++ names_of_found_files (file ∷ files))
     by (Ok lines) cuts e later =
         let reading = parsed_file_of_texts file.name lines in
@@ -80,7 +80,7 @@ parsed_files_are_known_and_named_alike known before read (file ∷ files) all fr
         let here : IsParsedKnownFile known reading = record {
           bytes = file.bytes;
           lines = lines;
-          there = ap (λ n. limited_bytes_of_named_file n known) named ∙ from.0;
+          there = ap (λ n. named_file_bytes_truncated_past_limit n known) named ∙ from.0;
           cuts = cuts;
           is = ap (λ n. parsed_file_of_texts n lines) (sym named);
         } in

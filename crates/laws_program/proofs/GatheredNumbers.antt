@@ -15,9 +15,9 @@ use Rattle.sudoers_tree.specs.Targets.{included_files_of_folder, number_of_first
 use Rattle.sudoers_tree.specs.Walk.{WalkState, is_file_on_walk, walk_with_line_appended}
 use Rattle.sudoers_files.specs.declared.fault.GatherFault.TheVariants.{TooManyFiles}
 use Rattle.sudoers_files.specs.Folder.{sorted_file_names_in_folder}
-use Rattle.sudoers_files.specs.Gather.{gather_result_and_then, gathered_with_file, gathered_unless_found, gathered_unless_full, gathered_after_visit, gathered_after_visits}
+use Rattle.sudoers_files.specs.Gather.{gather_result_and_then, gathered_with_file_and_includes, gathered_unless_found, gathered_unless_missing_or_full, gathered_after_file_visit, gathered_after_file_visits}
 use Rattle.sudoers_files.specs.Included.{file_names_included_by_file, file_names_of_lead}
-use Rattle.sudoers_files.specs.Shelf.{limited_bytes_of_named_file, included_base_names_in}
+use Rattle.sudoers_files.specs.Shelf.{named_file_bytes_truncated_past_limit, included_base_names_in}
 use Rattle.laws_program.proofs.WalkSteps.{true_disjunction_has_true_part, disjunction_with_true_first_is_true, disjunction_with_true_second_is_true}
 use Rattle.laws_program.proofs.FolderOrder.{AreAllFirstOfTheirNames, IsFileInFolderFromNumber, IsFirstFileOfItsName, IsNameOfKnownFile, names_of_numbered_files, folder_file_names_are_ascending, folder_files_have_sorted_known_names, sorted_folder_file_names_are_known, all_files_are_from_number_zero}
 use Rattle.sudoers_files.proofs.Keeping.{names_of_found_files, visits_keep_property_kept_by_visit, visit_keeps_names_found, equal_results_have_equal_files, appended_file_has_its_name_found, visit_keeps_property_kept_by_appending}
@@ -113,9 +113,9 @@ file_not_on_walk_is_unfound known found files ready w name f before prefix on nu
 abbrev pub IsExtensionOfFound : (before now : List NamedFile) → Type 0
 IsExtensionOfFound before now = (more : List NamedFile) × (now ≡ before ++ more)
 
-pub visits_extend_found_files : (known : List NamedFile) (left : ℕ) (before now : List NamedFile) (names : List (List ℕ)) → gathered_after_visits (gathered_after_visit left known) before names ≡ Ok now → IsExtensionOfFound before now
+pub visits_extend_found_files : (known : List NamedFile) (left : ℕ) (before now : List NamedFile) (names : List (List ℕ)) → gathered_after_file_visits (gathered_after_file_visit left known) before names ≡ Ok now → IsExtensionOfFound before now
 visits_extend_found_files known left before now names is =
-    visits_keep_property_kept_by_visit (IsExtensionOfFound before) (gathered_after_visit left known)
+    visits_keep_property_kept_by_visit (IsExtensionOfFound before) (gathered_after_file_visit left known)
     (visit_keeps_property_kept_by_appending (IsExtensionOfFound before) known (λ files file there extends. (extends.0 ++ file ∷ [], ap (λ fs. fs ++ file ∷ []) extends.1 ∙ append_assoc before extends.0 (file ∷ []))) left)
     before now names ([], sym (append-nil before)) is
 
@@ -123,7 +123,7 @@ pub prefix_of_prefix_is_prefix_of_found : (found before now : List NamedFile) �
 prefix_of_prefix_is_prefix_of_found found before now prefix extends = (extends.0 ++ prefix.0, prefix.1 ∙ ap (λ fs. fs ++ prefix.0) extends.1 ∙ append_assoc before extends.0 prefix.0)
 
 -- A visit finds a file that is known.
-visit_finds_known_file : (known : List NamedFile) (left : ℕ) (before now : List NamedFile) (name : List ℕ) → IsNameOfKnownFile known name → gathered_after_visit left known before name ≡ Ok now → has_file_with_name name now ≡ true
+visit_finds_known_file : (known : List NamedFile) (left : ℕ) (before now : List NamedFile) (name : List ℕ) → IsNameOfKnownFile known name → gathered_after_file_visit left known before name ≡ Ok now → has_file_with_name name now ≡ true
 visit_finds_known_file known left before now name there is = by_left left is
   where
     by_next : (next : NamedFile → GatherResult) → (next (record { name = name; bytes = there.0 }) ≡ Ok now → has_file_with_name name now ≡ true) → gathered_unless_found next known before name ≡ Ok now → has_file_with_name name now ≡ true
@@ -133,28 +133,28 @@ visit_finds_known_file known left before now name there is = by_left left is
         by_limit true f = absurd cc
         by_limit false f = walk_with_line_appended f
 
-        by_name : (t : Bool) → has_file_with_name name before ≡ t → (if t then Ok before else gathered_unless_full next before name (limited_bytes_of_named_file name known)) ≡ Ok now → has_file_with_name name now ≡ true
+        by_name : (t : Bool) → has_file_with_name name before ≡ t → (if t then Ok before else gathered_unless_missing_or_full next before name (named_file_bytes_truncated_past_limit name known)) ≡ Ok now → has_file_with_name name now ≡ true
         by_name true has f = subst (λ fs. has_file_with_name name fs ≡ true) (equal_results_have_equal_files before now f) has
-        by_name false has f = by_limit (nat_le file_limit (length before)) (sym (ap (gathered_unless_full next before name) there.1) ∙ f)
+        by_name false has f = by_limit (nat_le file_limit (length before)) (sym (ap (gathered_unless_missing_or_full next before name) there.1) ∙ f)
 
-    by_left : (l : ℕ) → gathered_after_visit l known before name ≡ Ok now → has_file_with_name name now ≡ true
+    by_left : (l : ℕ) → gathered_after_file_visit l known before name ≡ Ok now → has_file_with_name name now ≡ true
     by_left zero e = by_next (λ file. Err TooManyFiles) (λ f. absurd cc) e
     by_left (suc l) e =
-        by_next (gathered_with_file (gathered_after_visit l known) known before)
+        by_next (gathered_with_file_and_includes (gathered_after_file_visit l known) known before)
         (λ f.
         let file : NamedFile = record { name = name; bytes = there.0 } in
-        visits_keep_property_kept_by_visit (λ files. has_file_with_name name files ≡ true) (gathered_after_visit l known) (visit_keeps_names_found known l name) (before ++ file ∷ []) now (file_names_included_by_file known file) (appended_file_has_its_name_found before file) f)
+        visits_keep_property_kept_by_visit (λ files. has_file_with_name name files ≡ true) (gathered_after_file_visit l known) (visit_keeps_names_found known l name) (before ++ file ∷ []) now (file_names_included_by_file known file) (appended_file_has_its_name_found before file) f)
         e
 
-visits_find_all_known_files : (known : List NamedFile) (left : ℕ) (before now : List NamedFile) (names : List (List ℕ)) → AllByRecursion (IsNameOfKnownFile known) names → gathered_after_visits (gathered_after_visit left known) before names ≡ Ok now
+visits_find_all_known_files : (known : List NamedFile) (left : ℕ) (before now : List NamedFile) (names : List (List ℕ)) → AllByRecursion (IsNameOfKnownFile known) names → gathered_after_file_visits (gathered_after_file_visit left known) before names ≡ Ok now
     → AllByRecursion (λ name. has_file_with_name name now ≡ true) names
 visits_find_all_known_files known left before now [] there is = tt
-visits_find_all_known_files known left before now (name ∷ names) there is = by (gathered_after_visit left known before name) refl is (λ mid. visits_find_all_known_files known left mid now names there.1)
+visits_find_all_known_files known left before now (name ∷ names) there is = by (gathered_after_file_visit left known before name) refl is (λ mid. visits_find_all_known_files known left mid now names there.1)
   where
-    by : (r : GatherResult) → gathered_after_visit left known before name ≡ r → gather_result_and_then r (λ mid. gathered_after_visits (gathered_after_visit left known) mid names) ≡ Ok now
-        → ((mid : List NamedFile) → gathered_after_visits (gathered_after_visit left known) mid names ≡ Ok now → AllByRecursion (λ n. has_file_with_name n now ≡ true) names) → AllByRecursion (λ n. has_file_with_name n now ≡ true) (name ∷ names)
+    by : (r : GatherResult) → gathered_after_file_visit left known before name ≡ r → gather_result_and_then r (λ mid. gathered_after_file_visits (gathered_after_file_visit left known) mid names) ≡ Ok now
+        → ((mid : List NamedFile) → gathered_after_file_visits (gathered_after_file_visit left known) mid names ≡ Ok now → AllByRecursion (λ n. has_file_with_name n now ≡ true) names) → AllByRecursion (λ n. has_file_with_name n now ≡ true) (name ∷ names)
     by (Ok mid) here e later =
-        (visits_keep_property_kept_by_visit (λ files. has_file_with_name name files ≡ true) (gathered_after_visit left known) (visit_keeps_names_found known left name) mid now names (visit_finds_known_file known left before mid name there.0 here) e, later mid e)
+        (visits_keep_property_kept_by_visit (λ files. has_file_with_name name files ≡ true) (gathered_after_file_visit left known) (visit_keeps_names_found known left name) mid now names (visit_finds_known_file known left before mid name there.0 here) e, later mid e)
     by (Err fault) here e later = absurd cc
 
 -- ---- the files to which a line leads, and their names
@@ -181,7 +181,7 @@ found_file_names_have_numbers known found files ready now prefix (name ∷ names
     let first = file_found_before_has_number_below_count known found files ready name now prefix has.0 in ((first.0, first.2), found_file_names_have_numbers known found files ready now prefix names has.1)
 
 pub lead_targets_are_numbers_of_lead_names : (known found : List NamedFile) (files : List ParsedFile) → AreGatheredFilesParsed known found files → (left : ℕ) (before now : List NamedFile) → IsPrefixOfFound found now → (lead : Lead) (inner : List ℕ)
-    → targets_of_lead files lead ≡ Some inner → gathered_after_visits (gathered_after_visit left known) before (file_names_of_lead known (Some lead)) ≡ Ok now → AreNumbersOfNamedFiles files (file_names_of_lead known (Some lead)) inner
+    → targets_of_lead files lead ≡ Some inner → gathered_after_file_visits (gathered_after_file_visit left known) before (file_names_of_lead known (Some lead)) ≡ Ok now → AreNumbersOfNamedFiles files (file_names_of_lead known (Some lead)) inner
 lead_targets_are_numbers_of_lead_names known found files ready left before now prefix (File name) inner is visits = by (number_of_first_file_named name 0 files) refl is
   where
     by : (o : Option ℕ) → number_of_first_file_named name 0 files ≡ o → option_map (λ f. f ∷ []) o ≡ Some inner → AreNumbersOfNamedFiles files (name ∷ []) inner

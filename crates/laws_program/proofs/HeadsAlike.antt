@@ -1,6 +1,6 @@
 -- A command that says all that holds of it holds the same where it is read again.
 use Rattle.laws_program.proofs.Common.{◌≡◌, ℕ, Bool, List, [], ◌∷◌, ◌++◌, Option, Some, None, map, refl, sym, ap, ap₂, ◌∙◌, ◌==◌, option_or, OptionName, Tag}
-use Rattle.laws_program.proofs.Common.{RunasSpec, CmdSpec, Member, IsMemberSameButPlace, AreItemsPairwiseRelated, IsRunasSameButPlace, IsCommandSameButPlace, IsPointwiseRelated, SettingsOfCommand, empty_command_settings, settings_after_command}
+use Rattle.laws_program.proofs.Common.{RunasSpec, CmdSpec, Member, MemberIsReadBackAs, AreItemsPairwiseRelated, RunasIsReadBackAs, CommandIsReadBackAs, IsPointwiseRelated, AccumulatedCommandSettings, empty_command_settings, settings_after_command}
 use Rattle.laws_program.proofs.Common.{ordinal_of_option, final_value_of_option, ordinal_of_tag, final_value_of_tag, effective_command, effective_commands}
 use Rattle.sudoers_grammar.specs.declared.node.OptionName.TheVariants as option
 use Rattle.sudoers_grammar.specs.declared.node.Tag.TheVariants as tag
@@ -9,16 +9,16 @@ use Rattle.sudoers_match.specs.Values.{final_values_of_options}
 use Rattle.laws_program.proofs.Twice.{inheriting_twice_is_inheriting_once, last_value_of_appended_is_option_or, listed_option_has_its_value, listed_tag_has_its_value}
 
 -- the head of a command as it was, and as it is read
-pub record AreSettingsReadBackSame (h g : SettingsOfCommand) : Type 0 where
-  pub runas : IsRunasSameButPlace h.runas g.runas
+pub record AreSettingsReadBackSame (h g : AccumulatedCommandSettings) : Type 0 where
+  pub runas : RunasIsReadBackAs h.runas g.runas
   pub options : (name : OptionName) → final_value_of_option g.options name ≡ final_value_of_option h.options name
   pub tags : (name : Tag) → final_value_of_tag g.tags name ≡ final_value_of_tag h.tags name
 
-pub record IsCommandReadBackSame (c d : SettingsOfCommand × Member) : Type 0 where
+pub record IsCommandReadBackSame (c d : AccumulatedCommandSettings × Member) : Type 0 where
   pub head : AreSettingsReadBackSame c.0 d.0
-  pub member : IsMemberSameButPlace c.1 d.1
+  pub member : MemberIsReadBackAs c.1 d.1
 
-runas_read_back_over_inherited_is_same : (own before read was : Option RunasSpec) → IsRunasSameButPlace (option_or own before) read → IsRunasSameButPlace before was → IsRunasSameButPlace (option_or own before) (option_or read was)
+runas_read_back_over_inherited_is_same : (own before read was : Option RunasSpec) → RunasIsReadBackAs (option_or own before) read → RunasIsReadBackAs before was → RunasIsReadBackAs (option_or own before) (option_or read was)
 runas_read_back_over_inherited_is_same None None None None same old = tt
 runas_read_back_over_inherited_is_same None None None (Some w) same old = absurd old
 runas_read_back_over_inherited_is_same None None (Some r) was same old = absurd same
@@ -28,7 +28,7 @@ runas_read_back_over_inherited_is_same (Some o) before None was same old = absur
 runas_read_back_over_inherited_is_same (Some o) before (Some r) was same old = same
 
 -- What is read says all that held; so what it inherits changes nothing.
-settings_after_command_read_back_are_same : (h g : SettingsOfCommand) (c d : CmdSpec) → AreSettingsReadBackSame h g → IsCommandSameButPlace (effective_command (settings_after_command h c, c.member)) d → AreSettingsReadBackSame (settings_after_command h c) (settings_after_command g d)
+settings_after_command_read_back_are_same : (h g : AccumulatedCommandSettings) (c d : CmdSpec) → AreSettingsReadBackSame h g → CommandIsReadBackAs (effective_command (settings_after_command h c, c.member)) d → AreSettingsReadBackSame (settings_after_command h c) (settings_after_command g d)
 settings_after_command_read_back_are_same h g c d old same = record {
   runas = runas_read_back_over_inherited_is_same c.runas h.runas d.runas g.runas same.runas old.runas;
   options = λ name.
@@ -45,7 +45,7 @@ settings_after_command_read_back_are_same h g c d old same = record {
       ∙ sym (last_value_of_appended_is_option_or (λ other. ordinal_of_tag name == ordinal_of_tag other) h.tags c.tags);
 }
 
-commands_read_back_have_same_settings : (h g : SettingsOfCommand) (cs ds : List CmdSpec) → AreSettingsReadBackSame h g → AreItemsPairwiseRelated IsCommandSameButPlace (map effective_command (commands_with_settings h cs)) ds → IsPointwiseRelated IsCommandReadBackSame (commands_with_settings h cs) (commands_with_settings g ds)
+commands_read_back_have_same_settings : (h g : AccumulatedCommandSettings) (cs ds : List CmdSpec) → AreSettingsReadBackSame h g → AreItemsPairwiseRelated CommandIsReadBackAs (map effective_command (commands_with_settings h cs)) ds → IsPointwiseRelated IsCommandReadBackSame (commands_with_settings h cs) (commands_with_settings g ds)
 commands_read_back_have_same_settings h g [] [] old same = tt
 commands_read_back_have_same_settings h g (c ∷ cs) (d ∷ ds) old same =
     let next = settings_after_command_read_back_are_same h g c d old same.0 in
@@ -53,7 +53,7 @@ commands_read_back_have_same_settings h g (c ∷ cs) (d ∷ ds) old same =
 commands_read_back_have_same_settings h g cs ds old same = absurd same
 
 -- The commands of a host group hold the same, one by one.
-pub effective_commands_read_back_are_same : (cs ds : List CmdSpec) → AreItemsPairwiseRelated IsCommandSameButPlace (effective_commands cs) ds → IsPointwiseRelated IsCommandReadBackSame (commands_with_settings empty_command_settings cs) (commands_with_settings empty_command_settings ds)
+pub effective_commands_read_back_are_same : (cs ds : List CmdSpec) → AreItemsPairwiseRelated CommandIsReadBackAs (effective_commands cs) ds → IsPointwiseRelated IsCommandReadBackSame (commands_with_settings empty_command_settings cs) (commands_with_settings empty_command_settings ds)
 effective_commands_read_back_are_same cs ds same = commands_read_back_have_same_settings empty_command_settings empty_command_settings cs ds (record { runas = tt; options = λ name. refl; tags = λ name. refl }) same
 
 -- ---- what options and tags say in the end

@@ -6,8 +6,8 @@ use Rattle.sudoers_grammar.specs.Node as node
 use Rattle.laws_print.specs.Writable.{IsWritableUserMember, IsWritableHostMember}
 use Rattle.laws_print.proofs.Kept.{nonempty_list_has_property_of_all}
 use Rattle.sudoers_cvt_rewrite.specs.declared.filter.Filter.{Filter}
-use Rattle.sudoers_cvt_rewrite.specs.Filter.{is_atom_of_named_user, is_atom_of_group_user, is_atom_of_named_host, is_list_without_items, is_filter_without_users, is_user_list_in_filter, is_host_list_in_filter, users_left_by_filter, hosts_left_by_filter}
-use Rattle.sudoers_cvt_rewrite.specs.Filter.{is_scope_in_filter, host_group_left_by_filter, host_groups_left_by_filter, spec_left_by_filter, filtered_node}
+use Rattle.sudoers_cvt_rewrite.specs.Filter.{is_atom_matching_user_name, is_atom_matching_group_name, is_atom_matching_host_name, is_list_without_items, is_filter_without_users, is_user_list_in_filter, is_host_list_in_filter, users_left_by_filter, hosts_left_by_filter}
+use Rattle.sudoers_cvt_rewrite.specs.Filter.{is_scope_in_filter, host_group_pruned_if_wanted, host_groups_left_by_filter, spec_or_blank_of_left_groups, node_or_blank_left_by_filter}
 use Rattle.sudoers_cvt_rewrite.specs.Rewrite.{node_filtered_if_any, node_expanded_if_wanted, rewritten_node, rewritten_lines_of_policy}
 use Rattle.laws_program.proofs.Matching.{filter_with_passing_element_is_not_empty, allowing_has, either_has}
 use Rattle.laws_program.proofs.Readable.{ChangedSignKeepsWritable, AreReadableLines, node_may}
@@ -20,27 +20,27 @@ NonemptyFilterKeepsWritableMembers = (k : Kind) (ms : List Member) (test : Membe
 
 module _ (fewer : NonemptyFilterKeepsWritableMembers) (lines : List Line) (f : Filter) where
   abbrev has_user : Member → Bool
-  has_user m = is_any_value_matched lines User is_atom_of_named_user f.users (m ∷ []) || is_any_value_matched lines User is_atom_of_group_user f.groups (m ∷ [])
+  has_user m = is_any_value_matched lines User is_atom_matching_user_name f.users (m ∷ []) || is_any_value_matched lines User is_atom_matching_group_name f.groups (m ∷ [])
 
   abbrev has_host : Member → Bool
-  has_host m = is_any_value_matched lines Host is_atom_of_named_host f.hosts (m ∷ [])
+  has_host m = is_any_value_matched lines Host is_atom_matching_host_name f.hosts (m ∷ [])
 
   users_may : (ms : List Member) → is_user_list_in_filter lines f ms ≡ true → IsNonEmptyListOf IsWritableUserMember ms → IsNonEmptyListOf IsWritableUserMember (users_left_by_filter lines f ms)
   users_may ms e all = by (is_filter_without_users f) e
     where
-      by : (b : Bool) → (b || (is_any_value_allowed lines User is_atom_of_named_user f.users ms || is_any_value_allowed lines User is_atom_of_group_user f.groups ms)) ≡ true
+      by : (b : Bool) → (b || (is_any_value_allowed lines User is_atom_matching_user_name f.users ms || is_any_value_allowed lines User is_atom_matching_group_name f.groups ms)) ≡ true
           → IsNonEmptyListOf IsWritableUserMember (cond b ms (filter has_user ms))
       by true h = all
-      by false h = fewer User ms has_user all (filter_with_passing_element_is_not_empty has_user ms (either_has User lines is_atom_of_named_user is_atom_of_group_user f.users f.groups ms h))
+      by false h = fewer User ms has_user all (filter_with_passing_element_is_not_empty has_user ms (either_has User lines is_atom_matching_user_name is_atom_matching_group_name f.users f.groups ms h))
 
   hosts_may : (ms : List Member) → is_host_list_in_filter lines f ms ≡ true → IsNonEmptyListOf IsWritableHostMember ms → IsNonEmptyListOf IsWritableHostMember (hosts_left_by_filter lines f ms)
   hosts_may ms e all = by (is_list_without_items f.hosts) e
     where
-      by : (b : Bool) → (b || is_any_value_allowed lines Host is_atom_of_named_host f.hosts ms) ≡ true → IsNonEmptyListOf IsWritableHostMember (cond b ms (filter has_host ms))
+      by : (b : Bool) → (b || is_any_value_allowed lines Host is_atom_matching_host_name f.hosts ms) ≡ true → IsNonEmptyListOf IsWritableHostMember (cond b ms (filter has_host ms))
       by true h = all
-      by false h = fewer Host ms has_host all (filter_with_passing_element_is_not_empty has_host ms (allowing_has Host lines is_atom_of_named_host f.hosts ms h))
+      by false h = fewer Host ms has_host all (filter_with_passing_element_is_not_empty has_host ms (allowing_has Host lines is_atom_matching_host_name f.hosts ms h))
 
-  group_may : (prune : Bool) (g : HostGroup) → is_host_list_in_filter lines f g.hosts ≡ true → IsWritableHostGroup g → IsWritableHostGroup (host_group_left_by_filter lines f prune g)
+  group_may : (prune : Bool) (g : HostGroup) → is_host_list_in_filter lines f g.hosts ≡ true → IsWritableHostGroup g → IsWritableHostGroup (host_group_pruned_if_wanted lines f prune g)
   group_may true g e is = record { hosts = hosts_may g.hosts e is.hosts; commands = is.commands }
   group_may false g e is = record { hosts = is.hosts; commands = is.commands }
 
@@ -49,20 +49,20 @@ module _ (fewer : NonemptyFilterKeepsWritableMembers) (lines : List Line) (f : F
   groups_may prune (g ∷ gs) all = by (is_host_list_in_filter lines f g.hosts) refl (groups_may prune gs all.1)
     where
       by : (b : Bool) → is_host_list_in_filter lines f g.hosts ≡ b → AllByRecursion IsWritableHostGroup (host_groups_left_by_filter lines f prune gs)
-          → AllByRecursion IsWritableHostGroup (map (host_group_left_by_filter lines f prune) (cond b (g ∷ filter (λ (g : HostGroup). is_host_list_in_filter lines f g.hosts) gs) (filter (λ (g : HostGroup). is_host_list_in_filter lines f g.hosts) gs)))
+          → AllByRecursion IsWritableHostGroup (map (host_group_pruned_if_wanted lines f prune) (cond b (g ∷ filter (λ (g : HostGroup). is_host_list_in_filter lines f g.hosts) gs) (filter (λ (g : HostGroup). is_host_list_in_filter lines f g.hosts) gs)))
       by true e rest = (group_may prune g e all.0, rest)
       by false e rest = rest
 
   spec_may : (prune : Bool) (users : List Member) (gs : List HostGroup) → is_user_list_in_filter lines f users ≡ true → IsNonEmptyListOf IsWritableUserMember users → AllByRecursion IsWritableHostGroup gs
-      → IsReadableNode (spec_left_by_filter lines f prune users gs)
+      → IsReadableNode (spec_or_blank_of_left_groups lines f prune users gs)
   spec_may prune users [] e all each = tt
   spec_may true users (g ∷ gs) e all each = (users_may users e all, each)
   spec_may false users (g ∷ gs) e all each = (all, each)
 
-  left_may : (prune : Bool) (n : Node) → IsReadableNode n → IsReadableNode (filtered_node lines f prune n)
+  left_may : (prune : Bool) (n : Node) → IsReadableNode n → IsReadableNode (node_or_blank_left_by_filter lines f prune n)
   left_may prune (node.Spec users groups) is = by (is_user_list_in_filter lines f users) refl
     where
-      by : (b : Bool) → is_user_list_in_filter lines f users ≡ b → IsReadableNode (cond b (spec_left_by_filter lines f prune users (host_groups_left_by_filter lines f prune groups)) node.Blank)
+      by : (b : Bool) → is_user_list_in_filter lines f users ≡ b → IsReadableNode (cond b (spec_or_blank_of_left_groups lines f prune users (host_groups_left_by_filter lines f prune groups)) node.Blank)
       by true e = spec_may prune users (host_groups_left_by_filter lines f prune groups) e is.0 (groups_may prune groups (nonempty_list_has_property_of_all IsWritableHostGroup groups is.1))
       by false e = tt
   left_may prune (node.Defaults scope params) is = by (is_scope_in_filter lines f scope)
@@ -99,7 +99,7 @@ module _ (lines : List Line) (number : ℕ) where
   abbrev are : Node → List PlacedDefinition
   are n = definitions_in_line number n
 
-  spec_defines : (f : Filter) (prune : Bool) (users : List Member) (gs : List HostGroup) → are (spec_left_by_filter lines f prune users gs) ≡ []
+  spec_defines : (f : Filter) (prune : Bool) (users : List Member) (gs : List HostGroup) → are (spec_or_blank_of_left_groups lines f prune users gs) ≡ []
   spec_defines f prune users [] = refl
   spec_defines f prune users (g ∷ gs) = refl
 
@@ -107,9 +107,9 @@ module _ (lines : List Line) (number : ℕ) where
   chosen_defines true n e = e
   chosen_defines false n e = refl
 
-  left_defines : (f : Filter) (prune : Bool) (n : Node) → are (filtered_node lines f prune n) ≡ are n
+  left_defines : (f : Filter) (prune : Bool) (n : Node) → are (node_or_blank_left_by_filter lines f prune n) ≡ are n
   left_defines f prune (node.Spec users groups) =
-      chosen_defines (is_user_list_in_filter lines f users) (spec_left_by_filter lines f prune users (host_groups_left_by_filter lines f prune groups)) (spec_defines f prune users (host_groups_left_by_filter lines f prune groups))
+      chosen_defines (is_user_list_in_filter lines f users) (spec_or_blank_of_left_groups lines f prune users (host_groups_left_by_filter lines f prune groups)) (spec_defines f prune users (host_groups_left_by_filter lines f prune groups))
   left_defines f prune (node.Defaults scope params) = chosen_defines (is_scope_in_filter lines f scope) (node.Defaults scope params) refl
   left_defines f prune n = refl
 

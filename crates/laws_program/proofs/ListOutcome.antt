@@ -15,7 +15,7 @@ use Rattle.sudoers_list_people.specs.declared.fault.WhoFault.{WhoFault}
 use Rattle.sudoers_list.specs.Listing.{IsListingOfUser}
 use Rattle.sudoers_list.specs.Reason.{IsReasonText}
 use Rattle.sudoers_run.specs.declared.command_words.ListWords.{ListWords}
-use Rattle.sudoers_run.specs.List.{IsListOutcomeAsDefaultOrCycle, IsListOutcomeAsUser, IsListAnswerOutcome, IsListAnswerText, IsListAnswerOutput, IsListOutcomeForQuestion, IsListOutcomeOfListing, IsListOutcome, IsListOutcomeForFirstRequest, IsListOutcomeForGathered, IsListOutcomeForPeople, IsListOutcomeForPolicy}
+use Rattle.sudoers_run.specs.List.{IsListOutcomeAsDefaultOrCycle, IsListOutcomeAsUser, IsListAnswerOutcome, IsListAnswerText, IsListAnswerOutput, IsListOutcomeForQuestion, IsListOutcomeOfListing, IsListOutcome, IsListOutcomeAsDefaultUnlessRequestFails, IsListOutcomeForGathered, IsListOutcomeForPeople, IsListOutcomeForPolicy}
 use Rattle.sudoers_run.specs.List.{IsListOutcomeForRequest, IsListOutcomeForWho, IsListOutcomeForWords, ListCommandOutcome, status_of_answer, text_of_allowed_command, optional_text_of_view}
 
 -- The laws of listings, of reasons, of answers and of runas_default.
@@ -73,7 +73,7 @@ outcome_as_default_or_cycle_is_unique l w policy people who o p (inr a) (inr b) 
     outcome_as_user_is_unique l w policy people who b.user o p
     (subst (λ user. IsListOutcomeAsUser w policy people who user o) (l.default policy.walk.lines who a.user b.user a.is_default b.is_default) a.asked) b.asked
 
-outcome_for_first_request_is_unique : ListUniquenessLaws → (w : ListWords) (policy : LoadedPolicy) (people : People) (told : Result Request WhoFault) (o p : ListCommandOutcome) → IsListOutcomeForFirstRequest w policy people told o → IsListOutcomeForFirstRequest w policy people told p → o ≡ p
+outcome_for_first_request_is_unique : ListUniquenessLaws → (w : ListWords) (policy : LoadedPolicy) (people : People) (told : Result Request WhoFault) (o p : ListCommandOutcome) → IsListOutcomeAsDefaultUnlessRequestFails w policy people told o → IsListOutcomeAsDefaultUnlessRequestFails w policy people told p → o ≡ p
 outcome_for_first_request_is_unique l w policy people (Ok r) o p a b = outcome_as_default_or_cycle_is_unique l w policy people r.who o p a b
 outcome_for_first_request_is_unique l w policy people (Err f) o p a b = a ∙ sym b
 

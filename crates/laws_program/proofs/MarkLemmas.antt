@@ -1,6 +1,6 @@
 -- The policy of a text that was written stands behind its script.
 use Rattle.laws_program.proofs.Common.{◌≡◌, ◌≢◌, ◌∙◌, ℕ, Bool, true, false, ◌==◌, ◌&&◌, List, [], ◌∷◌, ◌++◌, slice_index, Option, Some, None, refl, sym, ap, ap₂, append_assoc, AllByRecursion, join, bytes_eq, codes, list_any, if◌then◌else◌}
-use Rattle.laws_program.proofs.Common.{physical_lines, script_and_policy_text}
+use Rattle.laws_program.proofs.Common.{physical_lines, script_shape_and_policy_text}
 use Rattle.std.proofs.Common.{length, length-append, subst, ne_eqb, take, ◌<◌, ◌^◌, arith}
 use Rattle.std.proofs.lemmas.Bool.{or_parts}
 use Rattle.std.proofs.lemmas.Slice.Eq.{bytes_eq-Decides}
@@ -13,7 +13,7 @@ use Rattle.sudoers_bundle.specs.Bundle.{FitsInBundle, bundle_of_files, header_of
 use Rattle.sudoers_bundle.proofs.NumberLemmas.{decimal_lacks_byte_below_digits}
 use Rattle.sudoers_bundle.proofs.PartLemmas.{appended_texts_lack_missing_byte}
 use Rattle.sudoers_edit_script.specs.Physical.{byte_joined_to_first_line}
-use Rattle.sudoers_run.specs.Edit.{is_bundle_header_line, is_end_mark_line, script_and_policy_lines}
+use Rattle.sudoers_run.specs.Edit.{is_bundle_header_line, is_end_mark_line, script_shape_and_policy_lines}
 use Rattle.sudoers_run.specs.declared.input_shape.EditInputShape.{EditInputShape}
 use Rattle.sudoers_run.specs.declared.input_shape.EditInputShape.TheVariants as shape
 
@@ -47,8 +47,8 @@ abbrev ScriptLinesShapeAndPolicyLines : Type 0
 ScriptLinesShapeAndPolicyLines = List (List ℕ) × EditInputShape × List (List ℕ)
 
 -- the lines that split is told of behind lines that are neither
-lines_without_percent_join_script_lines : (ls rest : List (List ℕ)) (told : EditInputShape) (ks : List (List ℕ)) → AllByRecursion IsLineWithoutLeadingPercent ls → script_and_policy_lines rest ≡ Some ([], told, ks)
-    → script_and_policy_lines (ls ++ rest) ≡ Some (ls, told, ks)
+lines_without_percent_join_script_lines : (ls rest : List (List ℕ)) (told : EditInputShape) (ks : List (List ℕ)) → AllByRecursion IsLineWithoutLeadingPercent ls → script_shape_and_policy_lines rest ≡ Some ([], told, ks)
+    → script_shape_and_policy_lines (ls ++ rest) ≡ Some (ls, told, ks)
 lines_without_percent_join_script_lines [] rest told ks plain is = is
 lines_without_percent_join_script_lines (l ∷ ls) rest told ks plain is =
     rw (line_without_percent_is_no_end_mark l plain.0, line_without_percent_is_no_bundle_header l plain.0)
@@ -57,18 +57,18 @@ lines_without_percent_join_script_lines (l ∷ ls) rest told ks plain is =
 -- what follows a script that is lines of its own
 script_lines_are_split_from_policy : ((text : List ℕ) → join (physical_lines text) ≡ text) → (script rest policy : List ℕ) (told : EditInputShape) (ks : List (List ℕ))
     → ((rest : List ℕ) → physical_lines (script ++ rest) ≡ physical_lines script ++ physical_lines rest)
-    → AllByRecursion IsLineWithoutLeadingPercent (physical_lines script) → script_and_policy_lines (physical_lines rest) ≡ Some ([], told, ks) → join ks ≡ policy
-    → script_and_policy_text (script ++ rest) ≡ Some (script, told, policy)
+    → AllByRecursion IsLineWithoutLeadingPercent (physical_lines script) → script_shape_and_policy_lines (physical_lines rest) ≡ Some ([], told, ks) → join ks ≡ policy
+    → script_shape_and_policy_text (script ++ rest) ≡ Some (script, told, policy)
 script_lines_are_split_from_policy pieces script rest policy told ks before plain is whole =
-    let cut : script_and_policy_lines (physical_lines (script ++ rest)) ≡ Some (physical_lines script, told, ks) =
-    ap script_and_policy_lines (before rest) ∙ lines_without_percent_join_script_lines (physical_lines script) (physical_lines rest) told ks plain is in
+    let cut : script_shape_and_policy_lines (physical_lines (script ++ rest)) ≡ Some (physical_lines script, told, ks) =
+    ap script_shape_and_policy_lines (before rest) ∙ lines_without_percent_join_script_lines (physical_lines script) (physical_lines rest) told ks plain is in
     ap (option_map {U = List ℕ × EditInputShape × List ℕ} (λ (parts : ScriptLinesShapeAndPolicyLines). (join parts.0, parts.1, join parts.2))) cut
     ∙ ap₂ (λ (x y : List ℕ). Some (x, told, y)) (pieces script) whole
 
 -- the mark behind it
 pub script_is_split_at_end_mark : ((text : List ℕ) → join (physical_lines text) ≡ text) → (script policy : List ℕ)
     → ((rest : List ℕ) → physical_lines (script ++ rest) ≡ physical_lines script ++ physical_lines rest)
-    → AllByRecursion IsLineWithoutLeadingPercent (physical_lines script) → script_and_policy_text (script ++ 37 ∷ 37 ∷ 10 ∷ policy) ≡ Some (script, shape.OneText, policy)
+    → AllByRecursion IsLineWithoutLeadingPercent (physical_lines script) → script_shape_and_policy_text (script ++ 37 ∷ 37 ∷ 10 ∷ policy) ≡ Some (script, shape.OneText, policy)
 script_is_split_at_end_mark pieces script policy before plain =
     script_lines_are_split_from_policy pieces script (37 ∷ 37 ∷ 10 ∷ policy) policy shape.OneText (physical_lines policy) before plain refl (pieces policy)
 
@@ -93,10 +93,10 @@ percents_with_space_are_no_mark (b ∷ rest) = refl
 -- a bundle behind it
 pub script_is_split_at_bundle : ((text : List ℕ) → join (physical_lines text) ≡ text) → (script : List ℕ) (file : NamedFile) (files : List NamedFile) → FitsInBundle file
     → ((rest : List ℕ) → physical_lines (script ++ rest) ≡ physical_lines script ++ physical_lines rest)
-    → AllByRecursion IsLineWithoutLeadingPercent (physical_lines script) → script_and_policy_text (script ++ bundle_of_files (file ∷ files)) ≡ Some (script, shape.Bundle, bundle_of_files (file ∷ files))
+    → AllByRecursion IsLineWithoutLeadingPercent (physical_lines script) → script_shape_and_policy_text (script ++ bundle_of_files (file ∷ files)) ≡ Some (script, shape.Bundle, bundle_of_files (file ∷ files))
 script_is_split_at_bundle pieces script file files held before plain =
     script_lines_are_split_from_policy pieces script (bundle_of_files (file ∷ files)) (bundle_of_files (file ∷ files)) shape.Bundle (physical_lines (bundle_of_files (file ∷ files))) before plain
-    (ap script_and_policy_lines lines ∙ told ∙ ap (λ (ks : List (List ℕ)). Some ([], shape.Bundle, ks)) (sym lines)) (pieces (bundle_of_files (file ∷ files)))
+    (ap script_shape_and_policy_lines lines ∙ told ∙ ap (λ (ks : List (List ℕ)). Some ([], shape.Bundle, ks)) (sym lines)) (pieces (bundle_of_files (file ∷ files)))
   where
     n : ℕ
     n = length file.bytes
@@ -124,7 +124,7 @@ script_is_split_at_bundle pieces script file files held before plain =
     lines : physical_lines (bundle_of_files (file ∷ files)) ≡ (front ++ 10 ∷ []) ∷ physical_lines (file.bytes ++ bundle_of_files files)
     lines = ap physical_lines whole ∙ text_to_lf_is_first_line front (file.bytes ++ bundle_of_files files) lacks
 
-    told : script_and_policy_lines ((front ++ 10 ∷ []) ∷ physical_lines (file.bytes ++ bundle_of_files files))
+    told : script_shape_and_policy_lines ((front ++ 10 ∷ []) ∷ physical_lines (file.bytes ++ bundle_of_files files))
         ≡ Some ([], shape.Bundle, (front ++ 10 ∷ []) ∷ physical_lines (file.bytes ++ bundle_of_files files))
     told = rw (percents_with_space_are_no_mark (behind ++ 10 ∷ []), line_with_lf_ends_in_lf front) refl
 
@@ -155,17 +155,17 @@ preceding_line_keeps_split_policy l ls front ks told p both e =
     )
 
 -- lines that are told of as a bundle are not empty, and no lines are more than all
-split_lines_have_bounded_policy : (ls front ks : List (List ℕ)) (told : EditInputShape) → script_and_policy_lines ls ≡ Some (front, told, ks) → IsPolicyOfSplitLines told ks ls
+split_lines_have_bounded_policy : (ls front ks : List (List ℕ)) (told : EditInputShape) → script_shape_and_policy_lines ls ≡ Some (front, told, ks) → IsPolicyOfSplitLines told ks ls
 split_lines_have_bounded_policy [] front ks told e = absurd cc
 split_lines_have_bounded_policy (l ∷ ls) front ks told e = by (is_end_mark_line l) (is_bundle_header_line l) refl (λ f k t r. split_lines_have_bounded_policy ls f k t r) e
   where
-    more : (o : Option ScriptLinesShapeAndPolicyLines) → script_and_policy_lines ls ≡ o → ((f k : List (List ℕ)) (t : EditInputShape) → script_and_policy_lines ls ≡ Some (f, t, k) → IsPolicyOfSplitLines t k ls)
+    more : (o : Option ScriptLinesShapeAndPolicyLines) → script_shape_and_policy_lines ls ≡ o → ((f k : List (List ℕ)) (t : EditInputShape) → script_shape_and_policy_lines ls ≡ Some (f, t, k) → IsPolicyOfSplitLines t k ls)
         → option_map {U = ScriptLinesShapeAndPolicyLines} (λ (parts : ScriptLinesShapeAndPolicyLines). (l ∷ parts.0, parts.1, parts.2)) o ≡ Some (front, told, ks) → IsPolicyOfSplitLines told ks (l ∷ ls)
     more None is rest e = absurd cc
     more (Some p) is rest e = preceding_line_keeps_split_policy l ls front ks told p (rest p.0 p.2 p.1 is) e
 
-    by : (m h : Bool) → is_bundle_header_line l ≡ h → ((f k : List (List ℕ)) (t : EditInputShape) → script_and_policy_lines ls ≡ Some (f, t, k) → IsPolicyOfSplitLines t k ls)
-        → (if m then Some ([], shape.OneText, ls) else (if h then Some ([], shape.Bundle, l ∷ ls) else option_map {U = ScriptLinesShapeAndPolicyLines} (λ (parts : ScriptLinesShapeAndPolicyLines). (l ∷ parts.0, parts.1, parts.2)) (script_and_policy_lines ls))) ≡ Some (front, told, ks)
+    by : (m h : Bool) → is_bundle_header_line l ≡ h → ((f k : List (List ℕ)) (t : EditInputShape) → script_shape_and_policy_lines ls ≡ Some (f, t, k) → IsPolicyOfSplitLines t k ls)
+        → (if m then Some ([], shape.OneText, ls) else (if h then Some ([], shape.Bundle, l ∷ ls) else option_map {U = ScriptLinesShapeAndPolicyLines} (λ (parts : ScriptLinesShapeAndPolicyLines). (l ∷ parts.0, parts.1, parts.2)) (script_shape_and_policy_lines ls))) ≡ Some (front, told, ks)
         → IsPolicyOfSplitLines told ks (l ∷ ls)
     by true h is rest e =
         let same = equal_triples_have_equal_later_parts ([], shape.OneText, ls) (front, told, ks) e in (
@@ -177,14 +177,14 @@ split_lines_have_bounded_policy (l ∷ ls) front ks told e = by (is_end_mark_lin
           λ bundled none. join_with_nonempty_line_is_not_empty l ls (bundle_header_line_is_not_empty l is) (ap join same.1 ∙ none),
           subst (λ (z : List (List ℕ)). length (join z) ≤ length (join (l ∷ ls))) same.1 (omega arith),
         )
-    by false false is rest e = more (script_and_policy_lines ls) refl rest e
+    by false false is rest e = more (script_shape_and_policy_lines ls) refl rest e
 
 -- a policy that is told of as a bundle is not empty, and no policy is longer than the input
-pub split_policy_text_is_bounded : ((text : List ℕ) → join (physical_lines text) ≡ text) → (input script text : List ℕ) (form : EditInputShape) → script_and_policy_text input ≡ Some (script, form, text)
+pub split_policy_text_is_bounded : ((text : List ℕ) → join (physical_lines text) ≡ text) → (input script text : List ℕ) (form : EditInputShape) → script_shape_and_policy_text input ≡ Some (script, form, text)
     → (form ≡ shape.Bundle → text ≢ []) × (length text ≤ length input)
-split_policy_text_is_bounded pieces input script text form e = by (script_and_policy_lines (physical_lines input)) refl e
+split_policy_text_is_bounded pieces input script text form e = by (script_shape_and_policy_lines (physical_lines input)) refl e
   where
-    by : (o : Option ScriptLinesShapeAndPolicyLines) → script_and_policy_lines (physical_lines input) ≡ o
+    by : (o : Option ScriptLinesShapeAndPolicyLines) → script_shape_and_policy_lines (physical_lines input) ≡ o
         → option_map {U = List ℕ × EditInputShape × List ℕ} (λ (parts : ScriptLinesShapeAndPolicyLines). (join parts.0, parts.1, join parts.2)) o ≡ Some (script, form, text)
         → (form ≡ shape.Bundle → text ≢ []) × (length text ≤ length input)
     by None is e = absurd cc

@@ -8,19 +8,19 @@ use Rattle.sudoers_tree.specs.Load.{LoadedPolicy, policy_or_load_fault}
 use Rattle.sudoers_tree.specs.Reading.{policy_lines_of_text}
 use Rattle.sudoers_files.specs.Gather.{gathered_files_or_fault}
 use Rattle.sudoers_cvt_rules.specs.Rules.{Rules, printed_rules}
-use Rattle.laws_print.specs.Same.{AreItemsPairwiseRelated, IsNodeSameButPlace}
+use Rattle.laws_print.specs.Same.{AreItemsPairwiseRelated, NodeIsReadBackAs}
 use Rattle.laws_load.specs.Alone.{IsLineWithoutInclude, IsNodeOtherThanInclude, single_file_named, policy_of_single_file}
-use Rattle.laws_program.specs.Converted.{IsTextOfPolicyLines}
+use Rattle.laws_program.specs.Converted.{IsTextLoadedAloneAsLines}
 use Rattle.laws_program.specs.ReadAs.{IsPolicyOfPrintedRules, IsTextReadAsNodes, nodes_of_lines}
 use Rattle.sudoers_run.specs.declared.command_words.ConvertWords.{ConvertWords}
 use Rattle.sudoers_run.specs.Convert.{convert_output_of_lines, convert_output, convert_output_of_loading}
-use Rattle.sudoers_run.specs.Policy.{result_after_loading}
+use Rattle.sudoers_run.specs.Policy.{result_after_loading_gathered_files}
 
 -- The text is read as lines that say the same as these.
 pub record IsTextReadAsSameNodes (text : List ℕ) (nodes : List Node) : Type 0 where
   pub read : List Line
   pub is : policy_lines_of_text text ≡ Ok read
-  pub same : AreItemsPairwiseRelated IsNodeSameButPlace nodes (nodes_of_lines read)
+  pub same : AreItemsPairwiseRelated NodeIsReadBackAs nodes (nodes_of_lines read)
 
 -- what the laws of a text as the only file say
 abbrev pub ReadLinesLoadAsOnlyFile : Type 0
@@ -35,7 +35,7 @@ OnlyFileIsGatheredByItself = (name text : List ℕ) (lines : List Line) → poli
     → gathered_files_or_fault (single_file_named name text) name ≡ Ok (single_file_named name text)
 
 -- What says the same as something printed is no include.
-node_same_as_printed_is_no_include : (n m : Node) → IsNodeSameButPlace n m → IsNodeOtherThanInclude m
+node_same_as_printed_is_no_include : (n m : Node) → NodeIsReadBackAs n m → IsNodeOtherThanInclude m
 node_same_as_printed_is_no_include (node.Defaults scope params) (node.Include dir path) same = absurd same
 node_same_as_printed_is_no_include (node.Alias k defs) (node.Include dir path) same = absurd same
 node_same_as_printed_is_no_include (node.Spec users groups) (node.Include dir path) same = absurd same
@@ -48,7 +48,7 @@ node_same_as_printed_is_no_include n (node.Defaults scope params) same = tt
 node_same_as_printed_is_no_include n (node.Alias k defs) same = tt
 node_same_as_printed_is_no_include n (node.Spec users groups) same = tt
 
-lines_same_as_printed_have_no_include : (nodes : List Node) (lines : List Line) → AreItemsPairwiseRelated IsNodeSameButPlace nodes (nodes_of_lines lines) → AllByRecursion IsLineWithoutInclude lines
+lines_same_as_printed_have_no_include : (nodes : List Node) (lines : List Line) → AreItemsPairwiseRelated NodeIsReadBackAs nodes (nodes_of_lines lines) → AllByRecursion IsLineWithoutInclude lines
 lines_same_as_printed_have_no_include [] [] same = tt
 lines_same_as_printed_have_no_include [] (line ∷ lines) same = absurd same
 lines_same_as_printed_have_no_include (n ∷ nodes) [] same = absurd same
@@ -67,7 +67,7 @@ pub printed_rules_are_read_as_policy_lines : OnlyFileLoadedIsReadAsLines → (ru
 printed_rules_are_read_as_policy_lines reads rules policy is = reads is.name (printed_rules rules) policy is.loads
 
 -- It is gathered alone.
-pub text_read_as_nodes_is_policy_text : OnlyFileLoadedIsReadAsLines → OnlyFileIsGatheredByItself → (text : List ℕ) (nodes : List Node) (is : IsTextReadAsNodes text nodes) → IsTextOfPolicyLines text is.read
+pub text_read_as_nodes_is_policy_text : OnlyFileLoadedIsReadAsLines → OnlyFileIsGatheredByItself → (text : List ℕ) (nodes : List Node) (is : IsTextReadAsNodes text nodes) → IsTextLoadedAloneAsLines text is.read
 text_read_as_nodes_is_policy_text reads gathers text nodes is name = record {
   files = single_file_named name text;
   gathers = gathers name text is.read (reads [] text (policy_of_single_file [] is.read) (is.loads [])) (lines_same_as_printed_have_no_include nodes is.read is.same);
@@ -75,8 +75,8 @@ text_read_as_nodes_is_policy_text reads gathers text nodes is name = record {
 }
 
 -- It is converted as its lines are.
-pub policy_text_is_converted_as_its_lines : (words : ConvertWords) (out : List ℕ) (lines : List Line) → IsTextOfPolicyLines out lines → convert_output_of_lines words lines ≡ Ok out
+pub policy_text_is_converted_as_its_lines : (words : ConvertWords) (out : List ℕ) (lines : List Line) → IsTextLoadedAloneAsLines out lines → convert_output_of_lines words lines ≡ Ok out
     → (name : List ℕ) → convert_output words name (single_file_named name out) ≡ Ok out
 policy_text_is_converted_as_its_lines words out lines printed_rules is name =
     let policy = printed_rules name in
-    ap (result_after_loading (convert_output_of_loading words)) policy.gathers ∙ ap (convert_output_of_loading words) policy.loads ∙ is
+    ap (result_after_loading_gathered_files (convert_output_of_loading words)) policy.gathers ∙ ap (convert_output_of_loading words) policy.loads ∙ is

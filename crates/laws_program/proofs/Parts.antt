@@ -1,8 +1,8 @@
 -- What is made of the rules of lines, rule by rule.
 use Rattle.laws_program.proofs.Common.{◌≡◌, List, [], ◌∷◌, ◌++◌, map, refl, ap, ap₂, ◌∙◌, append-nil, flat_map, flat_map-append, Kind, Def, Node, Line, AreItemsPairwiseRelated}
-use Rattle.laws_program.proofs.Common.{IsNodeSameButPlace, IsPointwiseRelated, appended_related_lists_are_related, effective_spec_nodes_in, alias_node_of_one_definition, one_definition_nodes_in, rules_of_policy_lines, rule_nodes_in_print_order, nodes_of_lines}
+use Rattle.laws_program.proofs.Common.{NodeIsReadBackAs, IsPointwiseRelated, appended_related_lists_are_related, effective_spec_nodes_of_line_node, alias_node_of_one_definition, one_definition_nodes_of_line_node, rules_of_policy_lines, rule_nodes_in_print_order, nodes_of_lines}
 use Rattle.sudoers_grammar.specs.Node as node
-use Rattle.sudoers_cvt_rules.specs.Rules.{defaults_line_nodes_in}
+use Rattle.sudoers_cvt_rules.specs.Rules.{defaults_nodes_of_line_node}
 use Rattle.sudoers_cvt_rules.specs.Effective.{effective_host_group}
 
 -- ---- rules
@@ -26,16 +26,16 @@ module _ {Y : Type 0} (made_in : Node → List Y) where
   each_def none k [] = refl
   each_def none k (d ∷ ds) = ap₂ (λ (x y : List Y). x ++ y) (none k d) (each_def none k ds)
 
-  pub no_defs : ((k : Kind) (d : Def) → made_in (alias_node_of_one_definition k d) ≡ []) → (n : Node) → flat_map made_in (one_definition_nodes_in n) ≡ []
+  pub no_defs : ((k : Kind) (d : Def) → made_in (alias_node_of_one_definition k d) ≡ []) → (n : Node) → flat_map made_in (one_definition_nodes_of_line_node n) ≡ []
   no_defs none (node.Alias k ds) = each_def none k ds
   no_defs none n = refl
 
   -- nor of Defaults lines and user specifications
-  pub no_defaults : ((scope : _) (params : _) → made_in (node.Defaults scope params) ≡ []) → (n : Node) → flat_map made_in (defaults_line_nodes_in n) ≡ []
+  pub no_defaults : ((scope : _) (params : _) → made_in (node.Defaults scope params) ≡ []) → (n : Node) → flat_map made_in (defaults_nodes_of_line_node n) ≡ []
   no_defaults none (node.Defaults scope params) = ap (λ (ys : List Y). ys ++ []) (none scope params)
   no_defaults none n = refl
 
-  pub no_specs : ((users : _) (groups : _) → made_in (node.Spec users groups) ≡ []) → (n : Node) → flat_map made_in (effective_spec_nodes_in n) ≡ []
+  pub no_specs : ((users : _) (groups : _) → made_in (node.Spec users groups) ≡ []) → (n : Node) → flat_map made_in (effective_spec_nodes_of_line_node n) ≡ []
   no_specs none (node.Spec users groups) = ap (λ (ys : List Y). ys ++ []) (none users (map effective_host_group groups))
   no_specs none n = refl
 
@@ -46,29 +46,29 @@ module _ {Y : Type 0} (made_in : Node → List Y) where
       flat_map-append made_in (r.defaults ++ r.defs) r.specs ∙ ap (λ (x : List Y). x ++ flat_map made_in r.specs) (flat_map-append made_in r.defaults r.defs)
 
   -- what is made of one sort of rules alone
-  pub made_of_defaults : (made : Node → List Y) → ((n : Node) → flat_map made_in (defaults_line_nodes_in n) ≡ made n) → ((n : Node) → flat_map made_in (one_definition_nodes_in n) ≡ []) → ((n : Node) → flat_map made_in (effective_spec_nodes_in n) ≡ [])
+  pub made_of_defaults : (made : Node → List Y) → ((n : Node) → flat_map made_in (defaults_nodes_of_line_node n) ≡ made n) → ((n : Node) → flat_map made_in (one_definition_nodes_of_line_node n) ≡ []) → ((n : Node) → flat_map made_in (effective_spec_nodes_of_line_node n) ≡ [])
       → (lines : List Line) → flat_map made_in (rule_nodes_in_print_order (rules_of_policy_lines lines)) ≡ flat_map made (nodes_of_lines lines)
   made_of_defaults made d a s lines =
       let r = rules_of_policy_lines lines in
       three lines
-      ∙ ap₂ (λ (x y : List Y). (flat_map made_in r.defaults ++ x) ++ y) (nothing one_definition_nodes_in a lines) (nothing effective_spec_nodes_in s lines)
-      ∙ append-nil (flat_map made_in r.defaults ++ []) ∙ append-nil (flat_map made_in r.defaults) ∙ made_each defaults_line_nodes_in made d lines
+      ∙ ap₂ (λ (x y : List Y). (flat_map made_in r.defaults ++ x) ++ y) (nothing one_definition_nodes_of_line_node a lines) (nothing effective_spec_nodes_of_line_node s lines)
+      ∙ append-nil (flat_map made_in r.defaults ++ []) ∙ append-nil (flat_map made_in r.defaults) ∙ made_each defaults_nodes_of_line_node made d lines
 
-  pub made_of_defs : (made : Node → List Y) → ((n : Node) → flat_map made_in (defaults_line_nodes_in n) ≡ []) → ((n : Node) → flat_map made_in (one_definition_nodes_in n) ≡ made n) → ((n : Node) → flat_map made_in (effective_spec_nodes_in n) ≡ [])
+  pub made_of_defs : (made : Node → List Y) → ((n : Node) → flat_map made_in (defaults_nodes_of_line_node n) ≡ []) → ((n : Node) → flat_map made_in (one_definition_nodes_of_line_node n) ≡ made n) → ((n : Node) → flat_map made_in (effective_spec_nodes_of_line_node n) ≡ [])
       → (lines : List Line) → flat_map made_in (rule_nodes_in_print_order (rules_of_policy_lines lines)) ≡ flat_map made (nodes_of_lines lines)
   made_of_defs made d a s lines =
       let r = rules_of_policy_lines lines in
       three lines
-      ∙ ap₂ (λ (x y : List Y). (x ++ flat_map made_in r.defs) ++ y) (nothing defaults_line_nodes_in d lines) (nothing effective_spec_nodes_in s lines)
-      ∙ append-nil (flat_map made_in r.defs) ∙ made_each one_definition_nodes_in made a lines
+      ∙ ap₂ (λ (x y : List Y). (x ++ flat_map made_in r.defs) ++ y) (nothing defaults_nodes_of_line_node d lines) (nothing effective_spec_nodes_of_line_node s lines)
+      ∙ append-nil (flat_map made_in r.defs) ∙ made_each one_definition_nodes_of_line_node made a lines
 
-  pub made_of_specs : (made : Node → List Y) → ((n : Node) → flat_map made_in (defaults_line_nodes_in n) ≡ []) → ((n : Node) → flat_map made_in (one_definition_nodes_in n) ≡ []) → ((n : Node) → flat_map made_in (effective_spec_nodes_in n) ≡ made n)
+  pub made_of_specs : (made : Node → List Y) → ((n : Node) → flat_map made_in (defaults_nodes_of_line_node n) ≡ []) → ((n : Node) → flat_map made_in (one_definition_nodes_of_line_node n) ≡ []) → ((n : Node) → flat_map made_in (effective_spec_nodes_of_line_node n) ≡ made n)
       → (lines : List Line) → flat_map made_in (rule_nodes_in_print_order (rules_of_policy_lines lines)) ≡ flat_map made (nodes_of_lines lines)
   made_of_specs made d a s lines =
       let r = rules_of_policy_lines lines in
       three lines
-      ∙ ap₂ (λ (x y : List Y). (x ++ y) ++ flat_map made_in r.specs) (nothing defaults_line_nodes_in d lines) (nothing one_definition_nodes_in a lines)
-      ∙ made_each effective_spec_nodes_in made s lines
+      ∙ ap₂ (λ (x y : List Y). (x ++ y) ++ flat_map made_in r.specs) (nothing defaults_nodes_of_line_node d lines) (nothing one_definition_nodes_of_line_node a lines)
+      ∙ made_each effective_spec_nodes_of_line_node made s lines
 
 -- ---- lists that are alike
 
@@ -84,7 +84,7 @@ pointwise_relation_of_mapped_is_of_sources f R (w ∷ ws) (y ∷ ys) all = (all.
 pointwise_relation_of_mapped_is_of_sources f R ws ys all = absurd all
 
 -- What is made of lines that say the same is alike.
-pub same_nodes_make_related_items : {Y : Type 0} (R : Y → Y → Type 0) (made_in : Node → List Y) → ((n m : Node) → IsNodeSameButPlace n m → IsPointwiseRelated R (made_in n) (made_in m)) → (ns ms : List Node) → AreItemsPairwiseRelated IsNodeSameButPlace ns ms
+pub same_nodes_make_related_items : {Y : Type 0} (R : Y → Y → Type 0) (made_in : Node → List Y) → ((n m : Node) → NodeIsReadBackAs n m → IsPointwiseRelated R (made_in n) (made_in m)) → (ns ms : List Node) → AreItemsPairwiseRelated NodeIsReadBackAs ns ms
     → IsPointwiseRelated R (flat_map made_in ns) (flat_map made_in ms)
 same_nodes_make_related_items R made_in each [] [] all = tt
 same_nodes_make_related_items R made_in each (n ∷ ns) (m ∷ ms) all =

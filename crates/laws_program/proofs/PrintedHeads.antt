@@ -1,6 +1,6 @@
 -- What commands inherit can be written.
 use Rattle.laws_program.proofs.Common.{◌≡◌, ℕ, Bool, true, false, List, [], ◌∷◌, ◌++◌, Option, Some, None, map, refl, sym, ap, ◌∙◌, ◌==◌, if◌then◌else◌}
-use Rattle.laws_program.proofs.Common.{option_or, AllByRecursion, filter_map, cons_option, eqb-true, OptionName, RunasSpec, CmdSpec, HostGroup, SettingsOfCommand, empty_command_settings}
+use Rattle.laws_program.proofs.Common.{option_or, AllByRecursion, filter_map, cons_option, eqb-true, OptionName, RunasSpec, CmdSpec, HostGroup, AccumulatedCommandSettings, empty_command_settings}
 use Rattle.laws_program.proofs.Common.{settings_after_command, ordinal_of_option, final_value_of_option, all_option_names, IsNonEmptyListOf, IsWritableRunasSpec, IsWritableOption, IsWritableCommand, IsWritableHostGroup, effective_command}
 use Rattle.laws_program.proofs.Common.{effective_commands, effective_host_group}
 use Rattle.std.specs.Option.{option_map, IfSome}
@@ -62,7 +62,7 @@ inherited_runas_is_writable : (own before : Option RunasSpec) → IsWritableRuna
 inherited_runas_is_writable None before is was = was
 inherited_runas_is_writable (Some r) before is was = is
 
-effective_commands_with_settings_are_writable : (h : SettingsOfCommand) (cs : List CmdSpec) → IsWritableRunasSpec h.runas → AllByRecursion IsWritableOption h.options → AllByRecursion IsWritableCommand cs → AllByRecursion IsWritableCommand (map effective_command (commands_with_settings h cs))
+effective_commands_with_settings_are_writable : (h : AccumulatedCommandSettings) (cs : List CmdSpec) → IsWritableRunasSpec h.runas → AllByRecursion IsWritableOption h.options → AllByRecursion IsWritableCommand cs → AllByRecursion IsWritableCommand (map effective_command (commands_with_settings h cs))
 effective_commands_with_settings_are_writable h [] runas options all = tt
 effective_commands_with_settings_are_writable h (c ∷ cs) runas options all =
     let head = inherited_runas_is_writable c.runas h.runas all.0.runas runas in

@@ -1,9 +1,9 @@
 -- What a policy mentions with its aliases replaced, chains of mentions lead to in the policy that was read.
 use Rattle.laws_program.proofs.Common.{◌≡◌, ℕ, zero, suc, Bool, if◌then◌else◌, List, [], ◌∷◌, ◌++◌, length, map, Option, Some, None, refl}
 use Rattle.laws_program.proofs.Common.{AllByRecursion, flat_map, Kind, User, Runas, Host, Cmnd, Member, RunasSpec, CmdSpec, HostGroup, Scope, Node, Line}
-use Rattle.laws_program.proofs.Common.{definitions_of_lines, is_equal_kind, members_of_runas, members_in_host_group, members_in_scope, root_names_in_node, IsReachable, alias_members_of_atom}
-use Rattle.laws_program.proofs.Common.{member_under_negation, member_or_alias_members, list_with_aliases_expanded_once, list_expanded_n_times, fully_expanded_list, all_append, expanded_runas_spec, command_with_member}
-use Rattle.laws_program.proofs.Common.{expanded_command, expanded_host_group, expanded_scope_list, expanded_scope, expanded_node}
+use Rattle.laws_program.proofs.Common.{definitions_of_lines, is_equal_kind, members_of_runas, members_in_host_group, members_in_scope, root_names_in_node, IsReachedFromSpecOrDefaults, alias_members_of_atom}
+use Rattle.laws_program.proofs.Common.{member_under_negation, member_or_alias_members, list_with_aliases_expanded_once, list_expanded_n_times, fully_expanded_list, all_append, expanded_runas_spec, command_with_runas_and_member}
+use Rattle.laws_program.proofs.Common.{commands_of_expanded_command, expanded_host_group, expanded_scope_list, expanded_scope, expanded_node}
 use Rattle.std.specs.Option.{option_map}
 use Rattle.sudoers_grammar.specs.Node as node
 use Rattle.laws_program.proofs.RootsAlike.{runas_members_of_commands}
@@ -44,25 +44,25 @@ module _ (lines : List Line) where
   commands_in cs = map (λ (c : CmdSpec). c.member) cs
 
   each_runas : (r : Option RunasSpec) (c : CmdSpec) (ms : List Member) (rest : List CmdSpec) → AreMet lines Runas (members_of_runas r) → AreMet lines Runas (runas_members_of_commands rest)
-      → AreMet lines Runas (runas_members_of_commands (map (command_with_member r c) ms ++ rest))
+      → AreMet lines Runas (runas_members_of_commands (map (command_with_runas_and_member r c) ms ++ rest))
   each_runas r c [] rest own all = all
-  each_runas r c (m ∷ ms) rest own all = all_append (IsMet lines Runas) (members_of_runas r) (runas_members_of_commands (map (command_with_member r c) ms ++ rest)) own (each_runas r c ms rest own all)
+  each_runas r c (m ∷ ms) rest own all = all_append (IsMet lines Runas) (members_of_runas r) (runas_members_of_commands (map (command_with_runas_and_member r c) ms ++ rest)) own (each_runas r c ms rest own all)
 
-  runas_each_met : (cs : List CmdSpec) → AreMet lines Runas (runas_members_of_commands cs) → AreMet lines Runas (runas_members_of_commands (flat_map (expanded_command lines) cs))
+  runas_each_met : (cs : List CmdSpec) → AreMet lines Runas (runas_members_of_commands cs) → AreMet lines Runas (runas_members_of_commands (flat_map (commands_of_expanded_command lines) cs))
   runas_each_met [] all = tt
   runas_each_met (c ∷ cs) all =
-      each_runas (option_map (expanded_runas_spec lines) c.runas) c (fully_expanded_list Cmnd lines (c.member ∷ [])) (flat_map (expanded_command lines) cs)
+      each_runas (option_map (expanded_runas_spec lines) c.runas) c (fully_expanded_list Cmnd lines (c.member ∷ [])) (flat_map (commands_of_expanded_command lines) cs)
       (runas_met c.runas (left_of (IsMet lines Runas) (members_of_runas c.runas) (runas_members_of_commands cs) all)) (runas_each_met cs (right_of (IsMet lines Runas) (members_of_runas c.runas) (runas_members_of_commands cs) all))
 
   each_member : (r : Option RunasSpec) (c : CmdSpec) (ms : List Member) (rest : List CmdSpec) → AreMet lines Cmnd ms → AreMet lines Cmnd (commands_in rest)
-      → AreMet lines Cmnd (commands_in (map (command_with_member r c) ms ++ rest))
+      → AreMet lines Cmnd (commands_in (map (command_with_runas_and_member r c) ms ++ rest))
   each_member r c [] rest own all = all
   each_member r c (m ∷ ms) rest own all = (own.0, each_member r c ms rest own.1 all)
 
-  all_members : (cs : List CmdSpec) → AreMet lines Cmnd (commands_in cs) → AreMet lines Cmnd (commands_in (flat_map (expanded_command lines) cs))
+  all_members : (cs : List CmdSpec) → AreMet lines Cmnd (commands_in cs) → AreMet lines Cmnd (commands_in (flat_map (commands_of_expanded_command lines) cs))
   all_members [] all = tt
   all_members (c ∷ cs) all =
-      each_member (option_map (expanded_runas_spec lines) c.runas) c (fully_expanded_list Cmnd lines (c.member ∷ [])) (flat_map (expanded_command lines) cs)
+      each_member (option_map (expanded_runas_spec lines) c.runas) c (fully_expanded_list Cmnd lines (c.member ∷ [])) (flat_map (commands_of_expanded_command lines) cs)
       (list_met Cmnd (c.member ∷ []) (all.0, tt)) (all_members cs all.1)
 
   -- ---- lines
@@ -102,15 +102,15 @@ module _ (lines : List Line) where
   scope_met k None all = tt
   scope_met k (Some s) all = scoped_met k s.kind s.members all
 
-  spec_met : (k : Kind) (users : List Member) (groups : List HostGroup) → AllByRecursion (IsReachable k lines) (root_names_in_node k (node.Spec users groups))
-      → AllByRecursion (IsReachable k lines) (root_names_in_node k (node.Spec (fully_expanded_list User lines users) (map (expanded_host_group lines) groups)))
+  spec_met : (k : Kind) (users : List Member) (groups : List HostGroup) → AllByRecursion (IsReachedFromSpecOrDefaults k lines) (root_names_in_node k (node.Spec users groups))
+      → AllByRecursion (IsReachedFromSpecOrDefaults k lines) (root_names_in_node k (node.Spec (fully_expanded_list User lines users) (map (expanded_host_group lines) groups)))
   spec_met User users groups all = names_met lines User (fully_expanded_list User lines users) (list_met User users (met_names lines User users all))
   spec_met Runas users groups all = names_met lines Runas (flat_map (members_in_host_group Runas) (map (expanded_host_group lines) groups)) (groups_met Runas groups (met_names lines Runas (flat_map (members_in_host_group Runas) groups) all))
   spec_met Host users groups all = names_met lines Host (flat_map (members_in_host_group Host) (map (expanded_host_group lines) groups)) (groups_met Host groups (met_names lines Host (flat_map (members_in_host_group Host) groups) all))
   spec_met Cmnd users groups all = names_met lines Cmnd (flat_map (members_in_host_group Cmnd) (map (expanded_host_group lines) groups)) (groups_met Cmnd groups (met_names lines Cmnd (flat_map (members_in_host_group Cmnd) groups) all))
 
   -- What the line mentions with its aliases replaced.
-  pub node_met : (k : Kind) (n : Node) → AllByRecursion (IsReachable k lines) (root_names_in_node k n) → AllByRecursion (IsReachable k lines) (root_names_in_node k (expanded_node lines n))
+  pub node_met : (k : Kind) (n : Node) → AllByRecursion (IsReachedFromSpecOrDefaults k lines) (root_names_in_node k n) → AllByRecursion (IsReachedFromSpecOrDefaults k lines) (root_names_in_node k (expanded_node lines n))
   node_met k (node.Defaults scope params) all =
       names_met lines k (members_in_scope k (option_map (expanded_scope lines) scope)) (scope_met k scope (met_names lines k (members_in_scope k scope) all))
   node_met k (node.Spec users groups) all = spec_met k users groups all

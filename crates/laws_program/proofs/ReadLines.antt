@@ -1,8 +1,8 @@
 -- The printed text of the rules of a policy is a policy.
 use Rattle.laws_program.proofs.Common.{◌≡◌, ℕ, ◌≤◌, ◌&&◌, true, nat_le, List, [], ◌∷◌, ◌++◌, length, map, Result, Ok, refl, sym, ap, subst, ◌∙◌, arith}
 use Rattle.laws_program.proofs.Common.{AllByRecursion, list_all, join, Nul, text_limit, line_limit, Kind, Node, Line, ReadFault, PlacedDefinition, definitions_of_lines}
-use Rattle.laws_program.proofs.Common.{alias_limit, texts_of_lines, definition_count_of_kind, IsCorrectlyParsed, HasUnreservedName, HaveDistinctNames, AreWalkLinesWithoutNul, IsPolicy, policy_lines_of_text, IsReadOutcome, printed_line, printed_lines}
-use Rattle.laws_program.proofs.Common.{IsWritableNode, AreItemsPairwiseRelated, IsNodeSameButPlace, rules_of_policy_lines, rule_nodes_in_print_order, printed_rules, is_printed_within_limits, nodes_of_lines, IsTextReadAsSameNodes}
+use Rattle.laws_program.proofs.Common.{alias_limit_of_each_kind, texts_of_lines, definition_count_of_kind, IsCorrectlyParsed, HasUnreservedName, HaveDistinctNames, AreWalkLinesWithoutNul, AreLinesOfSingleTextPolicy, policy_lines_of_text, IsPolicyOrFirstFaultOfText, printed_line, printed_lines}
+use Rattle.laws_program.proofs.Common.{IsWritableNode, AreItemsPairwiseRelated, NodeIsReadBackAs, rules_of_policy_lines, rule_nodes_in_print_order, printed_rules, is_printed_within_limits, nodes_of_lines, IsTextReadAsSameNodes}
 use Rattle.std.proofs.Common.{◌<◌}
 use Rattle.std.proofs.lemmas.Bool.{and_parts, leb-true}
 use Rattle.sudoers_text.specs.Line.{AreLinesOfText, IsUnfinishedLine}
@@ -27,10 +27,10 @@ PrintedLinesAreCutEach = (ns : List Node) → AllByRecursion IsWritableNode ns �
 
 -- what the laws of policies say
 abbrev pub TextHasItsReadOutcome : Type 0
-TextHasItsReadOutcome = (text : List ℕ) → IsReadOutcome text (policy_lines_of_text text)
+TextHasItsReadOutcome = (text : List ℕ) → IsPolicyOrFirstFaultOfText text (policy_lines_of_text text)
 
 abbrev pub ReadOutcomeIsUnique : Type 0
-ReadOutcomeIsUnique = (text : List ℕ) (outcome other : Result (List Line) ReadFault) → IsReadOutcome text outcome → IsReadOutcome text other → outcome ≡ other
+ReadOutcomeIsUnique = (text : List ℕ) (outcome other : Result (List Line) ReadFault) → IsPolicyOrFirstFaultOfText text outcome → IsPolicyOrFirstFaultOfText text other → outcome ≡ other
 
 -- ---- the cut
 
@@ -71,7 +71,7 @@ record HasLinesReadOfPrintedNodes (ns : List Node) : Type 0 where
   read : List Line
   texts_are : texts_of_lines read ≡ map printed_line ns
   says : AllByRecursion IsCorrectlyParsed read
-  same : AreItemsPairwiseRelated IsNodeSameButPlace ns (nodes_of_lines read)
+  same : AreItemsPairwiseRelated NodeIsReadBackAs ns (nodes_of_lines read)
 
 printed_nodes_have_lines_read_of_them : PrintedLineReadsBack → (ns : List Node) → AllByRecursion IsWritableNode ns → HasLinesReadOfPrintedNodes ns
 printed_nodes_have_lines_read_of_them law [] all = record { read = []; texts_are = refl; says = tt; same = tt }
@@ -91,12 +91,12 @@ printed_nodes_have_lines_read_of_them law (n ∷ ns) all =
 pub record CanDefinitionsFormPolicy (ds : List PlacedDefinition) : Type 0 where
   pub free : AllByRecursion HasUnreservedName ds
   pub once : HaveDistinctNames ds
-  pub few : (k : Kind) → definition_count_of_kind k ds ≤ alias_limit
+  pub few : (k : Kind) → definition_count_of_kind k ds ≤ alias_limit_of_each_kind
 
-lines_read_of_print_are_policy : (lines read : List Line) (ns : List Node) → CanDefinitionsFormPolicy (definitions_of_lines lines) → ns ≡ rule_nodes_in_print_order (rules_of_policy_lines lines) → IsFaultlessCut (printed_lines ns) (map printed_line ns) → texts_of_lines read ≡ map printed_line ns → AllByRecursion IsCorrectlyParsed read → AreItemsPairwiseRelated IsNodeSameButPlace ns (nodes_of_lines read) → IsPolicy read
+lines_read_of_print_are_policy : (lines read : List Line) (ns : List Node) → CanDefinitionsFormPolicy (definitions_of_lines lines) → ns ≡ rule_nodes_in_print_order (rules_of_policy_lines lines) → IsFaultlessCut (printed_lines ns) (map printed_line ns) → texts_of_lines read ≡ map printed_line ns → AllByRecursion IsCorrectlyParsed read → AreItemsPairwiseRelated NodeIsReadBackAs ns (nodes_of_lines read) → AreLinesOfSingleTextPolicy read
 lines_read_of_print_are_policy lines read ns is e cut texts_are says same =
     let keys : kinds_and_names_of_definitions (definitions_of_lines lines) ≡ kinds_and_names_of_definitions (definitions_of_lines read) =
-    definitions_same_but_place_have_same_keys (definitions_of_lines lines) (definitions_of_lines read) (printed_rules_keep_definitions lines read (subst (λ (ms : List Node). AreItemsPairwiseRelated IsNodeSameButPlace ms (nodes_of_lines read)) e same)) in
+    definitions_same_but_place_have_same_keys (definitions_of_lines lines) (definitions_of_lines read) (printed_rules_keep_definitions lines read (subst (λ (ms : List Node). AreItemsPairwiseRelated NodeIsReadBackAs ms (nodes_of_lines read)) e same)) in
     record {
       cut = subst (λ (ts : List (List ℕ)). IsFaultlessCut (join ts) ts) (sym texts_are) (subst (λ (t : List ℕ). IsFaultlessCut t (map printed_line ns)) (sym cut.cuts.joined) cut);
       walk =
@@ -104,7 +104,7 @@ lines_read_of_print_are_policy lines read ns is e cut texts_are says same =
             says = says;
             free = same_keys_keep_unreserved_names (definitions_of_lines lines) (definitions_of_lines read) keys is.free;
             once = same_keys_keep_names_distinct (definitions_of_lines lines) (definitions_of_lines read) keys is.once;
-            few = λ k. subst (λ n. n ≤ alias_limit) (same_keys_have_same_definition_count k (definitions_of_lines lines) (definitions_of_lines read) keys) (is.few k);
+            few = λ k. subst (λ n. n ≤ alias_limit_of_each_kind) (same_keys_have_same_definition_count k (definitions_of_lines lines) (definitions_of_lines read) keys) (is.few k);
           };
     }
 

@@ -3,7 +3,7 @@ use Rattle.laws_program.proofs.Common.{◌≡◌, ℕ, zero, suc, ◌+◌, Bool,
 use Rattle.laws_program.proofs.Common.{flat_map, Kind, User, Runas, Host, Cmnd, Atom, Member, Def, RunasSpec, CmdSpec, HostGroup, Scope, Node, Line, PlacedDefinition}
 use Rattle.laws_program.proofs.Common.{definitions_from_place, definitions_in_line, definitions_from_line_number, definitions_of_lines, AreWalkLinesWithoutNul, alias_members_of_atom, member_under_negation, member_or_alias_members}
 use Rattle.laws_program.proofs.Common.{list_with_aliases_expanded_once, list_expanded_n_times, fully_expanded_list, all_append, IsNonEmptyListOf, IsWritableMemberOfKind, IsWritableDefinition, IsWritableRunasSpec, IsWritableOption}
-use Rattle.laws_program.proofs.Common.{IsWritableCommand, IsWritableHostGroup, IsReadableNode, expanded_runas_spec, command_with_member, expanded_command, expanded_host_group, expanded_scope_list, expanded_scope}
+use Rattle.laws_program.proofs.Common.{IsWritableCommand, IsWritableHostGroup, IsReadableNode, expanded_runas_spec, command_with_runas_and_member, commands_of_expanded_command, expanded_host_group, expanded_scope_list, expanded_scope}
 use Rattle.laws_program.proofs.Common.{expanded_node, lines_with_aliases_replaced}
 use Rattle.std.specs.Option.{option_map}
 use Rattle.sudoers_grammar.specs.Node as node
@@ -84,26 +84,26 @@ module _ (sign : ChangedSignKeepsWritable) (lines : List Line) (policy : AreWalk
   runas_may (Some r) is = (list_may Runas r.users is.0, list_may Runas r.groups is.1)
 
   members_may : (r : Option RunasSpec) (c : CmdSpec) (ms : List Member) → IsWritableRunasSpec r → AllByRecursion IsWritableOption c.options → AllByRecursion (IsWritableMemberOfKind Cmnd) ms
-      → AllByRecursion IsWritableCommand (map (command_with_member r c) ms)
+      → AllByRecursion IsWritableCommand (map (command_with_runas_and_member r c) ms)
   members_may r c [] runas options all = tt
   members_may r c (m ∷ ms) runas options all = (record { runas = runas; options = options; member = all.0 }, members_may r c ms runas options all.1)
 
-  command_may : (c : CmdSpec) → IsWritableCommand c → AllByRecursion IsWritableCommand (expanded_command lines c)
+  command_may : (c : CmdSpec) → IsWritableCommand c → AllByRecursion IsWritableCommand (commands_of_expanded_command lines c)
   command_may c is =
       members_may (option_map (expanded_runas_spec lines) c.runas) c (fully_expanded_list Cmnd lines (c.member ∷ [])) (runas_may c.runas is.runas) is.options
       (list_may Cmnd (c.member ∷ []) (is.member, tt))
 
-  each_command : (cs : List CmdSpec) → AllByRecursion IsWritableCommand cs → AllByRecursion IsWritableCommand (flat_map (expanded_command lines) cs)
+  each_command : (cs : List CmdSpec) → AllByRecursion IsWritableCommand cs → AllByRecursion IsWritableCommand (flat_map (commands_of_expanded_command lines) cs)
   each_command [] all = tt
-  each_command (c ∷ cs) all = all_append IsWritableCommand (expanded_command lines c) (flat_map (expanded_command lines) cs) (command_may c all.0) (each_command cs all.1)
+  each_command (c ∷ cs) all = all_append IsWritableCommand (commands_of_expanded_command lines c) (flat_map (commands_of_expanded_command lines) cs) (command_may c all.0) (each_command cs all.1)
 
-  commands_may : (cs : List CmdSpec) → IsNonEmptyListOf IsWritableCommand cs → IsNonEmptyListOf IsWritableCommand (flat_map (expanded_command lines) cs)
+  commands_may : (cs : List CmdSpec) → IsNonEmptyListOf IsWritableCommand cs → IsNonEmptyListOf IsWritableCommand (flat_map (commands_of_expanded_command lines) cs)
   commands_may [] all = absurd all
   commands_may (c ∷ cs) all =
       let some = still_some lines policy Cmnd c.member [] in
       let r = option_map (expanded_runas_spec lines) c.runas in
-      list_with_head_is_nonempty_list_of IsWritableCommand (flat_map (expanded_command lines) (c ∷ cs)) (command_with_member r c some.0) (map (command_with_member r c) some.1 ++ flat_map (expanded_command lines) cs)
-      (ap (λ ms. map (command_with_member r c) ms ++ flat_map (expanded_command lines) cs) some.2) (each_command (c ∷ cs) all)
+      list_with_head_is_nonempty_list_of IsWritableCommand (flat_map (commands_of_expanded_command lines) (c ∷ cs)) (command_with_runas_and_member r c some.0) (map (command_with_runas_and_member r c) some.1 ++ flat_map (commands_of_expanded_command lines) cs)
+      (ap (λ ms. map (command_with_runas_and_member r c) ms ++ flat_map (commands_of_expanded_command lines) cs) some.2) (each_command (c ∷ cs) all)
 
   groups_each : (gs : List HostGroup) → AllByRecursion IsWritableHostGroup gs → AllByRecursion IsWritableHostGroup (map (expanded_host_group lines) gs)
   groups_each [] all = tt

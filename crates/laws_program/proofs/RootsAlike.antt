@@ -2,12 +2,12 @@
 use Rattle.laws_program.proofs.Common.{◌≡◌, ◌⊎◌, inl, inr, ◌↔◌, ℕ, Bool, true, false, List, [], ◌∷◌, ◌++◌, Option, Some, None, map, refl, sym, ap, ap₂, subst}
 use Rattle.laws_program.proofs.Common.{◌∙◌, if◌then◌else◌, flat_map, option_or, flat_map-append, Kind, User, Runas, Host, Cmnd, CmdSpec, HostGroup, Member}
 use Rattle.laws_program.proofs.Common.{RunasSpec, Scope, Node, Line, is_equal_kind, members_of_runas, members_in_host_group, members_in_scope, ListHasElement, alias_names_of_atom, alias_names_among_members, root_names_in_node, root_alias_names}
-use Rattle.laws_program.proofs.Common.{IsMemberSameButPlace, AreItemsPairwiseRelated, IsRunasSameButPlace, IsCommandSameButPlace, IsHostGroupSameButPlace, IsScopeSameButPlace, IsNodeSameButPlace, SettingsOfCommand, empty_command_settings, settings_after_command}
-use Rattle.laws_program.proofs.Common.{effective_command, effective_host_group, effective_spec_nodes_in, one_definition_nodes_in, rules_of_policy_lines, rule_nodes_in_print_order, nodes_of_lines}
+use Rattle.laws_program.proofs.Common.{MemberIsReadBackAs, AreItemsPairwiseRelated, RunasIsReadBackAs, CommandIsReadBackAs, HostGroupIsReadBackAs, ScopeIsReadBackAs, NodeIsReadBackAs, AccumulatedCommandSettings, empty_command_settings, settings_after_command}
+use Rattle.laws_program.proofs.Common.{effective_command, effective_host_group, effective_spec_nodes_of_line_node, one_definition_nodes_of_line_node, rules_of_policy_lines, rule_nodes_in_print_order, nodes_of_lines}
 use Rattle.sudoers_grammar.specs.Node as node
 use Rattle.sudoers_tree.specs.Mention.{members_in_user_spec}
 use Rattle.sudoers_match.specs.Heads.{commands_with_settings}
-use Rattle.sudoers_cvt_rules.specs.Rules.{defaults_line_nodes_in}
+use Rattle.sudoers_cvt_rules.specs.Rules.{defaults_nodes_of_line_node}
 use Rattle.laws_program.proofs.Parts.{made_each, no_defs, nothing, three}
 use Rattle.laws_program.proofs.ReadBack.{property_alike_for_hosts_survives_read_back}
 
@@ -44,24 +44,24 @@ name_among_right_members_is_in_appended ms ns x h = subst (λ xs. ListHasElement
 
 -- ---- lists that are read as the same
 
-pub same_members_have_same_alias_names : (ms ns : List Member) → AreItemsPairwiseRelated IsMemberSameButPlace ms ns → alias_names_among_members ns ≡ alias_names_among_members ms
+pub same_members_have_same_alias_names : (ms ns : List Member) → AreItemsPairwiseRelated MemberIsReadBackAs ms ns → alias_names_among_members ns ≡ alias_names_among_members ms
 same_members_have_same_alias_names [] [] same = refl
 same_members_have_same_alias_names (m ∷ ms) (n ∷ ns) same =
     ap₂ (λ (x y : List AliasName). x ++ y) (sym (ap alias_names_of_atom same.0.atom) ∙ property_alike_for_hosts_survives_read_back alias_names_of_atom (λ p q. refl) m.atom) (same_members_have_same_alias_names ms ns same.1)
 same_members_have_same_alias_names ms ns same = absurd same
 
-same_members_appended_are_same : (ms ns : List Member) (more rest : List Member) → AreItemsPairwiseRelated IsMemberSameButPlace ms ns → AreItemsPairwiseRelated IsMemberSameButPlace more rest → AreItemsPairwiseRelated IsMemberSameButPlace (ms ++ more) (ns ++ rest)
+same_members_appended_are_same : (ms ns : List Member) (more rest : List Member) → AreItemsPairwiseRelated MemberIsReadBackAs ms ns → AreItemsPairwiseRelated MemberIsReadBackAs more rest → AreItemsPairwiseRelated MemberIsReadBackAs (ms ++ more) (ns ++ rest)
 same_members_appended_are_same [] [] more rest same also = also
 same_members_appended_are_same (m ∷ ms) (n ∷ ns) more rest same also = (same.0, same_members_appended_are_same ms ns more rest same.1 also)
 same_members_appended_are_same ms ns more rest same also = absurd same
 
-same_runas_specs_have_same_members : (r s : Option RunasSpec) → IsRunasSameButPlace r s → AreItemsPairwiseRelated IsMemberSameButPlace (members_of_runas r) (members_of_runas s)
+same_runas_specs_have_same_members : (r s : Option RunasSpec) → RunasIsReadBackAs r s → AreItemsPairwiseRelated MemberIsReadBackAs (members_of_runas r) (members_of_runas s)
 same_runas_specs_have_same_members None None same = tt
 same_runas_specs_have_same_members (Some r) (Some s) same = same_members_appended_are_same r.users s.users r.groups s.groups same.0 same.1
 same_runas_specs_have_same_members r s same = absurd same
 
-same_commands_give_group_same_members : (k : Kind) (g h : HostGroup) → AreItemsPairwiseRelated IsMemberSameButPlace g.hosts h.hosts → (cs ds : List CmdSpec) → AreItemsPairwiseRelated IsCommandSameButPlace cs ds
-    → AreItemsPairwiseRelated IsMemberSameButPlace (members_in_host_group k (record { hosts = g.hosts; commands = cs })) (members_in_host_group k (record { hosts = h.hosts; commands = ds }))
+same_commands_give_group_same_members : (k : Kind) (g h : HostGroup) → AreItemsPairwiseRelated MemberIsReadBackAs g.hosts h.hosts → (cs ds : List CmdSpec) → AreItemsPairwiseRelated CommandIsReadBackAs cs ds
+    → AreItemsPairwiseRelated MemberIsReadBackAs (members_in_host_group k (record { hosts = g.hosts; commands = cs })) (members_in_host_group k (record { hosts = h.hosts; commands = ds }))
 same_commands_give_group_same_members User g h hosts cs ds same = tt
 same_commands_give_group_same_members Host g h hosts cs ds same = hosts
 same_commands_give_group_same_members Runas g h hosts [] [] same = tt
@@ -72,21 +72,21 @@ same_commands_give_group_same_members Cmnd g h hosts [] [] same = tt
 same_commands_give_group_same_members Cmnd g h hosts (c ∷ cs) (d ∷ ds) same = (same.0.member, same_commands_give_group_same_members Cmnd g h hosts cs ds same.1)
 same_commands_give_group_same_members k g h hosts cs ds same = absurd same
 
-same_host_groups_have_same_members : (k : Kind) (gs hs : List HostGroup) → AreItemsPairwiseRelated IsHostGroupSameButPlace gs hs → AreItemsPairwiseRelated IsMemberSameButPlace (flat_map (members_in_host_group k) gs) (flat_map (members_in_host_group k) hs)
+same_host_groups_have_same_members : (k : Kind) (gs hs : List HostGroup) → AreItemsPairwiseRelated HostGroupIsReadBackAs gs hs → AreItemsPairwiseRelated MemberIsReadBackAs (flat_map (members_in_host_group k) gs) (flat_map (members_in_host_group k) hs)
 same_host_groups_have_same_members k [] [] same = tt
 same_host_groups_have_same_members k (g ∷ gs) (h ∷ hs) same =
     same_members_appended_are_same (members_in_host_group k g) (members_in_host_group k h) (flat_map (members_in_host_group k) gs) (flat_map (members_in_host_group k) hs)
     (same_commands_give_group_same_members k g h same.0.hosts g.commands h.commands same.0.commands) (same_host_groups_have_same_members k gs hs same.1)
 same_host_groups_have_same_members k gs hs same = absurd same
 
-same_user_specs_have_same_members : (k : Kind) (users others : List Member) (gs hs : List HostGroup) → AreItemsPairwiseRelated IsMemberSameButPlace users others → AreItemsPairwiseRelated IsHostGroupSameButPlace gs hs
-    → AreItemsPairwiseRelated IsMemberSameButPlace (members_in_user_spec k users gs) (members_in_user_spec k others hs)
+same_user_specs_have_same_members : (k : Kind) (users others : List Member) (gs hs : List HostGroup) → AreItemsPairwiseRelated MemberIsReadBackAs users others → AreItemsPairwiseRelated HostGroupIsReadBackAs gs hs
+    → AreItemsPairwiseRelated MemberIsReadBackAs (members_in_user_spec k users gs) (members_in_user_spec k others hs)
 same_user_specs_have_same_members User users others gs hs us same = us
 same_user_specs_have_same_members Runas users others gs hs us same = same_host_groups_have_same_members Runas gs hs same
 same_user_specs_have_same_members Host users others gs hs us same = same_host_groups_have_same_members Host gs hs same
 same_user_specs_have_same_members Cmnd users others gs hs us same = same_host_groups_have_same_members Cmnd gs hs same
 
-same_scopes_have_same_alias_names : (k : Kind) (s t : Option Scope) → IsScopeSameButPlace s t → alias_names_among_members (members_in_scope k t) ≡ alias_names_among_members (members_in_scope k s)
+same_scopes_have_same_alias_names : (k : Kind) (s t : Option Scope) → ScopeIsReadBackAs s t → alias_names_among_members (members_in_scope k t) ≡ alias_names_among_members (members_in_scope k s)
 same_scopes_have_same_alias_names k None None same = refl
 same_scopes_have_same_alias_names k (Some s) (Some t) same =
     ap (λ (j : Kind). alias_names_among_members (if is_equal_kind k j then t.members else [])) (sym same.0) ∙ by (is_equal_kind k s.kind)
@@ -96,14 +96,14 @@ same_scopes_have_same_alias_names k (Some s) (Some t) same =
     by false = refl
 same_scopes_have_same_alias_names k s t same = absurd same
 
-same_nodes_have_same_root_names : (k : Kind) (n m : Node) → IsNodeSameButPlace n m → root_names_in_node k m ≡ root_names_in_node k n
+same_nodes_have_same_root_names : (k : Kind) (n m : Node) → NodeIsReadBackAs n m → root_names_in_node k m ≡ root_names_in_node k n
 same_nodes_have_same_root_names k (node.Defaults s params) (node.Defaults t others) same = same_scopes_have_same_alias_names k s t same.0
 same_nodes_have_same_root_names k (node.Alias j ds) (node.Alias i es) same = refl
 same_nodes_have_same_root_names k (node.Spec users groups) (node.Spec others places) same =
     same_members_have_same_alias_names (members_in_user_spec k users groups) (members_in_user_spec k others places) (same_user_specs_have_same_members k users others groups places same.0 same.1)
 same_nodes_have_same_root_names k n m same = absurd same
 
-same_node_lists_have_same_root_names : (k : Kind) (ns ms : List Node) → AreItemsPairwiseRelated IsNodeSameButPlace ns ms → flat_map (root_names_in_node k) ms ≡ flat_map (root_names_in_node k) ns
+same_node_lists_have_same_root_names : (k : Kind) (ns ms : List Node) → AreItemsPairwiseRelated NodeIsReadBackAs ns ms → flat_map (root_names_in_node k) ms ≡ flat_map (root_names_in_node k) ns
 same_node_lists_have_same_root_names k [] [] same = refl
 same_node_lists_have_same_root_names k (n ∷ ns) (m ∷ ms) same = ap₂ (λ (x y : List AliasName). x ++ y) (same_nodes_have_same_root_names k n m same.0) (same_node_lists_have_same_root_names k ns ms same.1)
 same_node_lists_have_same_root_names k ns ms same = absurd same
@@ -122,14 +122,14 @@ inherited_runas_names_are_own_or_before (Some r) before x h = inr h
 abbrev pub runas_members_of_commands : List CmdSpec → List Member
 runas_members_of_commands cs = flat_map (λ (c : CmdSpec). members_of_runas c.runas) cs
 
-runas_names_stay_in_effective_commands : (h : SettingsOfCommand) (cs : List CmdSpec) (x : AliasName) → ListHasElement (alias_names_among_members (runas_members_of_commands cs)) x → ListHasElement (alias_names_among_members (runas_members_of_commands (map effective_command (commands_with_settings h cs)))) x
+runas_names_stay_in_effective_commands : (h : AccumulatedCommandSettings) (cs : List CmdSpec) (x : AliasName) → ListHasElement (alias_names_among_members (runas_members_of_commands cs)) x → ListHasElement (alias_names_among_members (runas_members_of_commands (map effective_command (commands_with_settings h cs)))) x
 runas_names_stay_in_effective_commands h [] x has = absurd has
 runas_names_stay_in_effective_commands h (c ∷ cs) x has = elim (name_among_appended_members_is_in_either (members_of_runas c.runas) (runas_members_of_commands cs) x has) [
   | inl first ↦ name_among_left_members_is_in_appended (members_of_runas (option_or c.runas h.runas)) (runas_members_of_commands (map effective_command (commands_with_settings (settings_after_command h c) cs))) x (own_runas_names_are_in_inherited_runas c.runas h.runas x first)
   | inr rest ↦ name_among_right_members_is_in_appended (members_of_runas (option_or c.runas h.runas)) (runas_members_of_commands (map effective_command (commands_with_settings (settings_after_command h c) cs))) x (runas_names_stay_in_effective_commands (settings_after_command h c) cs x rest)
 ]
 
-effective_runas_names_are_inherited_or_own : (h : SettingsOfCommand) (cs : List CmdSpec) (x : AliasName) → ListHasElement (alias_names_among_members (runas_members_of_commands (map effective_command (commands_with_settings h cs)))) x
+effective_runas_names_are_inherited_or_own : (h : AccumulatedCommandSettings) (cs : List CmdSpec) (x : AliasName) → ListHasElement (alias_names_among_members (runas_members_of_commands (map effective_command (commands_with_settings h cs)))) x
     → ListHasElement (alias_names_among_members (members_of_runas h.runas)) x ⊎ ListHasElement (alias_names_among_members (runas_members_of_commands cs)) x
 effective_runas_names_are_inherited_or_own h [] x has = absurd has
 effective_runas_names_are_inherited_or_own h (c ∷ cs) x has = elim (name_among_appended_members_is_in_either (members_of_runas (option_or c.runas h.runas)) (runas_members_of_commands (map effective_command (commands_with_settings (settings_after_command h c) cs))) x has) [
@@ -144,7 +144,7 @@ effective_runas_names_are_inherited_or_own h (c ∷ cs) x has = elim (name_among
     first_of (inl before) = inl before
     first_of (inr own) = inr (name_among_left_members_is_in_appended (members_of_runas c.runas) (runas_members_of_commands cs) x own)
 
-effective_commands_keep_members : (h : SettingsOfCommand) (cs : List CmdSpec) → map (λ (c : CmdSpec). c.member) (map effective_command (commands_with_settings h cs)) ≡ map (λ (c : CmdSpec). c.member) cs
+effective_commands_keep_members : (h : AccumulatedCommandSettings) (cs : List CmdSpec) → map (λ (c : CmdSpec). c.member) (map effective_command (commands_with_settings h cs)) ≡ map (λ (c : CmdSpec). c.member) cs
 effective_commands_keep_members h [] = refl
 effective_commands_keep_members h (c ∷ cs) = ap (λ ms. c.member ∷ ms) (effective_commands_keep_members (settings_after_command h c) cs)
 
@@ -183,10 +183,10 @@ effective_spec_has_same_root_names Cmnd users gs x = (effective_groups_keep_alia
 -- ---- all lines
 
 abbrev root_names_of_defaults_in_node : Kind → Node → List AliasName
-root_names_of_defaults_in_node k n = flat_map (root_names_in_node k) (defaults_line_nodes_in n)
+root_names_of_defaults_in_node k n = flat_map (root_names_in_node k) (defaults_nodes_of_line_node n)
 
 abbrev root_names_of_specs_in_node : Kind → Node → List AliasName
-root_names_of_specs_in_node k n = flat_map (root_names_in_node k) (effective_spec_nodes_in n)
+root_names_of_specs_in_node k n = flat_map (root_names_in_node k) (effective_spec_nodes_of_line_node n)
 
 root_name_in_node_is_in_part : (k : Kind) (n : Node) (x : AliasName) → ListHasElement (root_names_in_node k n) x → ListHasElement (root_names_of_defaults_in_node k n) x ⊎ ListHasElement (root_names_of_specs_in_node k n) x
 root_name_in_node_is_in_part k (node.Defaults scope params) x h = inl (left_list_element_is_in_appended (root_names_in_node k (node.Defaults scope params)) [] x h)
@@ -226,8 +226,8 @@ root_names_of_rules_are_in_parts : (k : Kind) (lines : List Line) → flat_map (
     ≡ (flat_map (root_names_of_defaults_in_node k) (nodes_of_lines lines) ++ []) ++ flat_map (root_names_of_specs_in_node k) (nodes_of_lines lines)
 root_names_of_rules_are_in_parts k lines =
     three (root_names_in_node k) lines
-    ∙ ap₂ (λ (x y : List AliasName). (x ++ y) ++ flat_map (root_names_in_node k) (rules_of_policy_lines lines).specs) (made_each (root_names_in_node k) defaults_line_nodes_in (root_names_of_defaults_in_node k) (λ n. refl) lines) (nothing (root_names_in_node k) one_definition_nodes_in (no_defs (root_names_in_node k) (λ j d. refl)) lines)
-    ∙ ap (λ (y : List AliasName). (flat_map (root_names_of_defaults_in_node k) (nodes_of_lines lines) ++ []) ++ y) (made_each (root_names_in_node k) effective_spec_nodes_in (root_names_of_specs_in_node k) (λ n. refl) lines)
+    ∙ ap₂ (λ (x y : List AliasName). (x ++ y) ++ flat_map (root_names_in_node k) (rules_of_policy_lines lines).specs) (made_each (root_names_in_node k) defaults_nodes_of_line_node (root_names_of_defaults_in_node k) (λ n. refl) lines) (nothing (root_names_in_node k) one_definition_nodes_of_line_node (no_defs (root_names_in_node k) (λ j d. refl)) lines)
+    ∙ ap (λ (y : List AliasName). (flat_map (root_names_of_defaults_in_node k) (nodes_of_lines lines) ++ []) ++ y) (made_each (root_names_in_node k) effective_spec_nodes_of_line_node (root_names_of_specs_in_node k) (λ n. refl) lines)
 
 rules_have_same_root_names_as_lines : (k : Kind) (lines : List Line) (x : AliasName) → ListHasElement (flat_map (root_names_in_node k) (nodes_of_lines lines)) x ↔ ListHasElement (flat_map (root_names_in_node k) (rule_nodes_in_print_order (rules_of_policy_lines lines))) x
 rules_have_same_root_names_as_lines k lines x = (there, back)
@@ -252,7 +252,7 @@ root_alias_names_are_those_of_nodes k lines = by lines
     by (line ∷ ls) = ap (λ rest. root_names_in_node k line.node ++ rest) (by ls)
 
 -- What is read mentions the names that the policy mentions.
-pub printed_rules_keep_root_alias_names : (lines read : List Line) → AreItemsPairwiseRelated IsNodeSameButPlace (rule_nodes_in_print_order (rules_of_policy_lines lines)) (nodes_of_lines read) → (k : Kind) (x : AliasName) → ListHasElement (root_alias_names k lines) x ↔ ListHasElement (root_alias_names k read) x
+pub printed_rules_keep_root_alias_names : (lines read : List Line) → AreItemsPairwiseRelated NodeIsReadBackAs (rule_nodes_in_print_order (rules_of_policy_lines lines)) (nodes_of_lines read) → (k : Kind) (x : AliasName) → ListHasElement (root_alias_names k lines) x ↔ ListHasElement (root_alias_names k read) x
 printed_rules_keep_root_alias_names lines read same k x = (there, back)
   where
     names : flat_map (root_names_in_node k) (nodes_of_lines read) ≡ flat_map (root_names_in_node k) (rule_nodes_in_print_order (rules_of_policy_lines lines))

@@ -1,6 +1,6 @@
 -- Printed rules have a reachable cycle if the policy has one, and only then.
-use Rattle.laws_program.proofs.Common.{◌≡◌, inl, inr, ◌↔◌, ℕ, List, [], ◌∷◌, refl, sym, subst, ◌∙◌, Kind, Line, PlacedDefinition, definitions_of_lines, ListHasElement, IsReachedBySteps, here}
-use Rattle.laws_program.proofs.Common.{onward, alias_names_among_members, DefinitionMentionsName, root_alias_names, HasReachableCycle, AreItemsPairwiseRelated, IsNodeSameButPlace, IsPointwiseRelated, rules_of_policy_lines, rule_nodes_in_print_order, nodes_of_lines}
+use Rattle.laws_program.proofs.Common.{◌≡◌, inl, inr, ◌↔◌, ℕ, List, [], ◌∷◌, refl, sym, subst, ◌∙◌, Kind, Line, PlacedDefinition, definitions_of_lines, ListHasElement, IsReachedByChainOfSteps, here}
+use Rattle.laws_program.proofs.Common.{onward, alias_names_among_members, DefinitionMentionsName, root_alias_names, HasCyclicAliasReachedFromSpecOrDefaults, AreItemsPairwiseRelated, NodeIsReadBackAs, IsPointwiseRelated, rules_of_policy_lines, rule_nodes_in_print_order, nodes_of_lines}
 use Rattle.laws_program.proofs.Aliases.{IsKindAndDefinitionSameButPlace, kinds_and_definitions_of_placed, printed_rules_keep_definitions}
 use Rattle.laws_program.proofs.RootsAlike.{same_members_have_same_alias_names, printed_rules_keep_root_alias_names}
 
@@ -34,11 +34,11 @@ module _ (lines others : List Line) (all : IsPointwiseRelated DefinitionsMention
       let e = definition_has_counterpart_of_same_mentions (definitions_of_lines lines) (definitions_of_lines others) all j.by j.stands in
       record { by = e.0; stands = e.1; of_kind = e.2.kind ∙ j.of_kind; of_name = e.2.name ∙ j.of_name; mentions = subst (λ ns. ListHasElement ns y) (sym e.2.names) j.mentions }
 
-  chain_there : (k : Kind) (P Q : List ℕ → Type 0) → ((x : List ℕ) → P x → Q x) → (x : List ℕ) → IsReachedBySteps (DefinitionMentionsName k (definitions_of_lines lines)) P x → IsReachedBySteps (DefinitionMentionsName k (definitions_of_lines others)) Q x
+  chain_there : (k : Kind) (P Q : List ℕ → Type 0) → ((x : List ℕ) → P x → Q x) → (x : List ℕ) → IsReachedByChainOfSteps (DefinitionMentionsName k (definitions_of_lines lines)) P x → IsReachedByChainOfSteps (DefinitionMentionsName k (definitions_of_lines others)) Q x
   chain_there k P Q to x (here y p) = here y (to y p)
   chain_there k P Q to x (onward y z c j) = onward y z (chain_there k P Q to y c) (joins_there k y z j)
 
-  cycle_there : HasReachableCycle lines → HasReachableCycle others
+  cycle_there : HasCyclicAliasReachedFromSpecOrDefaults lines → HasCyclicAliasReachedFromSpecOrDefaults others
   cycle_there h =
       let e = definition_has_counterpart_of_same_mentions (definitions_of_lines lines) (definitions_of_lines others) all h.alias h.stands in
       let k = h.alias.kind in
@@ -48,13 +48,13 @@ module _ (lines others : List Line) (all : IsPointwiseRelated DefinitionsMention
       record {
         alias = e.0;
         stands = e.1;
-        reached = subst (λ (j : Kind). IsReachedBySteps (DefinitionMentionsName j (definitions_of_lines others)) (ListHasElement (root_alias_names j others)) e.0.def.name) (sym e.2.kind)
-            (subst (λ n. IsReachedBySteps (DefinitionMentionsName k (definitions_of_lines others)) (ListHasElement (root_alias_names k others)) n) (sym e.2.name) reached);
-        cyclic = subst (λ (j : Kind). IsReachedBySteps (DefinitionMentionsName j (definitions_of_lines others)) (ListHasElement (alias_names_among_members e.0.def.members)) e.0.def.name) (sym e.2.kind)
-            (subst (λ n. IsReachedBySteps (DefinitionMentionsName k (definitions_of_lines others)) (ListHasElement (alias_names_among_members e.0.def.members)) n) (sym e.2.name) cyclic);
+        reached = subst (λ (j : Kind). IsReachedByChainOfSteps (DefinitionMentionsName j (definitions_of_lines others)) (ListHasElement (root_alias_names j others)) e.0.def.name) (sym e.2.kind)
+            (subst (λ n. IsReachedByChainOfSteps (DefinitionMentionsName k (definitions_of_lines others)) (ListHasElement (root_alias_names k others)) n) (sym e.2.name) reached);
+        cyclic = subst (λ (j : Kind). IsReachedByChainOfSteps (DefinitionMentionsName j (definitions_of_lines others)) (ListHasElement (alias_names_among_members e.0.def.members)) e.0.def.name) (sym e.2.kind)
+            (subst (λ n. IsReachedByChainOfSteps (DefinitionMentionsName k (definitions_of_lines others)) (ListHasElement (alias_names_among_members e.0.def.members)) n) (sym e.2.name) cyclic);
       }
 
-pub printed_rules_keep_reachable_cycle : (lines read : List Line) → AreItemsPairwiseRelated IsNodeSameButPlace (rule_nodes_in_print_order (rules_of_policy_lines lines)) (nodes_of_lines read) → HasReachableCycle lines ↔ HasReachableCycle read
+pub printed_rules_keep_reachable_cycle : (lines read : List Line) → AreItemsPairwiseRelated NodeIsReadBackAs (rule_nodes_in_print_order (rules_of_policy_lines lines)) (nodes_of_lines read) → HasCyclicAliasReachedFromSpecOrDefaults lines ↔ HasCyclicAliasReachedFromSpecOrDefaults read
 printed_rules_keep_reachable_cycle lines read same = (
   cycle_there lines read (same_definitions_mention_same_names (definitions_of_lines lines) (definitions_of_lines read) (printed_rules_keep_definitions lines read same)) (λ k x. (printed_rules_keep_root_alias_names lines read same k x).0),
   cycle_there read lines (mention_relation_is_symmetric (definitions_of_lines lines) (definitions_of_lines read) (same_definitions_mention_same_names (definitions_of_lines lines) (definitions_of_lines read) (printed_rules_keep_definitions lines read same)))

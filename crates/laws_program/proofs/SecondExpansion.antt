@@ -1,5 +1,5 @@
 -- The rules of what is read of printed expanded rules are printed as these.
-use Rattle.laws_program.proofs.Common.{◌≡◌, true, List, Ok, sym, ap, subst, ◌∙◌, Line, AreWalkLinesWithoutNul, policy_lines_of_text, AreItemsPairwiseRelated, IsNodeSameButPlace, Rules, rules_of_policy_lines, rule_nodes_in_print_order, printed_rules}
+use Rattle.laws_program.proofs.Common.{◌≡◌, true, List, Ok, sym, ap, subst, ◌∙◌, Line, AreWalkLinesWithoutNul, policy_lines_of_text, AreItemsPairwiseRelated, NodeIsReadBackAs, Rules, rules_of_policy_lines, rule_nodes_in_print_order, printed_rules}
 use Rattle.laws_program.proofs.Common.{is_printed_within_limits, nodes_of_lines, rules_with_used_definitions, lines_with_aliases_replaced}
 use Rattle.laws_program.proofs.Printed.{PrintedExpandedRulesAreRead}
 use Rattle.laws_program.proofs.Second.{rules_read_of_print_are_printed_same, second_print_fits_if_first_does}
@@ -7,12 +7,12 @@ use Rattle.laws_program.proofs.Kept.{lines_of_used_rules, rules_of_used_lines_ar
 
 -- what is read says what the kept lines say
 lines_read_of_expansion_are_used_rules : PrintedExpandedRulesAreRead → (lines read : List Line) → AreWalkLinesWithoutNul lines → is_printed_within_limits (rules_with_used_definitions (lines_with_aliases_replaced lines)) ≡ true
-    → policy_lines_of_text (printed_rules (rules_with_used_definitions (lines_with_aliases_replaced lines))) ≡ Ok read → AreItemsPairwiseRelated IsNodeSameButPlace (rule_nodes_in_print_order (rules_of_policy_lines (lines_of_used_rules (lines_with_aliases_replaced lines)))) (nodes_of_lines read)
+    → policy_lines_of_text (printed_rules (rules_with_used_definitions (lines_with_aliases_replaced lines))) ≡ Ok read → AreItemsPairwiseRelated NodeIsReadBackAs (rule_nodes_in_print_order (rules_of_policy_lines (lines_of_used_rules (lines_with_aliases_replaced lines)))) (nodes_of_lines read)
 lines_read_of_expansion_are_used_rules law lines read is size e =
     let there = law lines is size in
     let one : there.read ≡ read = let both = sym there.is ∙ e in cc in
-    subst (λ (r : Rules). AreItemsPairwiseRelated IsNodeSameButPlace (rule_nodes_in_print_order r) (nodes_of_lines read)) (sym (rules_of_used_lines_are_used_rules (lines_with_aliases_replaced lines)))
-    (subst (λ (ls : List Line). AreItemsPairwiseRelated IsNodeSameButPlace (rule_nodes_in_print_order (rules_with_used_definitions (lines_with_aliases_replaced lines))) (nodes_of_lines ls)) one there.same)
+    subst (λ (r : Rules). AreItemsPairwiseRelated NodeIsReadBackAs (rule_nodes_in_print_order r) (nodes_of_lines read)) (sym (rules_of_used_lines_are_used_rules (lines_with_aliases_replaced lines)))
+    (subst (λ (ls : List Line). AreItemsPairwiseRelated NodeIsReadBackAs (rule_nodes_in_print_order (rules_with_used_definitions (lines_with_aliases_replaced lines))) (nodes_of_lines ls)) one there.same)
 
 -- A second printing gives the same text.
 pub second_printing_of_expansion_is_first : PrintedExpandedRulesAreRead → (lines read : List Line) → AreWalkLinesWithoutNul lines → is_printed_within_limits (rules_with_used_definitions (lines_with_aliases_replaced lines)) ≡ true

@@ -1,6 +1,6 @@
 -- With its aliases replaced, a policy has the same settings of runas_default.
 use Rattle.laws_program.proofs.Common.{◌≡◌, inl, inr, ℕ, List, [], ◌∷◌, map, Option, Some, None, refl, sym, subst, flat_map, Kind, User, Runas, Host, Cmnd}
-use Rattle.laws_program.proofs.Common.{Member, Scope, Node, Line, AreWalkLinesWithoutNul, ListHasElement, HasReachableCycle, IsPointwiseRelated, AreScopeListsAlike, AreDefaultsScopesAlike, AreRunasDefaultsAlike}
+use Rattle.laws_program.proofs.Common.{Member, Scope, Node, Line, AreWalkLinesWithoutNul, ListHasElement, HasCyclicAliasReachedFromSpecOrDefaults, IsPointwiseRelated, AreScopeListsAlike, AreDefaultsScopesAlike, AreRunasDefaultsAlike}
 use Rattle.laws_program.proofs.Common.{AreAllRunasDefaultsAlike, runas_defaults_in_params, setting_with_scope, runas_defaults_of_lines, LeadsToNoCyclicAlias, appended_related_lists_are_related, expanded_scope_list, expanded_scope}
 use Rattle.laws_program.proofs.Common.{expanded_node, lines_with_aliases_replaced}
 use Rattle.std.specs.Option.{option_map}
@@ -11,7 +11,7 @@ use Rattle.sudoers_match.proofs.Reached.{scope_straight}
 use Rattle.sudoers_match_list.specs.Alike.{unchanged_atom}
 use Rattle.laws_program.proofs.Flattened.{LawsOfFlatLists, KeepsUndefinedAliases, list_alike, line_with_aliases_expanded}
 
-module _ (laws : LawsOfFlatLists) (lines others : List Line) (policy : AreWalkLinesWithoutNul lines) (keep : KeepsUndefinedAliases lines others) (straight : HasReachableCycle lines → ⊥) where
+module _ (laws : LawsOfFlatLists) (lines others : List Line) (policy : AreWalkLinesWithoutNul lines) (keep : KeepsUndefinedAliases lines others) (straight : HasCyclicAliasReachedFromSpecOrDefaults lines → ⊥) where
   abbrev SettingsAlike : Option Scope × List ℕ → Option Scope × List ℕ → Type 0
   SettingsAlike = AreRunasDefaultsAlike unchanged_atom lines others
 

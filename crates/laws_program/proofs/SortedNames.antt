@@ -15,9 +15,9 @@ use Rattle.sudoers_grammar.specs.Piece.{has_byte}
 use Rattle.sudoers_tree.specs.declared.named_files.NamedFile.{NamedFile}
 use Rattle.sudoers_tree.specs.Lead.{folder_of}
 use Rattle.sudoers_tree.specs.Load.{is_name_among}
-use Rattle.sudoers_tree.specs.Targets.{base_name_of_file, is_includable_base_name}
+use Rattle.sudoers_tree.specs.Targets.{base_name_of_file_name, is_includable_base_name}
 use Rattle.sudoers_files.specs.Folder.{file_name_of_base_in_folder}
-use Rattle.sudoers_files.specs.Shelf.{limited_bytes_of_named_file, base_names_in_folder}
+use Rattle.sudoers_files.specs.Shelf.{named_file_bytes_truncated_past_limit, base_names_in_folder}
 use Rattle.laws_program.proofs.WalkSteps.{true_disjunction_has_true_part, disjunction_with_true_first_is_true, disjunction_with_true_second_is_true}
 use Rattle.laws_program.proofs.FolderNames.{inserted_key_keeps_property_of_all, base_names_with_includables_added, name_has_equal_bytes_to_itself, base_names_with_includable_added}
 
@@ -177,11 +177,11 @@ listed_base_gives_listed_file_name dir q (b ∷ bases) has =
     (λ later. disjunction_with_true_second_is_true (bytes_eq (file_name_of_base_in_folder dir q) (file_name_of_base_in_folder dir b)) (is_name_among (file_name_of_base_in_folder dir q) (map (file_name_of_base_in_folder dir) bases)) (listed_base_gives_listed_file_name dir q bases later))
 
 -- a name is its folder and its base
-name_is_folder_and_base : (name : List ℕ) → name ≡ folder_of name ++ base_name_of_file name
+name_is_folder_and_base : (name : List ℕ) → name ≡ folder_of name ++ base_name_of_file_name name
 name_is_folder_and_base [] = refl
 name_is_folder_and_base (b ∷ name) = by (has_byte 47 (b ∷ name)) (name_is_folder_and_base name)
   where
-    by : (t : Bool) → name ≡ folder_of name ++ base_name_of_file name
+    by : (t : Bool) → name ≡ folder_of name ++ base_name_of_file_name name
         → b ∷ name ≡ (if t then b ∷ folder_of name else []) ++ drop (length (if t then b ∷ folder_of name else [])) (b ∷ name)
     by true later = ap (λ n. b ∷ n) later
     by false later = refl
@@ -190,29 +190,29 @@ folder_slash_and_base_are_file_name : (dir base : List ℕ) → (dir ++ 47 ∷ [
 folder_slash_and_base_are_file_name [] base = refl
 folder_slash_and_base_are_file_name (d ∷ dir) base = ap (λ n. d ∷ n) (folder_slash_and_base_are_file_name dir base)
 
-pub name_in_folder_is_of_its_base : (dir name : List ℕ) → folder_of name ≡ dir ++ 47 ∷ [] → name ≡ file_name_of_base_in_folder dir (base_name_of_file name)
-name_in_folder_is_of_its_base dir name is = name_is_folder_and_base name ∙ ap (λ f. f ++ base_name_of_file name) is ∙ folder_slash_and_base_are_file_name dir (base_name_of_file name)
+pub name_in_folder_is_of_its_base : (dir name : List ℕ) → folder_of name ≡ dir ++ 47 ∷ [] → name ≡ file_name_of_base_in_folder dir (base_name_of_file_name name)
+name_in_folder_is_of_its_base dir name is = name_is_folder_and_base name ∙ ap (λ f. f ++ base_name_of_file_name name) is ∙ folder_slash_and_base_are_file_name dir (base_name_of_file_name name)
 
-known_file_base_is_in_folder : (known : List NamedFile) (dir name bytes : List ℕ) → folder_of name ≡ dir ++ 47 ∷ [] → limited_bytes_of_named_file name known ≡ Some bytes → IsNameInList (base_name_of_file name) (base_names_in_folder dir known)
+known_file_base_is_in_folder : (known : List NamedFile) (dir name bytes : List ℕ) → folder_of name ≡ dir ++ 47 ∷ [] → named_file_bytes_truncated_past_limit name known ≡ Some bytes → IsNameInList (base_name_of_file_name name) (base_names_in_folder dir known)
 known_file_base_is_in_folder [] dir name bytes is there = absurd cc
 known_file_base_is_in_folder (file ∷ known) dir name bytes is there = by (bytes_eq name file.name) refl there (known_file_base_is_in_folder known dir name bytes is)
   where
-    kept : (t : Bool) → IsNameInList (base_name_of_file name) (base_names_in_folder dir known) → IsNameInList (base_name_of_file name) (if t then base_name_of_file file.name ∷ base_names_in_folder dir known else base_names_in_folder dir known)
-    kept true later = disjunction_with_true_second_is_true (bytes_eq (base_name_of_file name) (base_name_of_file file.name)) (is_name_among (base_name_of_file name) (base_names_in_folder dir known)) later
+    kept : (t : Bool) → IsNameInList (base_name_of_file_name name) (base_names_in_folder dir known) → IsNameInList (base_name_of_file_name name) (if t then base_name_of_file_name file.name ∷ base_names_in_folder dir known else base_names_in_folder dir known)
+    kept true later = disjunction_with_true_second_is_true (bytes_eq (base_name_of_file_name name) (base_name_of_file_name file.name)) (is_name_among (base_name_of_file_name name) (base_names_in_folder dir known)) later
     kept false later = later
 
-    by : (t : Bool) → bytes_eq name file.name ≡ t → (if t then Some (take (text_limit + 1) file.bytes) else limited_bytes_of_named_file name known) ≡ Some bytes → (limited_bytes_of_named_file name known ≡ Some bytes → IsNameInList (base_name_of_file name) (base_names_in_folder dir known))
-        → IsNameInList (base_name_of_file name) (base_names_in_folder dir (file ∷ known))
+    by : (t : Bool) → bytes_eq name file.name ≡ t → (if t then Some (take (text_limit + 1) file.bytes) else named_file_bytes_truncated_past_limit name known) ≡ Some bytes → (named_file_bytes_truncated_past_limit name known ≡ Some bytes → IsNameInList (base_name_of_file_name name) (base_names_in_folder dir known))
+        → IsNameInList (base_name_of_file_name name) (base_names_in_folder dir (file ∷ known))
     by true e f later =
         let same : name ≡ file.name = (bytes_eq-Decides name file.name).0 e in
-        subst (λ t. IsNameInList (base_name_of_file name) (if t then base_name_of_file file.name ∷ base_names_in_folder dir known else base_names_in_folder dir known))
+        subst (λ t. IsNameInList (base_name_of_file_name name) (if t then base_name_of_file_name file.name ∷ base_names_in_folder dir known else base_names_in_folder dir known))
         (sym ((bytes_eq-Decides (folder_of file.name) (dir ++ 47 ∷ [])).1 (ap folder_of (sym same) ∙ is)))
-        (disjunction_with_true_first_is_true (bytes_eq (base_name_of_file name) (base_name_of_file file.name)) (is_name_among (base_name_of_file name) (base_names_in_folder dir known)) ((bytes_eq-Decides (base_name_of_file name) (base_name_of_file file.name)).1 (ap base_name_of_file same)))
+        (disjunction_with_true_first_is_true (bytes_eq (base_name_of_file_name name) (base_name_of_file_name file.name)) (is_name_among (base_name_of_file_name name) (base_names_in_folder dir known)) ((bytes_eq-Decides (base_name_of_file_name name) (base_name_of_file_name file.name)).1 (ap base_name_of_file_name same)))
     by false e f later = kept (bytes_eq (folder_of file.name) (dir ++ 47 ∷ [])) (later f)
 
 -- A file that is known and to which an include of the folder leads is among its names.
-pub known_includable_file_is_included : (known : List NamedFile) (dir name bytes : List ℕ) → folder_of name ≡ dir ++ 47 ∷ [] → is_includable_base_name (base_name_of_file name) ≡ true → limited_bytes_of_named_file name known ≡ Some bytes
+pub known_includable_file_is_included : (known : List NamedFile) (dir name bytes : List ℕ) → folder_of name ≡ dir ++ 47 ∷ [] → is_includable_base_name (base_name_of_file_name name) ≡ true → named_file_bytes_truncated_past_limit name known ≡ Some bytes
     → IsNameInList name (map (file_name_of_base_in_folder dir) (base_names_with_includables_added [] (base_names_in_folder dir known)))
 known_includable_file_is_included known dir name bytes is base there =
     subst (λ n. IsNameInList n (map (file_name_of_base_in_folder dir) (base_names_with_includables_added [] (base_names_in_folder dir known)))) (sym (name_in_folder_is_of_its_base dir name is))
-    (listed_base_gives_listed_file_name dir (base_name_of_file name) (base_names_with_includables_added [] (base_names_in_folder dir known)) (includable_base_name_is_added (base_name_of_file name) [] (base_names_in_folder dir known) base (known_file_base_is_in_folder known dir name bytes is there)))
+    (listed_base_gives_listed_file_name dir (base_name_of_file_name name) (base_names_with_includables_added [] (base_names_in_folder dir known)) (includable_base_name_is_added (base_name_of_file_name name) [] (base_names_in_folder dir known) base (known_file_base_is_in_folder known dir name bytes is there)))

@@ -1,7 +1,7 @@
 -- The user specifications of a policy with its aliases replaced.
 use Rattle.laws_program.proofs.Common.{◌≡◌, inl, inr, ℕ, List, [], ◌∷◌, map, refl, sym, subst, cons_option, filter_map, User, Host, HostGroup, Member, Node}
-use Rattle.laws_program.proofs.Common.{Line, AreWalkLinesWithoutNul, ListHasElement, HasReachableCycle, fully_expanded_list, IsPointwiseRelated, AreHostListsAlike, AreSpecUsersAndHostsAlike, empty_command_settings, PrivilegeRow, AreRowsOfHostGroup}
-use Rattle.laws_program.proofs.Common.{AreRowsOfSpec, AreRowsOfPolicy, UserSpec, user_spec_of, user_spec_in_node, user_specs_of_lines, LeadsToNoCyclicAlias, pointwise_relation_is_weakened, related_parts_give_related_concatenation, expanded_host_group, expanded_node}
+use Rattle.laws_program.proofs.Common.{Line, AreWalkLinesWithoutNul, ListHasElement, HasCyclicAliasReachedFromSpecOrDefaults, fully_expanded_list, IsPointwiseRelated, AreHostListsAlike, AreSpecUsersAndHostsAlike, empty_command_settings, PrivilegeRow, AreRowsPerFlatAtomOfHostGroup}
+use Rattle.laws_program.proofs.Common.{AreRowsPerFlatAtomOfSpec, AreRowsPerFlatAtomOfPolicy, UserSpec, user_spec_of_users_and_groups, user_spec_in_node, user_specs_of_lines, LeadsToNoCyclicAlias, pointwise_relation_is_weakened, related_parts_give_related_concatenation, expanded_host_group, expanded_node}
 use Rattle.laws_program.proofs.Common.{lines_with_aliases_replaced}
 use Rattle.sudoers_grammar.specs.Node as node
 use Rattle.sudoers_match.specs.internal.Straight.{HostGroupLeadsToNoCycle, HostGroupsLeadToNoCycle}
@@ -20,13 +20,13 @@ record IsAcyclicGroupExpanded (lines : List Line) (g h : HostGroup) : Type 0 whe
 record IsAcyclicSpecExpanded (lines : List Line) (s t : UserSpec) : Type 0 where
   users : LeadsToNoCyclicAlias User lines s.users
   groups : HostGroupsLeadToNoCycle lines s.groups
-  is : t ≡ user_spec_of (fully_expanded_list User lines s.users) (map (expanded_host_group lines) s.groups)
+  is : t ≡ user_spec_of_users_and_groups (fully_expanded_list User lines s.users) (map (expanded_host_group lines) s.groups)
 
 acyclic_groups_are_expanded_pairwise : (lines : List Line) (gs : List HostGroup) → HostGroupsLeadToNoCycle lines gs → IsPointwiseRelated (IsAcyclicGroupExpanded lines) gs (map (expanded_host_group lines) gs)
 acyclic_groups_are_expanded_pairwise lines [] straight = tt
 acyclic_groups_are_expanded_pairwise lines (g ∷ gs) straight = (record { straight = straight g (inl refl); is = refl }, acyclic_groups_are_expanded_pairwise lines gs (λ h there. straight h (inr there)))
 
-module _ (lines : List Line) (straight : HasReachableCycle lines → ⊥) where
+module _ (lines : List Line) (straight : HasCyclicAliasReachedFromSpecOrDefaults lines → ⊥) where
   abbrev specs_in : List Line → List UserSpec
   specs_in ls = filter_map (λ (line : Line). user_spec_in_node line.node) ls
 
@@ -55,22 +55,22 @@ module _ (lines : List Line) (straight : HasReachableCycle lines → ⊥) where
     HaveLikes rows AreNew = (likes : List PrivilegeRow) × AreNew likes × IsPointwiseRelated (AreRowsAlikeAfterExpansion lines others) rows likes
 
     group_alike : (i : ℕ) (users : List Member) → LeadsToNoCyclicAlias User lines users → (j : ℕ) (g h : HostGroup) (rows : List PrivilegeRow) → IsAcyclicGroupExpanded lines g h
-        → AreRowsOfHostGroup lines i users j g rows → HaveLikes rows (AreRowsOfHostGroup others i (fully_expanded_list User lines users) j h)
+        → AreRowsPerFlatAtomOfHostGroup lines i users j g rows → HaveLikes rows (AreRowsPerFlatAtomOfHostGroup others i (fully_expanded_list User lines users) j h)
     group_alike i users of_users j g h rows group are =
-        subst (λ x. HaveLikes rows (AreRowsOfHostGroup others i (fully_expanded_list User lines users) j x)) (sym group.is)
+        subst (λ x. HaveLikes rows (AreRowsPerFlatAtomOfHostGroup others i (fully_expanded_list User lines users) j x)) (sym group.is)
         (commands_alike lines others i j users g.hosts (list_alike laws lines others policy keep User users of_users) (list_alike laws lines others policy keep Host g.hosts group.straight.hosts)
         laws policy keep g.commands group.straight.commands empty_command_settings empty_command_settings 0 0 (no_heads lines others) rows are)
 
-    spec_alike : (i : ℕ) (s t : UserSpec) (rows : List PrivilegeRow) → IsAcyclicSpecExpanded lines s t → AreRowsOfSpec lines i s rows → HaveLikes rows (AreRowsOfSpec others i t)
+    spec_alike : (i : ℕ) (s t : UserSpec) (rows : List PrivilegeRow) → IsAcyclicSpecExpanded lines s t → AreRowsPerFlatAtomOfSpec lines i s rows → HaveLikes rows (AreRowsPerFlatAtomOfSpec others i t)
     spec_alike i s t rows spec are =
-        subst (λ x. HaveLikes rows (AreRowsOfSpec others i x)) (sym spec.is)
-        (related_parts_give_related_concatenation (IsAcyclicGroupExpanded lines) (AreRowsAlikeAfterExpansion lines others) (AreRowsOfHostGroup lines i s.users) (AreRowsOfHostGroup others i (fully_expanded_list User lines s.users))
+        subst (λ x. HaveLikes rows (AreRowsPerFlatAtomOfSpec others i x)) (sym spec.is)
+        (related_parts_give_related_concatenation (IsAcyclicGroupExpanded lines) (AreRowsAlikeAfterExpansion lines others) (AreRowsPerFlatAtomOfHostGroup lines i s.users) (AreRowsPerFlatAtomOfHostGroup others i (fully_expanded_list User lines s.users))
         (group_alike i s.users spec.users) 0 s.groups (map (expanded_host_group lines) s.groups) rows (acyclic_groups_are_expanded_pairwise lines s.groups spec.groups) are)
 
     -- Each row has its like in the policy with its aliases replaced.
-    pub rows_alike : (rows : List PrivilegeRow) → AreRowsOfPolicy lines rows → (likes : List PrivilegeRow) × AreRowsOfPolicy others likes × IsPointwiseRelated (AreRowsAlikeAfterExpansion lines others) rows likes
+    pub rows_alike : (rows : List PrivilegeRow) → AreRowsPerFlatAtomOfPolicy lines rows → (likes : List PrivilegeRow) × AreRowsPerFlatAtomOfPolicy others likes × IsPointwiseRelated (AreRowsAlikeAfterExpansion lines others) rows likes
     rows_alike rows are =
-        related_parts_give_related_concatenation (IsAcyclicSpecExpanded lines) (AreRowsAlikeAfterExpansion lines others) (AreRowsOfSpec lines) (AreRowsOfSpec others) spec_alike 0 (user_specs_of_lines lines) (user_specs_of_lines others) rows
+        related_parts_give_related_concatenation (IsAcyclicSpecExpanded lines) (AreRowsAlikeAfterExpansion lines others) (AreRowsPerFlatAtomOfSpec lines) (AreRowsPerFlatAtomOfSpec others) spec_alike 0 (user_specs_of_lines lines) (user_specs_of_lines others) rows
         these_specs are
 
     -- ---- host groups

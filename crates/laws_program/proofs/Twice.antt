@@ -1,13 +1,13 @@
 -- Commands that say all that holds of them say it a second time.
 use Rattle.laws_program.proofs.Common.{◌≡◌, ℕ, Bool, true, false, List, [], ◌∷◌, ◌++◌, Option, Some, None, map, refl, sym, ap, ap₂, ◌∙◌, ◌==◌, ◌||◌}
-use Rattle.laws_program.proofs.Common.{if◌then◌else◌, option_or, cons_option, list_any, eqb-true, OptionName, Tag, RunasSpec, CmdSpec, HostGroup, Member, SettingsOfCommand}
+use Rattle.laws_program.proofs.Common.{if◌then◌else◌, option_or, cons_option, list_any, eqb-true, OptionName, Tag, RunasSpec, CmdSpec, HostGroup, Member, AccumulatedCommandSettings}
 use Rattle.laws_program.proofs.Common.{empty_command_settings, settings_after_command, last_value_named, ordinal_of_option, final_value_of_option, all_option_names, given_options_in_order, ordinal_of_tag, final_value_of_tag, given_tags_in_order}
 use Rattle.laws_program.proofs.Common.{effective_command, effective_commands, effective_host_group}
 use Rattle.std.specs.Option.{option_map}
 use Rattle.sudoers_grammar.specs.declared.node.OptionName.TheVariants as option
 use Rattle.sudoers_grammar.specs.declared.node.Tag.TheVariants as tag
 use Rattle.sudoers_match.specs.Heads.{commands_with_settings}
-use Rattle.sudoers_cvt_rules.specs.Effective.{all_tags_in_order}
+use Rattle.sudoers_cvt_rules.specs.Effective.{all_tags_in_name_order}
 use Rattle.sudoers_match.proofs.Lasts.{option_or_none_is_option}
 use Rattle.laws_program.proofs.PrintedHeads.{options_of_equal_ordinals_are_equal}
 
@@ -82,7 +82,7 @@ option_is_among_all_options : (name : OptionName) → list_any (λ other. ordina
 option_is_among_all_options option.Role = refl
 option_is_among_all_options name = refl
 
-tag_is_among_all_tags : (name : Tag) → list_any (λ other. ordinal_of_tag name == ordinal_of_tag other) all_tags_in_order ≡ true
+tag_is_among_all_tags : (name : Tag) → list_any (λ other. ordinal_of_tag name == ordinal_of_tag other) all_tags_in_name_order ≡ true
 tag_is_among_all_tags tag.Exec = refl
 tag_is_among_all_tags name = refl
 
@@ -91,21 +91,21 @@ listed_option_has_its_value said name =
     last_named_value_is_value_of_name (λ other. ordinal_of_option name == ordinal_of_option other) name (options_of_equal_ordinals_are_equal name) said all_option_names
     ∙ ap (λ (t : Bool). if t then said name else None) (option_is_among_all_options name)
 
-pub listed_tag_has_its_value : (said : Tag → Option Bool) (name : Tag) → final_value_of_tag (named_values_of_names said all_tags_in_order) name ≡ said name
+pub listed_tag_has_its_value : (said : Tag → Option Bool) (name : Tag) → final_value_of_tag (named_values_of_names said all_tags_in_name_order) name ≡ said name
 listed_tag_has_its_value said name =
-    last_named_value_is_value_of_name (λ other. ordinal_of_tag name == ordinal_of_tag other) name (tags_of_equal_ordinals_are_equal name) said all_tags_in_order
+    last_named_value_is_value_of_name (λ other. ordinal_of_tag name == ordinal_of_tag other) name (tags_of_equal_ordinals_are_equal name) said all_tags_in_name_order
     ∙ ap (λ (t : Bool). if t then said name else None) (tag_is_among_all_tags name)
 
 -- ---- commands
 
 -- a head that says the same as another
-record AreSettingsOfSameValues (g h : SettingsOfCommand) : Type 0 where
+record AreSettingsOfSameValues (g h : AccumulatedCommandSettings) : Type 0 where
   runas : g.runas ≡ h.runas
   options : (name : OptionName) → final_value_of_option g.options name ≡ final_value_of_option h.options name
   tags : (name : Tag) → final_value_of_tag g.tags name ≡ final_value_of_tag h.tags name
 
 -- A command that says all that holds of it inherits nothing new.
-effective_command_adds_no_new_settings : (g h : SettingsOfCommand) (c : CmdSpec) → AreSettingsOfSameValues g h → AreSettingsOfSameValues (settings_after_command g (effective_command (settings_after_command h c, c.member))) (settings_after_command h c)
+effective_command_adds_no_new_settings : (g h : AccumulatedCommandSettings) (c : CmdSpec) → AreSettingsOfSameValues g h → AreSettingsOfSameValues (settings_after_command g (effective_command (settings_after_command h c, c.member))) (settings_after_command h c)
 effective_command_adds_no_new_settings g h c same = record {
   runas = ap (λ (r : Option RunasSpec). option_or (option_or c.runas h.runas) r) same.runas ∙ inheriting_twice_is_inheriting_once c.runas h.runas;
   options = λ name.
@@ -125,14 +125,14 @@ effective_command_adds_no_new_settings g h c same = record {
 abbrev command_of_parts : Option RunasSpec → List (OptionName × List ℕ) → List (Tag × Bool) → Member → CmdSpec
 command_of_parts runas options tags member = record { runas = runas; options = options; tags = tags; member = member }
 
-same_settings_give_same_effective_command : (g h : SettingsOfCommand) (m : Member) → AreSettingsOfSameValues g h → effective_command (g, m) ≡ effective_command (h, m)
+same_settings_give_same_effective_command : (g h : AccumulatedCommandSettings) (m : Member) → AreSettingsOfSameValues g h → effective_command (g, m) ≡ effective_command (h, m)
 same_settings_give_same_effective_command g h m same =
     ap (λ (r : Option RunasSpec). command_of_parts r (given_options_in_order (final_value_of_option g.options)) (given_tags_in_order (final_value_of_tag g.tags)) m) same.runas
     ∙ ap₂ (λ (os : List (OptionName × List ℕ)) (ts : List (Tag × Bool)). command_of_parts h.runas os ts m)
     (equal_values_give_equal_named_lists (final_value_of_option g.options) (final_value_of_option h.options) same.options all_option_names)
-    (equal_values_give_equal_named_lists (final_value_of_tag g.tags) (final_value_of_tag h.tags) same.tags all_tags_in_order)
+    (equal_values_give_equal_named_lists (final_value_of_tag g.tags) (final_value_of_tag h.tags) same.tags all_tags_in_name_order)
 
-effective_commands_with_settings_are_stable : (g h : SettingsOfCommand) (cs : List CmdSpec) → AreSettingsOfSameValues g h → map effective_command (commands_with_settings g (map effective_command (commands_with_settings h cs))) ≡ map effective_command (commands_with_settings h cs)
+effective_commands_with_settings_are_stable : (g h : AccumulatedCommandSettings) (cs : List CmdSpec) → AreSettingsOfSameValues g h → map effective_command (commands_with_settings g (map effective_command (commands_with_settings h cs))) ≡ map effective_command (commands_with_settings h cs)
 effective_commands_with_settings_are_stable g h [] same = refl
 effective_commands_with_settings_are_stable g h (c ∷ cs) same =
     let next = effective_command_adds_no_new_settings g h c same in

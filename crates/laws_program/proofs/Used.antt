@@ -1,6 +1,6 @@
 -- Used definitions can stand behind one another, and define no more aliases.
 use Rattle.laws_program.proofs.Common.{◌≡◌, ℕ, ◌+◌, ◌≤◌, Bool, true, false, if◌then◌else◌, List, [], ◌∷◌, ◌++◌, map, Option, Some, None, refl, sym, ap, subst}
-use Rattle.laws_program.proofs.Common.{◌∙◌, arith, AllByRecursion, filter, Kind, Line, PlacedDefinition, definitions_of_lines, is_equal_kind, first_definition_of, is_definition_of_name, alias_limit}
+use Rattle.laws_program.proofs.Common.{◌∙◌, arith, AllByRecursion, filter, Kind, Line, PlacedDefinition, definitions_of_lines, is_equal_kind, first_definition_of, is_definition_of_name, alias_limit_of_each_kind}
 use Rattle.laws_program.proofs.Common.{definition_count_of_kind, HasUnreservedName, HaveDistinctNames, is_used, used_definitions}
 use Rattle.std.specs.Option.{option_map}
 use Rattle.sudoers_grammar.specs.declared.node.Atom.TheVariants as atom
@@ -104,7 +104,7 @@ same_definitions_can_form_policy_too ds es same may =
     record {
       free = same_keys_keep_unreserved_names ds es keys may.free;
       once = same_keys_keep_names_distinct ds es keys may.once;
-      few = λ k. subst (λ n. n ≤ alias_limit) (same_keys_have_same_definition_count k ds es keys) (may.few k);
+      few = λ k. subst (λ n. n ≤ alias_limit_of_each_kind) (same_keys_have_same_definition_count k ds es keys) (may.few k);
     }
 
 -- The definitions that are kept can stand.

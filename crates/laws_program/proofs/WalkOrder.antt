@@ -27,9 +27,9 @@ use Rattle.sudoers_tree.specs.Targets.{number_of_first_file_named}
 use Rattle.sudoers_tree.specs.Walk.{IncludeSite, WalkState, load_result_and_then as then_walk, include_depth_limit, walk_with_file_entered, is_file_on_walk, lead_of_file_line, empty_walk, files_opened_by_lead, include_site_of_line, spot_of_file_line, walk_with_line_appended, repeated_include_fault, value_unless_file_fault, walk_after_file_visit as walk_visit, walk_after_file_visits as walk_each, walk_after_file_lines, walk_or_fault_of_files}
 use Rattle.sudoers_tree.proofs.WalkSound.{IsLoadOfFiles, loaded_policy_is_load_of_files}
 use Rattle.sudoers_files.specs.declared.fault.GatherFault.TheVariants.{TooManyFiles}
-use Rattle.sudoers_files.specs.Gather.{gather_result_and_then, gathered_from_root_bytes, gathered_files_or_fault, gathered_with_file, gathered_unless_found, gathered_unless_full, gathered_after_visit, gathered_after_visits}
-use Rattle.sudoers_files.specs.Included.{names_for_each_line, file_names_included_by_file, file_names_of_lead, lines_of_cut_or_none as lines_cut}
-use Rattle.sudoers_files.specs.Shelf.{limited_bytes_of_named_file}
+use Rattle.sudoers_files.specs.Gather.{gather_result_and_then, gathered_from_root_bytes, gathered_files_or_fault, gathered_with_file_and_includes, gathered_unless_found, gathered_unless_missing_or_full, gathered_after_file_visit, gathered_after_file_visits}
+use Rattle.sudoers_files.specs.Included.{names_from_include_leads_of_lines, file_names_included_by_file, file_names_of_lead, lines_of_cut_or_none as lines_cut}
+use Rattle.sudoers_files.specs.Shelf.{named_file_bytes_truncated_past_limit}
 use Rattle.sudoers_files.proofs.Visited.{visits_of_appended_names_are_chained}
 use Rattle.laws_program.proofs.WalkSteps.{file_fully_on_walk_has_no_fault, opened_files_are_targets_of_lead, appended_line_keeps_files_on_walk}
 use Rattle.laws_program.proofs.FolderOrder.{IsNameOfKnownFile}
@@ -41,10 +41,10 @@ use Rattle.laws_program.proofs.GatheredNumbers.{IsExtensionOfFound, AreNumbersOf
 
 abbrev VisitKeepsGatheredOrder : (known found : List NamedFile) (files : List ParsedFile) → ℕ → Type 0
 VisitKeepsGatheredOrder known found files left = (levels : ℕ) (at : IncludeSite) (f : ℕ) (w now : WalkState) (name : List ℕ) (before after : List NamedFile) → walk_visit left files at f w ≡ Ok now → is_file_on_walk w f ≡ false
-    → number_of_first_file_named name 0 files ≡ Some f → gathered_after_visit levels known before name ≡ Ok after → IsPrefixOfFound found after → w.on ≡ numbers_below (length before) → now.on ≡ numbers_below (length after)
+    → number_of_first_file_named name 0 files ≡ Some f → gathered_after_file_visit levels known before name ≡ Ok after → IsPrefixOfFound found after → w.on ≡ numbers_below (length before) → now.on ≡ numbers_below (length after)
 
 visits_to_each_file_keep_gathered_order : (known found : List NamedFile) (files : List ParsedFile) (left : ℕ) → VisitKeepsGatheredOrder known found files left → (levels : ℕ) (at : IncludeSite) (inner : List ℕ) (names : List (List ℕ)) (w now : WalkState)
-    (before after : List NamedFile) → AreNumbersOfNamedFiles files names inner → walk_each (walk_visit left files) files at inner w ≡ Ok now → gathered_after_visits (gathered_after_visit levels known) before names ≡ Ok after
+    (before after : List NamedFile) → AreNumbersOfNamedFiles files names inner → walk_each (walk_visit left files) files at inner w ≡ Ok now → gathered_after_file_visits (gathered_after_file_visit levels known) before names ≡ Ok after
     → IsPrefixOfFound found after → w.on ≡ numbers_below (length before) → now.on ≡ numbers_below (length after)
 visits_to_each_file_keep_gathered_order known found files left meets levels at [] [] w now before after same walks visits prefix on =
     let first : w ≡ now = cc in
@@ -55,18 +55,18 @@ visits_to_each_file_keep_gathered_order known found files left meets levels at (
     by_test (is_file_on_walk w f) refl walks (λ within mid. visits_to_each_file_keep_gathered_order known found files left meets levels at inner names within now mid after same.1)
   where
     Later : Type 0
-    Later = (within : WalkState) (mid : List NamedFile) → walk_each (walk_visit left files) files at inner within ≡ Ok now → gathered_after_visits (gathered_after_visit levels known) mid names ≡ Ok after → IsPrefixOfFound found after
+    Later = (within : WalkState) (mid : List NamedFile) → walk_each (walk_visit left files) files at inner within ≡ Ok now → gathered_after_file_visits (gathered_after_file_visit levels known) mid names ≡ Ok after → IsPrefixOfFound found after
         → within.on ≡ numbers_below (length mid) → now.on ≡ numbers_below (length after)
 
     by_found : (r : GatherResult) (within : WalkState) → is_file_on_walk w f ≡ false → walk_visit left files at f w ≡ Ok within → walk_each (walk_visit left files) files at inner within ≡ Ok now
-        → gathered_after_visit levels known before name ≡ r → gather_result_and_then r (λ mid. gathered_after_visits (gathered_after_visit levels known) mid names) ≡ Ok after → Later → now.on ≡ numbers_below (length after)
+        → gathered_after_file_visit levels known before name ≡ r → gather_result_and_then r (λ mid. gathered_after_file_visits (gathered_after_file_visit levels known) mid names) ≡ Ok after → Later → now.on ≡ numbers_below (length after)
     by_found (Ok mid) within off v e here g later =
         later within mid e g prefix
         (meets levels at f w within name before mid v off same.0 here (prefix_of_prefix_is_prefix_of_found found mid after prefix (visits_extend_found_files known levels mid after names g)) on)
     by_found (Err fault) within off v e here g later = absurd cc
 
     by_visit : (r : Result WalkState LoadFault) → is_file_on_walk w f ≡ false → walk_visit left files at f w ≡ r → then_walk r (walk_each (walk_visit left files) files at inner) ≡ Ok now → Later → now.on ≡ numbers_below (length after)
-    by_visit (Ok within) off v e later = by_found (gathered_after_visit levels known before name) within off v e refl visits later
+    by_visit (Ok within) off v e later = by_found (gathered_after_file_visit levels known before name) within off v e refl visits later
     by_visit (Err fault) off v e later = absurd cc
 
     by_test : (b : Bool) → is_file_on_walk w f ≡ b → (if b then Err (repeated_include_fault files at f) else then_walk (walk_visit left files at f w) (walk_each (walk_visit left files) files at inner)) ≡ Ok now → Later
@@ -77,7 +77,7 @@ visits_to_each_file_keep_gathered_order known found files left meets levels at (
 -- The files to which one line leads.
 files_opened_by_line_keep_gathered_order : (known found : List NamedFile) (files : List ParsedFile) → AreGatheredFilesParsed known found files → (left : ℕ) → VisitKeepsGatheredOrder known found files left → (levels : ℕ) (at : IncludeSite) (o : Option Lead) (inner : List ℕ)
     (passed w within : WalkState) (before mid : List NamedFile) → w.on ≡ passed.on → files_opened_by_lead files at passed o ≡ Ok inner → walk_each (walk_visit left files) files at inner passed ≡ Ok within
-    → gathered_after_visits (gathered_after_visit levels known) before (file_names_of_lead known o) ≡ Ok mid → IsPrefixOfFound found mid → w.on ≡ numbers_below (length before) → within.on ≡ numbers_below (length mid)
+    → gathered_after_file_visits (gathered_after_file_visit levels known) before (file_names_of_lead known o) ≡ Ok mid → IsPrefixOfFound found mid → w.on ≡ numbers_below (length before) → within.on ≡ numbers_below (length mid)
 files_opened_by_line_keep_gathered_order known found files ready left meets levels at None inner passed w within before mid same opens walks visits prefix on =
     let none : [] ≡ inner = cc in
     let first : passed ≡ within = let e = ap (λ i. walk_each (walk_visit left files) files at i passed) none ∙ walks in cc in
@@ -95,7 +95,7 @@ AreLogicalLines = AllByRecursion (λ text. is_logical_line text ≡ true)
 
 file_lines_keep_gathered_order : (known found : List NamedFile) (files : List ParsedFile) → AreGatheredFilesParsed known found files → (left : ℕ) → VisitKeepsGatheredOrder known found files left → (levels f : ℕ) (name : List ℕ) → name_of_numbered_file files f ≡ name
     → (n : ℕ) (read : List Line) (lines : List (List ℕ)) (w now : WalkState) (before after : List NamedFile) → AreLogicalLines lines → texts_of_lines (lines_parsed_until_fault read lines).0 ≡ lines
-    → walk_after_file_lines (walk_visit left files) files f n (lines_parsed_until_fault read lines).0 w ≡ Ok now → gathered_after_visits (gathered_after_visit levels known) before (names_for_each_line (file_names_of_lead known) name lines) ≡ Ok after
+    → walk_after_file_lines (walk_visit left files) files f n (lines_parsed_until_fault read lines).0 w ≡ Ok now → gathered_after_file_visits (gathered_after_file_visit levels known) before (names_from_include_leads_of_lines (file_names_of_lead known) name lines) ≡ Ok after
     → IsPrefixOfFound found after → w.on ≡ numbers_below (length before) → now.on ≡ numbers_below (length after)
 file_lines_keep_gathered_order known found files ready left meets levels f name named n read [] w now before after logical all walks visits prefix on = by (fault_of_numbered_file files f) walks
   where
@@ -110,26 +110,26 @@ file_lines_keep_gathered_order known found files ready left meets levels f name 
 
     Later : Type 0
     Later = (line : Line) (within now : WalkState) (mid after : List NamedFile) → AreLogicalLines lines → texts_of_lines (next line).0 ≡ lines
-        → walk_after_file_lines (walk_visit left files) files f (n + 1) (next line).0 within ≡ Ok now → gathered_after_visits (gathered_after_visit levels known) mid (names_for_each_line (file_names_of_lead known) name lines) ≡ Ok after
+        → walk_after_file_lines (walk_visit left files) files f (n + 1) (next line).0 within ≡ Ok now → gathered_after_file_visits (gathered_after_file_visit levels known) mid (names_from_include_leads_of_lines (file_names_of_lead known) name lines) ≡ Ok after
         → IsPrefixOfFound found after → within.on ≡ numbers_below (length mid) → now.on ≡ numbers_below (length after)
 
     by_found : (r : GatherResult) (line : Line) (passed within : WalkState) (inner : List ℕ) → include_lead_of_line name text ≡ lead_of_file_line files f line → w.on ≡ passed.on
         → files_opened_by_lead files (include_site_of_line files f n) passed (lead_of_file_line files f line) ≡ Ok inner → walk_each (walk_visit left files) files (include_site_of_line files f n) inner passed ≡ Ok within
-        → walk_after_file_lines (walk_visit left files) files f (n + 1) (next line).0 within ≡ Ok now → texts_of_lines (next line).0 ≡ lines → gathered_after_visits (gathered_after_visit levels known) before (file_names_of_lead known (include_lead_of_line name text)) ≡ r
-        → gather_result_and_then r (λ mid. gathered_after_visits (gathered_after_visit levels known) mid (names_for_each_line (file_names_of_lead known) name lines)) ≡ Ok after → Later → now.on ≡ numbers_below (length after)
+        → walk_after_file_lines (walk_visit left files) files f (n + 1) (next line).0 within ≡ Ok now → texts_of_lines (next line).0 ≡ lines → gathered_after_file_visits (gathered_after_file_visit levels known) before (file_names_of_lead known (include_lead_of_line name text)) ≡ r
+        → gather_result_and_then r (λ mid. gathered_after_file_visits (gathered_after_file_visit levels known) mid (names_from_include_leads_of_lines (file_names_of_lead known) name lines)) ≡ Ok after → Later → now.on ≡ numbers_below (length after)
     by_found (Ok mid) line passed within inner lead same o v e rest g h later =
         later line within now mid after logical.1 rest e h prefix
         (files_opened_by_line_keep_gathered_order known found files ready left meets levels (include_site_of_line files f n) (lead_of_file_line files f line) inner passed w within before mid same o v
-        (ap (λ l. gathered_after_visits (gathered_after_visit levels known) before (file_names_of_lead known l)) (sym lead) ∙ g)
-        (prefix_of_prefix_is_prefix_of_found found mid after prefix (visits_extend_found_files known levels mid after (names_for_each_line (file_names_of_lead known) name lines) h)) on)
+        (ap (λ l. gathered_after_file_visits (gathered_after_file_visit levels known) before (file_names_of_lead known l)) (sym lead) ∙ g)
+        (prefix_of_prefix_is_prefix_of_found found mid after prefix (visits_extend_found_files known levels mid after (names_from_include_leads_of_lines (file_names_of_lead known) name lines) h)) on)
     by_found (Err fault) line passed within inner lead same o v e rest g h later = absurd cc
 
     by_each : (r : Result WalkState LoadFault) (line : Line) (passed : WalkState) (inner : List ℕ) → include_lead_of_line name text ≡ lead_of_file_line files f line → w.on ≡ passed.on
         → files_opened_by_lead files (include_site_of_line files f n) passed (lead_of_file_line files f line) ≡ Ok inner → walk_each (walk_visit left files) files (include_site_of_line files f n) inner passed ≡ r
         → then_walk r (walk_after_file_lines (walk_visit left files) files f (n + 1) (next line).0) ≡ Ok now → texts_of_lines (next line).0 ≡ lines → Later → now.on ≡ numbers_below (length after)
     by_each (Ok within) line passed inner lead same o v e rest later =
-        by_found (gathered_after_visits (gathered_after_visit levels known) before (file_names_of_lead known (include_lead_of_line name text))) line passed within inner lead same o v e rest refl
-        (sym (visits_of_appended_names_are_chained (gathered_after_visit levels known) before (file_names_of_lead known (include_lead_of_line name text)) (names_for_each_line (file_names_of_lead known) name lines)) ∙ visits) later
+        by_found (gathered_after_file_visits (gathered_after_file_visit levels known) before (file_names_of_lead known (include_lead_of_line name text))) line passed within inner lead same o v e rest refl
+        (sym (visits_of_appended_names_are_chained (gathered_after_file_visit levels known) before (file_names_of_lead known (include_lead_of_line name text)) (names_from_include_leads_of_lines (file_names_of_lead known) name lines)) ∙ visits) later
     by_each (Err fault) line passed inner lead same o v e rest later = absurd cc
 
     by_opened : (r : Result (List ℕ) LoadFault) (line : Line) (passed : WalkState) → include_lead_of_line name text ≡ lead_of_file_line files f line → w.on ≡ passed.on → files_opened_by_lead files (include_site_of_line files f n) passed (lead_of_file_line files f line) ≡ r
@@ -170,8 +170,8 @@ cut_law_gives_logical_lines alone whole text lines cuts = lines_cut_to_themselve
 
 -- The lines of a file that is taken, and of the same file on the walk.
 entered_file_keeps_gathered_order : LinesAreParsedUntilFault → CutLinesAreLogical → (known found : List NamedFile) (files : List ParsedFile) → AreGatheredFilesParsed known found files → (left : ℕ) → VisitKeepsGatheredOrder known found files left → (levels f : ℕ) (w now : WalkState) (file : NamedFile)
-    (before after : List NamedFile) → number_of_first_file_named file.name 0 files ≡ Some f → f ≡ length before → limited_bytes_of_named_file file.name known ≡ Some file.bytes
-    → walk_after_file_lines (walk_visit left files) files f 0 (lines_of_numbered_file files f) (walk_with_file_entered f w) ≡ Ok now → gathered_after_visits (gathered_after_visit levels known) (before ++ file ∷ []) (file_names_included_by_file known file) ≡ Ok after
+    (before after : List NamedFile) → number_of_first_file_named file.name 0 files ≡ Some f → f ≡ length before → named_file_bytes_truncated_past_limit file.name known ≡ Some file.bytes
+    → walk_after_file_lines (walk_visit left files) files f 0 (lines_of_numbered_file files f) (walk_with_file_entered f w) ≡ Ok now → gathered_after_file_visits (gathered_after_file_visit levels known) (before ++ file ∷ []) (file_names_included_by_file known file) ≡ Ok after
     → IsPrefixOfFound found after → w.on ≡ numbers_below (length before) → now.on ≡ numbers_below (length after)
 entered_file_keeps_gathered_order reads cuts-whole known found files ready left meets levels f w now file before after first last there walks visits prefix on =
     let number = number_of_named_file_is_its_place (IsParsedKnownFile known) file.name 0 f files ready.readings first in
@@ -179,7 +179,7 @@ entered_file_keeps_gathered_order reads cuts-whole known found files ready left 
     let got : slice_get files f ≡ Some number.reading = ap (slice_get files) at ∙ number.there in
     let is = number.holds in
     let named : name_of_numbered_file files f ≡ file.name = ap read_name got ∙ number.named in
-    let bytes : is.bytes ≡ file.bytes = let both : Some is.bytes ≡ Some file.bytes = sym is.there ∙ ap (λ n. limited_bytes_of_named_file n known) number.named ∙ there in cc in
+    let bytes : is.bytes ≡ file.bytes = let both : Some is.bytes ≡ Some file.bytes = sym is.there ∙ ap (λ n. named_file_bytes_truncated_past_limit n known) number.named ∙ there in cc in
     let cuts : cut_outcome_of_text file.bytes ≡ Ok is.lines = ap cut_outcome_of_text (sym bytes) ∙ is.cuts in
     let none : (lines_parsed_until_fault [] is.lines).1 ≡ None = sym (parsed_file_has_fault_of_lines number.reading.name is.lines) ∙ ap (λ (r : ParsedFile). r.fault) (sym is.is) ∙ sym (ap fault_of_optional_file got) ∙ file_fully_on_walk_has_no_fault (walk_visit left files) files f 0 (lines_of_numbered_file files f) (walk_with_file_entered f w) now walks in
     let lines : lines_of_numbered_file files f ≡ (lines_parsed_until_fault [] is.lines).0 = ap lines_of_optional_file got ∙ ap (λ (r : ParsedFile). r.lines) is.is ∙ lines_of_parsed_file_are_those_parsed number.reading.name is.lines in
@@ -188,11 +188,11 @@ entered_file_keeps_gathered_order reads cuts-whole known found files ready left 
     file_lines_keep_gathered_order known found files ready left meets levels f file.name named 0 [] is.lines (walk_with_file_entered f w) now (before ++ file ∷ []) after (cuts-whole file.bytes is.lines cuts)
     (faultless_parse_keeps_all_texts is.lines (lines_parsed_until_fault [] is.lines).0 (lines_parsed_until_fault [] is.lines).1 (reads is.lines) none)
     (ap (λ ls. walk_after_file_lines (walk_visit left files) files f 0 ls (walk_with_file_entered f w)) (sym lines) ∙ walks)
-    (ap (λ c. gathered_after_visits (gathered_after_visit levels known) (before ++ file ∷ []) (names_for_each_line (file_names_of_lead known) file.name (lines_cut c))) (sym cuts) ∙ visits) prefix entered
+    (ap (λ c. gathered_after_file_visits (gathered_after_file_visit levels known) (before ++ file ∷ []) (names_from_include_leads_of_lines (file_names_of_lead known) file.name (lines_cut c))) (sym cuts) ∙ visits) prefix entered
 
 -- A file that is taken has the number of the files that are found before it.
 taken_file_has_number_of_count_before : (known found : List NamedFile) (files : List ParsedFile) → AreGatheredFilesParsed known found files → (levels : ℕ) (before after : List NamedFile) (file : NamedFile)
-    → gathered_after_visits (gathered_after_visit levels known) (before ++ file ∷ []) (file_names_included_by_file known file) ≡ Ok after → IsPrefixOfFound found after → number_of_first_file_named file.name 0 files ≡ Some (length before)
+    → gathered_after_file_visits (gathered_after_file_visit levels known) (before ++ file ∷ []) (file_names_included_by_file known file) ≡ Ok after → IsPrefixOfFound found after → number_of_first_file_named file.name 0 files ≡ Some (length before)
 taken_file_has_number_of_count_before known found files ready levels before after file visits prefix =
     let here = prefix_of_prefix_is_prefix_of_found found (before ++ file ∷ []) after prefix (visits_extend_found_files known levels (before ++ file ∷ []) after (file_names_included_by_file known file) visits) in
     found_file_has_its_number known found files ready (length before) file
@@ -209,25 +209,25 @@ file_visit_keeps_gathered_order reads whole known found files ready (suc left) l
     known_there : IsNameOfKnownFile known name
     known_there =
         let it = number_of_named_file_is_its_place (IsParsedKnownFile known) name 0 f files ready.readings number in
-        (it.holds.bytes, ap (λ n. limited_bytes_of_named_file n known) (sym it.named) ∙ it.holds.there)
+        (it.holds.bytes, ap (λ n. named_file_bytes_truncated_past_limit n known) (sym it.named) ∙ it.holds.there)
 
     by_next : (next : NamedFile → GatherResult) → has_file_with_name name before ≡ false → gathered_unless_found next known before name ≡ Ok after → next (record { name = name; bytes = known_there.0 }) ≡ Ok after
     by_next next other e =
         by_limit (nat_le file_limit (length before))
-        (sym (ap (gathered_unless_full next before name) known_there.1) ∙ sym (ap (λ t. if t then Ok before else gathered_unless_full next before name (limited_bytes_of_named_file name known)) other) ∙ e)
+        (sym (ap (gathered_unless_missing_or_full next before name) known_there.1) ∙ sym (ap (λ t. if t then Ok before else gathered_unless_missing_or_full next before name (named_file_bytes_truncated_past_limit name known)) other) ∙ e)
       where
         by_limit : (t : Bool) → (if t then Err TooManyFiles else next (record { name = name; bytes = known_there.0 })) ≡ Ok after → next (record { name = name; bytes = known_there.0 }) ≡ Ok after
         by_limit true g = absurd cc
         by_limit false g = g
 
-    extends_of : (l : ℕ) → gathered_after_visit l known before name ≡ Ok after → IsExtensionOfFound before after
-    extends_of l e = visits_extend_found_files known l before after (name ∷ []) (ap (λ r. gather_result_and_then r (λ mid. gathered_after_visits (gathered_after_visit l known) mid [])) e)
+    extends_of : (l : ℕ) → gathered_after_file_visit l known before name ≡ Ok after → IsExtensionOfFound before after
+    extends_of l e = visits_extend_found_files known l before after (name ∷ []) (ap (λ r. gather_result_and_then r (λ mid. gathered_after_file_visits (gathered_after_file_visit l known) mid [])) e)
 
-    by_levels : (l : ℕ) → gathered_after_visit l known before name ≡ Ok after → VisitKeepsGatheredOrder known found files left → now.on ≡ numbers_below (length after)
+    by_levels : (l : ℕ) → gathered_after_file_visit l known before name ≡ Ok after → VisitKeepsGatheredOrder known found files left → now.on ≡ numbers_below (length after)
     by_levels zero e below = let none = by_next (λ file. Err TooManyFiles) (fresh (extends_of zero e)) e in absurd cc
     by_levels (suc l) e below =
         let file : NamedFile = record { name = name; bytes = known_there.0 } in
-        let takes = by_next (gathered_with_file (gathered_after_visit l known) known before) (fresh (extends_of (suc l) e)) e in
+        let takes = by_next (gathered_with_file_and_includes (gathered_after_file_visit l known) known before) (fresh (extends_of (suc l) e)) e in
         let last : f ≡ length before = let both : Some f ≡ Some (length before) = sym number ∙ taken_file_has_number_of_count_before known found files ready l before after file takes prefix in cc in
         entered_file_keeps_gathered_order reads whole known found files ready left below l f w now file before after number last known_there.1 walks takes prefix on
 
@@ -248,7 +248,7 @@ numbers_below_are_range_from_zero n = by n
 pub walk_order_is_gathered_order : LinesAreParsedUntilFault → CutLinesAreLogical → (known : List NamedFile) (root : List ℕ) (found : List NamedFile) (policy : LoadedPolicy) → gathered_files_or_fault known root ≡ Ok found → policy_or_load_fault found ≡ Ok policy
     → policy.walk.on ≡ range_with_len 0 (length found)
 unfolding gathered_files_or_fault walk_or_fault_of_files
-walk_order_is_gathered_order reads whole known root found policy gathers loads = by (limited_bytes_of_named_file root known) refl gathers ∙ numbers_below_are_range_from_zero (length found)
+walk_order_is_gathered_order reads whole known root found policy gathers loads = by (named_file_bytes_truncated_past_limit root known) refl gathers ∙ numbers_below_are_range_from_zero (length found)
   where
     load : IsLoadOfFiles found policy
     load = loaded_policy_is_load_of_files found policy loads
@@ -259,7 +259,7 @@ walk_order_is_gathered_order reads whole known root found policy gathers loads =
     ready : AreGatheredFilesParsed known found policy.files
     ready = record { readings = read.0; named = read.1; once = loaded_files_have_no_repeated_name found policy loads }
 
-    by : (o : Option (List ℕ)) → limited_bytes_of_named_file root known ≡ o → gathered_from_root_bytes known root o ≡ Ok found → policy.walk.on ≡ numbers_below (length found)
+    by : (o : Option (List ℕ)) → named_file_bytes_truncated_past_limit root known ≡ o → gathered_from_root_bytes known root o ≡ Ok found → policy.walk.on ≡ numbers_below (length found)
     by None there e = absurd cc
     by (Some bytes) there e =
         let file : NamedFile = record { name = root; bytes = bytes } in

@@ -11,7 +11,7 @@ use Rattle.sudoers_tree.specs.Fault.{syntax_fault_as_read_fault}
 use Rattle.sudoers_tree.specs.Reading.{first_definition_fault}
 use Rattle.sudoers_tree.specs.Files.{ParsedFile, fault_of_numbered_file, name_of_numbered_file}
 use Rattle.sudoers_tree.specs.Targets.{targets_of_lead}
-use Rattle.sudoers_tree.specs.Walk.{IncludeSite, FileVisit, WalkState, load_result_and_then, first_file_on_walk, lead_of_file_line, files_opened_by_lead, include_site_of_line, spot_of_file_line, walk_with_line_appended, value_unless_file_fault, files_unless_missing, files_unless_on_walk, walk_after_file_visits, walk_after_file_lines}
+use Rattle.sudoers_tree.specs.Walk.{IncludeSite, FileVisit, WalkState, load_result_and_then, first_file_on_walk, lead_of_file_line, files_opened_by_lead, include_site_of_line, spot_of_file_line, walk_with_line_appended, value_unless_file_fault, files_unless_missing_or_on_walk, files_unless_on_walk, walk_after_file_visits, walk_after_file_lines}
 
 abbrev WalkResult : Type 0
 WalkResult = Result WalkState LoadFault
@@ -48,7 +48,7 @@ opened_files_are_targets_of_lead files at w (Some l) inner is lead some = ap (ta
     by_on None found e = cc
     by_on (Some f) found e = absurd cc
 
-    by_targets : (t : Option (List ℕ)) → targets_of_lead files l ≡ t → files_unless_missing files at l w t ≡ Ok inner → targets_of_lead files l ≡ Some inner
+    by_targets : (t : Option (List ℕ)) → targets_of_lead files l ≡ t → files_unless_missing_or_on_walk files at l w t ≡ Ok inner → targets_of_lead files l ≡ Some inner
     by_targets None e f = absurd cc
     by_targets (Some found) e f = e ∙ ap (λ fs. Some fs) (by_on (first_file_on_walk w found) found f)
 

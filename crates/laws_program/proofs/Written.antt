@@ -3,7 +3,7 @@ use Rattle.laws_program.proofs.Common.{◌≡◌, true, List, [], ◌∷◌, ◌
 use Rattle.laws_program.proofs.Common.{is_used, all_append, IsWritableNode, IsReadableNode, Rules, rule_nodes_in_print_order, printed_rules, is_printed_within_limits, IsTextReadAsSameNodes, alias_node_of_definition, used_definitions}
 use Rattle.laws_program.proofs.Common.{rules_with_used_definitions, lines_with_aliases_replaced}
 use Rattle.sudoers_grammar.specs.Node as node
-use Rattle.sudoers_cvt_rules.specs.Rules.{defaults_line_nodes_in}
+use Rattle.sudoers_cvt_rules.specs.Rules.{defaults_nodes_of_line_node}
 use Rattle.laws_program.proofs.ReadLines.{PrintedLineReadsBack, PrintedLineIsLogicalLine, PrintedLinesAreCutEach, TextHasItsReadOutcome, ReadOutcomeIsUnique, CanDefinitionsFormPolicy, writable_rules_are_read_when_printed}
 use Rattle.laws_program.proofs.RuleLines.{ReadNodeIsReadable, walk_lines_are_readable, rules_of_readable_lines_are_writable}
 use Rattle.laws_program.proofs.Flattened.{lines_expanded_keep_definitions}
@@ -17,7 +17,7 @@ nodes_made_of_readable_lines_are_readable from each [] all = tt
 nodes_made_of_readable_lines_are_readable from each (line ∷ lines) all =
     all_append IsReadableNode (from line.node) (flat_map (λ (l : Line). from l.node) lines) (each line.node all.0) (nodes_made_of_readable_lines_are_readable from each lines all.1)
 
-defaults_of_readable_node_are_readable : (n : Node) → IsReadableNode n → AllByRecursion IsReadableNode (defaults_line_nodes_in n)
+defaults_of_readable_node_are_readable : (n : Node) → IsReadableNode n → AllByRecursion IsReadableNode (defaults_nodes_of_line_node n)
 defaults_of_readable_node_are_readable (node.Defaults scope params) is = (is, tt)
 defaults_of_readable_node_are_readable n is = tt
 
@@ -35,12 +35,12 @@ readable_nodes_make_readable_lines (n ∷ ns) all = (all.0, readable_nodes_make_
 
 pub used_lines_of_readable_are_readable : (lines : List Line) → AreReadableLines lines → AreReadableLines (lines_of_used_rules lines)
 used_lines_of_readable_are_readable lines all =
-    let defaults = flat_map (λ (line : Line). defaults_line_nodes_in line.node) lines in
+    let defaults = flat_map (λ (line : Line). defaults_nodes_of_line_node line.node) lines in
     let defs = map alias_node_of_definition (used_definitions lines) in
     let specs = flat_map (λ (line : Line). user_spec_nodes_in line.node) lines in
     readable_nodes_make_readable_lines (nodes_of_used_rules lines)
     (all_append IsReadableNode (defaults ++ defs) specs
-    (all_append IsReadableNode defaults defs (nodes_made_of_readable_lines_are_readable defaults_line_nodes_in defaults_of_readable_node_are_readable lines all)
+    (all_append IsReadableNode defaults defs (nodes_made_of_readable_lines_are_readable defaults_nodes_of_line_node defaults_of_readable_node_are_readable lines all)
     (writable_definitions_make_readable_nodes (used_definitions lines) (all_filtered (is_used lines) IsWritablePlacedDefinition (definitions_of_lines lines) (definitions_from_readable_lines_are_writable 0 lines all))))
     (nodes_made_of_readable_lines_are_readable user_spec_nodes_in spec_nodes_of_readable_are_readable lines all))
 

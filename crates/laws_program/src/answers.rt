@@ -5,14 +5,14 @@ ghost use Rattle.sudoers_tree.specs.Line.{Line as LineOf};
 ghost use Rattle.laws_program.specs.ReadAs.{IsPolicyOfPrintedRules};
 ghost use Rattle.laws_program.specs.Sound.{AreWalkLinesWithoutNul};
 ghost use Rattle.sudoers_tree.specs.Load.{LoadedPolicy};
-ghost use Rattle.sudoers_check.specs.Chains.{HasReachableCycle};
+ghost use Rattle.sudoers_check.specs.Chains.{HasCyclicAliasReachedFromSpecOrDefaults};
 ghost use Rattle.sudoers_match_member.specs.declared.people_and_commands.Who.{Who as WhoOf};
 ghost use Rattle.laws_print.specs.Same.{atom_read_back};
 ghost use Rattle.sudoers_match_member.specs.declared.request.Request.{Request as RequestOf};
 ghost use Rattle.sudoers_match.specs.Alike.{KeepsAtomMatches};
 ghost use Rattle.sudoers_match.specs.Answer.{Answer as AnswerOf, IsAnswerToRequest};
 ghost use Rattle.sudoers_match.specs.Default.{IsRunasDefault};
-ghost use Rattle.sudoers_match.specs.Groups.{AreMatchingHostGroups};
+ghost use Rattle.sudoers_match.specs.Groups.{ArePlacesOfMatchingHostGroups};
 ghost use Rattle.sudoers_match.specs.declared.matching_host_groups.HostGroupPlace.{HostGroupPlace as GroupPlaceOf};
 ghost use Rattle.sudoers_cvt_rules.specs.Rules.{rules_of_policy_lines, printed_rules, is_printed_within_limits};
 
@@ -41,9 +41,9 @@ pub fn printed_rules_answer()
     ensures default { (lines : List LineOf) (policy : LoadedPolicy) → AreWalkLinesWithoutNul lines → IsPolicyOfPrintedRules (rules_of_policy_lines lines) policy
         → (who : WhoOf) (name : List ℕ) → IsRunasDefault lines who name ↔ IsRunasDefault policy.walk.lines who name }
     ensures groups { (lines : List LineOf) (policy : LoadedPolicy) → AreWalkLinesWithoutNul lines → IsPolicyOfPrintedRules (rules_of_policy_lines lines) policy
-        → (who : WhoOf) (places : List GroupPlaceOf) → AreMatchingHostGroups lines who places ↔ AreMatchingHostGroups policy.walk.lines who places }
+        → (who : WhoOf) (places : List GroupPlaceOf) → ArePlacesOfMatchingHostGroups lines who places ↔ ArePlacesOfMatchingHostGroups policy.walk.lines who places }
     ensures cycle { (lines : List LineOf) (policy : LoadedPolicy) → AreWalkLinesWithoutNul lines → IsPolicyOfPrintedRules (rules_of_policy_lines lines) policy
-        → HasReachableCycle lines ↔ HasReachableCycle policy.walk.lines }
+        → HasCyclicAliasReachedFromSpecOrDefaults lines ↔ HasCyclicAliasReachedFromSpecOrDefaults policy.walk.lines }
 {
     read_member_matches_same();
     printed_rules_are_read();

@@ -5,13 +5,13 @@ ghost use Rattle.sudoers_tree.specs.Line.{Line as LineOf};
 ghost use Rattle.laws_program.specs.ReadAs.{IsPolicyOfPrintedRules};
 ghost use Rattle.laws_program.specs.Sound.{AreWalkLinesWithoutNul};
 ghost use Rattle.sudoers_tree.specs.Load.{LoadedPolicy};
-ghost use Rattle.sudoers_check.specs.Chains.{HasReachableCycle};
+ghost use Rattle.sudoers_check.specs.Chains.{HasCyclicAliasReachedFromSpecOrDefaults};
 ghost use Rattle.sudoers_match_member.specs.declared.people_and_commands.Who.{Who as WhoOf};
 ghost use Rattle.sudoers_match_member.specs.declared.request.Request.{Request as RequestOf};
 ghost use Rattle.sudoers_match.specs.Alike.{AreAnswersSameButNumbers};
 ghost use Rattle.sudoers_match.specs.Answer.{Answer as AnswerOf, IsAnswerToRequest};
 ghost use Rattle.sudoers_match.specs.Default.{IsRunasDefault};
-ghost use Rattle.sudoers_match.specs.Groups.{AreMatchingHostGroups};
+ghost use Rattle.sudoers_match.specs.Groups.{ArePlacesOfMatchingHostGroups};
 ghost use Rattle.sudoers_match.specs.declared.matching_host_groups.HostGroupPlace.{HostGroupPlace as GroupPlaceOf};
 ghost use Rattle.sudoers_cvt_rules.specs.Rules.{printed_rules, is_printed_within_limits};
 ghost use Rattle.sudoers_cvt_rewrite.specs.Rewrite.{rules_with_used_definitions};
@@ -32,14 +32,14 @@ use sudoers_match_list::laws::{
 /// With its aliases replaced, a policy none of whose reachable aliases is cyclic answers each request the same, numbers aside. Each user
 /// has the same runas_default, and rules at the same places.
 pub fn expanded_policy_answers()
-    ensures there { (lines : List LineOf) → AreWalkLinesWithoutNul lines → (HasReachableCycle lines → ⊥) → (request : RequestOf) (answer : Option AnswerOf)
+    ensures there { (lines : List LineOf) → AreWalkLinesWithoutNul lines → (HasCyclicAliasReachedFromSpecOrDefaults lines → ⊥) → (request : RequestOf) (answer : Option AnswerOf)
         → IsAnswerToRequest lines request answer → (other : Option AnswerOf) × IsAnswerToRequest (lines_with_aliases_replaced lines) request other × AreAnswersSameButNumbers answer other }
-    ensures back { (lines : List LineOf) → AreWalkLinesWithoutNul lines → (HasReachableCycle lines → ⊥) → (request : RequestOf) (other : Option AnswerOf)
+    ensures back { (lines : List LineOf) → AreWalkLinesWithoutNul lines → (HasCyclicAliasReachedFromSpecOrDefaults lines → ⊥) → (request : RequestOf) (other : Option AnswerOf)
         → IsAnswerToRequest (lines_with_aliases_replaced lines) request other → (answer : Option AnswerOf) × IsAnswerToRequest lines request answer × AreAnswersSameButNumbers answer other }
-    ensures default { (lines : List LineOf) → AreWalkLinesWithoutNul lines → (HasReachableCycle lines → ⊥) → (who : WhoOf) (name : List ℕ)
+    ensures default { (lines : List LineOf) → AreWalkLinesWithoutNul lines → (HasCyclicAliasReachedFromSpecOrDefaults lines → ⊥) → (who : WhoOf) (name : List ℕ)
         → IsRunasDefault lines who name ↔ IsRunasDefault (lines_with_aliases_replaced lines) who name }
-    ensures groups { (lines : List LineOf) → AreWalkLinesWithoutNul lines → (HasReachableCycle lines → ⊥) → (who : WhoOf) (places : List GroupPlaceOf)
-        → AreMatchingHostGroups lines who places ↔ AreMatchingHostGroups (lines_with_aliases_replaced lines) who places }
+    ensures groups { (lines : List LineOf) → AreWalkLinesWithoutNul lines → (HasCyclicAliasReachedFromSpecOrDefaults lines → ⊥) → (who : WhoOf) (places : List GroupPlaceOf)
+        → ArePlacesOfMatchingHostGroups lines who places ↔ ArePlacesOfMatchingHostGroups (lines_with_aliases_replaced lines) who places }
 {
     flat_or_cycle();
     flattened_is_flat();
@@ -56,20 +56,20 @@ pub fn expanded_policy_answers()
 /// What is read of the printed rules of that policy, without unused definitions, answers each request the same, numbers aside. Each
 /// user has the same runas_default, and rules at the same places. No reachable alias is cyclic.
 pub fn printed_expansion_answers()
-    ensures there { (lines : List LineOf) (policy : LoadedPolicy) → AreWalkLinesWithoutNul lines → (HasReachableCycle lines → ⊥)
+    ensures there { (lines : List LineOf) (policy : LoadedPolicy) → AreWalkLinesWithoutNul lines → (HasCyclicAliasReachedFromSpecOrDefaults lines → ⊥)
         → IsPolicyOfPrintedRules (rules_with_used_definitions (lines_with_aliases_replaced lines)) policy → (request : RequestOf) (answer : Option AnswerOf)
         → IsAnswerToRequest lines request answer → (other : Option AnswerOf) × IsAnswerToRequest policy.walk.lines request other × AreAnswersSameButNumbers answer other }
-    ensures back { (lines : List LineOf) (policy : LoadedPolicy) → AreWalkLinesWithoutNul lines → (HasReachableCycle lines → ⊥)
+    ensures back { (lines : List LineOf) (policy : LoadedPolicy) → AreWalkLinesWithoutNul lines → (HasCyclicAliasReachedFromSpecOrDefaults lines → ⊥)
         → IsPolicyOfPrintedRules (rules_with_used_definitions (lines_with_aliases_replaced lines)) policy → (request : RequestOf) (other : Option AnswerOf)
         → IsAnswerToRequest policy.walk.lines request other → (answer : Option AnswerOf) × IsAnswerToRequest lines request answer × AreAnswersSameButNumbers answer other }
-    ensures default { (lines : List LineOf) (policy : LoadedPolicy) → AreWalkLinesWithoutNul lines → (HasReachableCycle lines → ⊥)
+    ensures default { (lines : List LineOf) (policy : LoadedPolicy) → AreWalkLinesWithoutNul lines → (HasCyclicAliasReachedFromSpecOrDefaults lines → ⊥)
         → IsPolicyOfPrintedRules (rules_with_used_definitions (lines_with_aliases_replaced lines)) policy → (who : WhoOf) (name : List ℕ)
         → IsRunasDefault lines who name ↔ IsRunasDefault policy.walk.lines who name }
-    ensures groups { (lines : List LineOf) (policy : LoadedPolicy) → AreWalkLinesWithoutNul lines → (HasReachableCycle lines → ⊥)
+    ensures groups { (lines : List LineOf) (policy : LoadedPolicy) → AreWalkLinesWithoutNul lines → (HasCyclicAliasReachedFromSpecOrDefaults lines → ⊥)
         → IsPolicyOfPrintedRules (rules_with_used_definitions (lines_with_aliases_replaced lines)) policy → (who : WhoOf) (places : List GroupPlaceOf)
-        → AreMatchingHostGroups lines who places ↔ AreMatchingHostGroups policy.walk.lines who places }
-    ensures straight { (lines : List LineOf) (policy : LoadedPolicy) → AreWalkLinesWithoutNul lines → (HasReachableCycle lines → ⊥)
-        → IsPolicyOfPrintedRules (rules_with_used_definitions (lines_with_aliases_replaced lines)) policy → HasReachableCycle policy.walk.lines → ⊥ }
+        → ArePlacesOfMatchingHostGroups lines who places ↔ ArePlacesOfMatchingHostGroups policy.walk.lines who places }
+    ensures straight { (lines : List LineOf) (policy : LoadedPolicy) → AreWalkLinesWithoutNul lines → (HasCyclicAliasReachedFromSpecOrDefaults lines → ⊥)
+        → IsPolicyOfPrintedRules (rules_with_used_definitions (lines_with_aliases_replaced lines)) policy → HasCyclicAliasReachedFromSpecOrDefaults policy.walk.lines → ⊥ }
 {
     expanded_rules_are_read();
     text_loads();

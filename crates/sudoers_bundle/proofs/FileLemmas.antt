@@ -10,7 +10,7 @@ use Rattle.std.specs.Prelude.{codes, nat_lt, option_and_then}
 use Rattle.std.specs.Str.{bytes_eq}
 use Rattle.sudoers_tree.specs.declared.named_files.NamedFile.{NamedFile}
 use Rattle.sudoers_bundle.specs.internal.{IsUnreadBundleRest, bundle_result_after_files}
-use Rattle.sudoers_bundle.specs.Bundle.{AllFitInBundle, FitsInBundle, file_before_bundle_result, bundle_of_files, named_file_and_rest, files_of_bundle_text, files_of_bundle_within_count, first_file_of_bundle, bundle_result_from_first, header_of_file, file_after_header, number_of_short_decimal, parts_split_at_byte}
+use Rattle.sudoers_bundle.specs.Bundle.{AllFitInBundle, FitsInBundle, file_before_bundle_result, bundle_of_files, named_file_and_rest, files_of_bundle_text, files_of_bundle_within_count, first_file_of_bundle, bundle_result_from_first, header_of_file, file_after_header_mark, number_of_short_decimal, parts_split_at_byte}
 use Rattle.sudoers_bundle.proofs.NumberLemmas.{IsNumberOfShortDecimal, decimal_lacks_byte_below_digits, short_decimal_of_number_is_read_back, number_of_short_decimal_is_below_limit, short_decimal_result_is_its_number}
 use Rattle.sudoers_bundle.proofs.PartLemmas.{IsTextCutAtByte, text_of_parts_is_cut_into_them, split_result_is_cut_at_byte, rest_of_text_lacks_missing_byte, appended_texts_lack_missing_byte}
 
@@ -69,7 +69,7 @@ record IsFileAfterHeader (rest bytes : List ℕ) (found : FileAndRest) : Type 0 
   is : IsNumberOfShortDecimal word number
   file : IsFileTakenFromBytes name bytes number found
 
-file_after_header_result_is_headed : (rest bytes : List ℕ) (found : FileAndRest) → file_after_header rest bytes ≡ Some found → IsFileAfterHeader rest bytes found
+file_after_header_result_is_headed : (rest bytes : List ℕ) (found : FileAndRest) → file_after_header_mark rest bytes ≡ Some found → IsFileAfterHeader rest bytes found
 file_after_header_result_is_headed rest bytes found is = by (parts_split_at_byte 32 rest) refl is
   where
     number : (parts : BytesBeforeAndAfter) → parts_split_at_byte 32 rest ≡ Some parts → (o : Option ℕ) → number_of_short_decimal parts.0 ≡ o → option_and_then (named_file_and_rest parts.1 bytes) o ≡ Some found
@@ -125,7 +125,7 @@ pub first_file_result_is_first_of_text : (text : List ℕ) (found : FileAndRest)
 first_file_result_is_first_of_text text found is = by (parts_split_at_byte 10 text) refl is
   where
     marked : (parts : BytesBeforeAndAfter) → parts_split_at_byte 10 text ≡ Some parts → (b : Bool) → bytes_eq (take 3 parts.0) (codes "%% ") ≡ b
-        → (if b then file_after_header (drop 3 parts.0) parts.1 else None) ≡ Some found → IsFirstFileOfText text found
+        → (if b then file_after_header_mark (drop 3 parts.0) parts.1 else None) ≡ Some found → IsFirstFileOfText text found
     marked parts cut true mark told =
         let c : IsTextCutAtByte 10 text parts = split_result_is_cut_at_byte 10 text parts cut in
         subst (λ (t : List ℕ). IsFirstFileOfText t found) (sym c.whole)
@@ -133,7 +133,7 @@ first_file_result_is_first_of_text text found is = by (parts_split_at_byte 10 te
     marked parts cut false mark told = absurd (cc)
 
     by : (o : Option BytesBeforeAndAfter) → parts_split_at_byte 10 text ≡ o
-        → option_and_then (λ (parts : BytesBeforeAndAfter). if bytes_eq (take 3 parts.0) (codes "%% ") then file_after_header (drop 3 parts.0) parts.1 else None) o ≡ Some found
+        → option_and_then (λ (parts : BytesBeforeAndAfter). if bytes_eq (take 3 parts.0) (codes "%% ") then file_after_header_mark (drop 3 parts.0) parts.1 else None) o ≡ Some found
         → IsFirstFileOfText text found
     by None cut told = absurd (cc)
     by (Some parts) cut told = marked parts cut (bytes_eq (take 3 parts.0) (codes "%% ")) refl told
@@ -158,7 +158,7 @@ first_file_of_bundle_is_read_back file rest held =
     let taken : named_file_and_rest file.name bytes n ≡ Some (file, rest) =
     rw (named, within) (ap (λ (parts : BytesBeforeAndAfter). Some (file_with_name_and_parts file.name parts)) (pair (take (length file.bytes) (file.bytes ++ rest)) (drop (length file.bytes) (file.bytes ++ rest)) file.bytes rest (take-append_seam file.bytes rest) (drop-append_seam file.bytes rest))) in
     ap first_file_of_bundle whole
-    ∙ ap (option_and_then (λ (parts : BytesBeforeAndAfter). if bytes_eq (take 3 parts.0) (codes "%% ") then file_after_header (drop 3 parts.0) parts.1 else None)) (text_of_parts_is_cut_into_them 10 line bytes lacks)
+    ∙ ap (option_and_then (λ (parts : BytesBeforeAndAfter). if bytes_eq (take 3 parts.0) (codes "%% ") then file_after_header_mark (drop 3 parts.0) parts.1 else None)) (text_of_parts_is_cut_into_them 10 line bytes lacks)
     ∙ ap (option_and_then (λ (parts : BytesBeforeAndAfter). option_and_then (named_file_and_rest parts.1 bytes) (number_of_short_decimal parts.0))) (text_of_parts_is_cut_into_them 32 (decimal n) file.name (decimal_lacks_byte_below_digits 32 n (omega arith) small))
     ∙ ap (option_and_then (named_file_and_rest file.name bytes)) (short_decimal_of_number_is_read_back n held.short)
     ∙ taken

@@ -47,15 +47,15 @@ named_file_and_rest name bytes count =
     else Some (record { name = name; bytes = take count bytes }, drop count bytes)
 
 -- the file of a header without its `%% ` and its LF, and of the bytes after it
-abbrev pub file_after_header : List ℕ → List ℕ → Option (NamedFile × List ℕ)
-file_after_header rest bytes =
+abbrev pub file_after_header_mark : List ℕ → List ℕ → Option (NamedFile × List ℕ)
+file_after_header_mark rest bytes =
     option_and_then (λ (parts : List ℕ × List ℕ). option_and_then (named_file_and_rest parts.1 bytes) (number_of_short_decimal parts.0)) (parts_split_at_byte 32 rest)
 
 -- the first file of a text, and what comes after it
 abbrev pub first_file_of_bundle : List ℕ → Option (NamedFile × List ℕ)
 first_file_of_bundle text =
     option_and_then (λ (parts : List ℕ × List ℕ).
-    if bytes_eq (take 3 parts.0) (codes "%% ") then file_after_header (drop 3 parts.0) parts.1 else None) (parts_split_at_byte 10 text)
+    if bytes_eq (take 3 parts.0) (codes "%% ") then file_after_header_mark (drop 3 parts.0) parts.1 else None) (parts_split_at_byte 10 text)
 
 -- the file before others, or the number of the first that is broken
 abbrev pub file_before_bundle_result : NamedFile → Result (List NamedFile) ℕ → Result (List NamedFile) ℕ

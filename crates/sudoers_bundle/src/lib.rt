@@ -2,7 +2,7 @@
 #![tactic(auto)]
 
 mod fault;
-mod header;
+mod header_parts;
 pub mod laws;
 mod reading;
 mod writing;

@@ -1,11 +1,11 @@
 //! Reading of bundles.
 
 ghost use Rattle.std.specs.Prelude.{◌≡◌, ◌⊎◌, ◌<◌, ℕ, length, IfOk, MatchOption, MatchResult, None, Some, Ok, Err};
-ghost use Rattle.sudoers_bundle.specs.Bundle.{named_file_and_rest, files_of_bundle_text, first_file_of_bundle, file_after_header};
+ghost use Rattle.sudoers_bundle.specs.Bundle.{named_file_and_rest, files_of_bundle_text, first_file_of_bundle, file_after_header_mark};
 ghost use Rattle.sudoers_bundle.specs.declared.fault.BundleFault.TheVariants.{BadFile, NoMemory};
 
 use crate::fault::BundleFault;
-use crate::header::{MARK, parse_short_decimal, split_around_byte};
+use crate::header_parts::{MARK, parse_short_decimal, split_around_byte};
 use std::alloc::{AllocError, Global};
 use sudoers_tree::{Items, NamedFile};
 
@@ -46,16 +46,16 @@ fn parse_first_file_of_bundle(
     if !line.starts_with(MARK) {
         return Ok(None);
     }
-    parse_file_after_header(alloc, &line[MARK.len()..], bytes)
+    parse_file_after_header_mark(alloc, &line[MARK.len()..], bytes)
 }
 
 /// Returns the file of a header, of which `rest` stands after the mark, and of the bytes after it, and what comes after the file.
-fn parse_file_after_header<'a>(
+fn parse_file_after_header_mark<'a>(
     alloc: Global,
     rest: &'a [u8],
     bytes: &'a [u8],
 ) -> Result<Option<(NamedFile, &'a [u8])>, AllocError>
-    ensures { IfOk result (λ found. MatchOption found (file_after_header rest.now bytes.now ≡ None) (λ parts. file_after_header rest.now bytes.now ≡ Some (parts.0, parts.1.now))) }
+    ensures { IfOk result (λ found. MatchOption found (file_after_header_mark rest.now bytes.now ≡ None) (λ parts. file_after_header_mark rest.now bytes.now ≡ Some (parts.0, parts.1.now))) }
 {
     let Some((word, name)) = split_around_byte(b' ', rest) else {
         return Ok(None);

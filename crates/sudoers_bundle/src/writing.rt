@@ -3,7 +3,7 @@
 ghost use Rattle.std.specs.Prelude.{◌≡◌, ◌++◌, OnOk};
 ghost use Rattle.sudoers_bundle.specs.Bundle.{bundle_of_files, header_of_file};
 
-use crate::header::MARK;
+use crate::header_parts::MARK;
 use std::alloc::{AllocError, Global};
 use sudoers_text::append_decimal_number;
 use sudoers_tree::NamedFile;

@@ -1,7 +1,7 @@
 -- What closing a group keeps.
-use Rattle.sudoers_check.proofs.Common.{AreNodesClosed, Bool, Closed, DepthSearchStep, HasEdge, HasPathBetween, IsClosedOrInLaterGroup, IsEdgeLookedAt, IsInGroupNotBefore, IsMarkOfClosedNode, IsMetNode, IsOnCycle}
-use Rattle.sudoers_check.proofs.Common.{IsReachedBySteps, KeepsSearchInvariant, List, ListHasElement, New, NodeSearchState, None, Open, Some, [], ap, arith, cases_eq, cases_lt, edge_targets_of_node, eqb_tells, false}
-use Rattle.sudoers_check.proofs.Common.{get_or, here, inl, inr, length, length-append, length-set, nat_eq, not, onward, place_of_step, set, slice_get, slice_get-get_or, slice_get_within, subst, sym, take, take-take}
+use Rattle.sudoers_check.proofs.Common.{AreOpenNodesClosedFromPlaceOn, Bool, Closed, NodeOnSearchPath, HasEdge, HasPathBetween, IsClosedOrInGroupNotBefore, IsEdgeLookedAt, IsInGroupNotBefore, IsMarkOfClosedNode, IsMetNode, IsOnCycle}
+use Rattle.sudoers_check.proofs.Common.{IsReachedByChainOfSteps, HasSearchInvariantWithNextNode, List, ListHasElement, New, NodeSearchState, None, Open, Some, [], ap, arith, cases_eq, cases_lt, edge_targets_of_node, eqb_tells, false}
+use Rattle.sudoers_check.proofs.Common.{get_or, here, inl, inr, length, length-append, length-set, nat_eq, not, onward, open_place_of_path_node, set, slice_get, slice_get-get_or, slice_get_within, subst, sym, take, take-take}
 use Rattle.sudoers_check.proofs.Common.{true, ℕ, ◌++◌, ◌+◌, ◌<◌, ◌∙◌, ◌∷◌, ◌≡◌, ◌≤◌, ◌⊎◌}
 use Rattle.std.proofs.Math.Seq.{take-append_seam}
 use Rattle.sudoers_check.proofs.Lists.{place_of, get_pushed, Has_front, Has_pushed, Has_push, get-set_same, get-set_other, get_cut, get_kept}
@@ -15,7 +15,7 @@ use Rattle.sudoers_check.proofs.Searching.{no_next_node_leaves_first_case, last_
 module _ (graph : List (List ℕ)) (alone : Bool) (standings : List NodeSearchState) (marks : List Bool) (nodes : List ℕ)
     (stands : (p v : ℕ) → slice_get nodes p ≡ Some v → slice_get standings v ≡ Some (Open p)) (sizes : length marks ≡ length standings)
     (standings_i : List NodeSearchState) (marks_i : List Bool) (nodes_i rest : List ℕ) (v : ℕ) (e : nodes_i ≡ rest ++ v ∷ [])
-    (c : AreNodesClosed graph alone (length nodes_i) standings marks nodes standings_i marks_i nodes_i) where
+    (c : AreOpenNodesClosedFromPlaceOn graph alone (length nodes_i) standings marks nodes standings_i marks_i nodes_i) where
   pub long : length nodes_i ≡ length rest + 1
   long = ap length e ∙ length-append rest (v ∷ [])
 
@@ -35,7 +35,7 @@ module _ (graph : List (List ℕ)) (alone : Bool) (standings : List NodeSearchSt
   next_within = slice_get_within standings_i v (Open (length rest)) next_stands
 
   pub closed_more : (mark : Bool) → IsMarkOfClosedNode graph alone v mark
-      → AreNodesClosed graph alone (length rest) standings marks nodes (set standings_i v Closed) (set marks_i v mark) rest
+      → AreOpenNodesClosedFromPlaceOn graph alone (length rest) standings marks nodes (set standings_i v Closed) (set marks_i v mark) rest
   closed_more mark is = record {
     nodes_are = sym (take-append_seam rest (v ∷ [])) ∙ ap (take (length rest)) (sym e ∙ c.nodes_are) ∙ take-take (length rest) (length nodes_i) nodes (omega (arith, long));
     standings_size = length-set standings_i v Closed ∙ c.standings_size;
@@ -76,7 +76,7 @@ node_in_joined_group_is_marked_cyclic graph v m n mark is apart = elim (eqb_tell
 -- no node becomes new
 pub closing_nodes_keeps_met_nodes : (graph : List (List ℕ)) (alone : Bool) (place : ℕ) (standings : List NodeSearchState) (marks : List Bool) (nodes : List ℕ)
     (standings_new : List NodeSearchState) (marks_new : List Bool) (nodes_new : List ℕ)
-    → AreNodesClosed graph alone place standings marks nodes standings_new marks_new nodes_new → (v : ℕ) → IsMetNode standings v → IsMetNode standings_new v
+    → AreOpenNodesClosedFromPlaceOn graph alone place standings marks nodes standings_new marks_new nodes_new → (v : ℕ) → IsMetNode standings v → IsMetNode standings_new v
 closing_nodes_keeps_met_nodes graph alone place standings marks nodes standings_new marks_new nodes_new c v met e = elim (c.others v) [
   | inl same ↦ met (sym same.0 ∙ e)
   | inr o ↦ let clash : Some Closed ≡ Some New = sym o.4 ∙ e in absurd cc
@@ -84,11 +84,11 @@ closing_nodes_keeps_met_nodes graph alone place standings marks nodes standings_
 
 -- ---- the last group is closed
 
-module _ (graph : List (List ℕ)) (standings : List NodeSearchState) (marks : List Bool) (nodes groups : List ℕ) (way : List DepthSearchStep) (step : DepthSearchStep)
-    (f : KeepsSearchInvariant graph None standings marks nodes (groups ++ step.place ∷ []) (way ++ step ∷ []))
+module _ (graph : List (List ℕ)) (standings : List NodeSearchState) (marks : List Bool) (nodes groups : List ℕ) (way : List NodeOnSearchPath) (step : NodeOnSearchPath)
+    (f : HasSearchInvariantWithNextNode graph None standings marks nodes (groups ++ step.place ∷ []) (way ++ step ∷ []))
     (done : length (edge_targets_of_node graph step.node) ≤ step.edges)
     (standings_new : List NodeSearchState) (marks_new : List Bool) (nodes_new : List ℕ)
-    (c : AreNodesClosed graph (nat_eq (step.place + 1) (length nodes)) step.place standings marks nodes standings_new marks_new nodes_new) where
+    (c : AreOpenNodesClosedFromPlaceOn graph (nat_eq (step.place + 1) (length nodes)) step.place standings marks nodes standings_new marks_new nodes_new) where
   starts_before : (b : ℕ) → ListHasElement (groups ++ step.place ∷ []) b → b ≤ step.place
   starts_before = starts_up_to graph standings marks nodes (groups ++ step.place ∷ []) way step f
 
@@ -114,7 +114,7 @@ module _ (graph : List (List ℕ)) (standings : List NodeSearchState) (marks : L
       → (slice_get standings x ≡ Some Closed) ⊎ ((q : ℕ) × (slice_get nodes q ≡ Some x) × (step.place ≤ q))
   beyond p v le at x e =
       let j = place_of (edge_targets_of_node graph v) x e in
-      let on_way_past : IsEdgeLookedAt way p j.0 = (λ t k on. absurd (let lt : t.place < step.place = ascends_last place_of_step way step f.way_ascends t k in omega arith)) in
+      let on_way_past : IsEdgeLookedAt way p j.0 = (λ t k on. absurd (let lt : t.place < step.place = ascends_last open_place_of_path_node way step f.way_ascends t k in omega arith)) in
       let looked : IsEdgeLookedAt (way ++ step ∷ []) p j.0 = looked_all graph standings marks nodes (groups ++ step.place ∷ []) way step f done p j.0 v x at j.1 on_way_past in
       elim (no_next_node_leaves_first_case x (f.looked p j.0 v x at j.1 looked)) [
         | inl cl ↦ inl cl
@@ -145,12 +145,12 @@ module _ (graph : List (List ℕ)) (standings : List NodeSearchState) (marks : L
       let b = before p v at_p in
       f.paths p q v x b.1 (before q x at_q).1 (λ g h le. elim (Has_push groups step.place g h) [ inl k ↦ nb g k le | inr same ↦ absurd (omega (arith, b.0)) ])
 
-  looked_then : (p j v x : ℕ) → slice_get nodes_new p ≡ Some v → slice_get (edge_targets_of_node graph v) j ≡ Some x → IsEdgeLookedAt way p j → IsClosedOrInLaterGroup standings_new nodes_new groups p x
+  looked_then : (p j v x : ℕ) → slice_get nodes_new p ≡ Some v → slice_get (edge_targets_of_node graph v) j ≡ Some x → IsEdgeLookedAt way p j → IsClosedOrInGroupNotBefore standings_new nodes_new groups p x
   looked_then p j v x at e l =
       let b = before p v at in
       elim (no_next_node_leaves_first_case x (f.looked p j v x b.1 e (λ t h on. elim (Has_push way step t h) [
         | inl k ↦ l t k on
-        | inr is ↦ let same : step.place ≡ t.place = ap place_of_step is in absurd (omega (arith, b.0))
+        | inr is ↦ let same : step.place ≡ t.place = ap open_place_of_path_node is in absurd (omega (arith, b.0))
       ]))) [
         | inl cl ↦ inl (stays_closed x cl)
         | inr o ↦ elim (cases_lt o.0 step.place) [
@@ -205,7 +205,7 @@ module _ (graph : List (List ℕ)) (standings : List NodeSearchState) (marks : L
   ]
     where
       all_closed : (p v : ℕ) → step.place ≤ p → slice_get nodes p ≡ Some v → nat_eq (step.place + 1) (length nodes) ≡ true → (HasEdge graph v v → ⊥)
-          → (x : ℕ) → IsReachedBySteps (HasEdge graph) (HasEdge graph v) x → slice_get standings x ≡ Some Closed
+          → (x : ℕ) → IsReachedByChainOfSteps (HasEdge graph) (HasEdge graph v) x → slice_get standings x ≡ Some Closed
       all_closed p v le at alone none x (here y e) = elim (beyond p v le at x e) [
         | inl cl ↦ cl
         | inr q ↦ elim (eqb_tells (step.place + 1) (length nodes)) [
@@ -222,7 +222,7 @@ module _ (graph : List (List ℕ)) (standings : List NodeSearchState) (marks : L
       ]
       all_closed p v le at alone none x (onward y z ch e) = f.closed y z (all_closed p v le at alone none y ch) e
 
-  pub left_closed : KeepsSearchInvariant graph None standings_new marks_new nodes_new groups way
+  pub left_closed : HasSearchInvariantWithNextNode graph None standings_new marks_new nodes_new groups way
   left_closed = record {
     standings_size = c.standings_size ∙ f.standings_size;
     marks_size = c.marks_size ∙ f.marks_size;
@@ -233,15 +233,15 @@ module _ (graph : List (List ℕ)) (standings : List NodeSearchState) (marks : L
     closed = closed_now;
     marked = marked_now;
     unmarked = unmarked_now;
-    on_way = λ t h. remains t.place t.node (ascends_last place_of_step way step f.way_ascends t h) (f.on_way t (Has_front way (step ∷ []) t h));
-    way_ascends = ascends_front place_of_step way (step ∷ []) f.way_ascends;
+    on_way = λ t h. remains t.place t.node (ascends_last open_place_of_path_node way step f.way_ascends t h) (f.on_way t (Has_front way (step ∷ []) t h));
+    way_ascends = ascends_front open_place_of_path_node way (step ∷ []) f.way_ascends;
     groups_ascend = ascends_front (λ n. n) groups (step.place ∷ []) f.groups_ascend;
     starts = λ b h.
         let t = f.starts b (Has_front groups (step.place ∷ []) b h) in
         elim (Has_push way step t.0 t.1) [
           | inl k ↦ (t.0, k, t.2)
           | inr is ↦
-              let same : step.place ≡ t.0.place = ap place_of_step is in
+              let same : step.place ≡ t.0.place = ap open_place_of_path_node is in
               let lt : b < step.place = ascends_last (λ n. n) groups step.place f.groups_ascend b h in
               absurd (omega (arith, t.2))
         ];

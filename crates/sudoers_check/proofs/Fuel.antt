@@ -1,5 +1,5 @@
 -- How many steps of the search are left.
-use Rattle.sudoers_check.proofs.Common.{Closed, DepthSearchStep, List, New, NodeSearchState, Open, Some, [], arith, edge_targets_of_node, length, refl, set, slice_get, steps_left_for_new_nodes, steps_left_on_path}
+use Rattle.sudoers_check.proofs.Common.{Closed, NodeOnSearchPath, List, New, NodeSearchState, Open, Some, [], arith, edge_targets_of_node, length, refl, set, slice_get, steps_left_for_new_nodes, steps_left_on_path}
 use Rattle.sudoers_check.proofs.Common.{suc, zero, ℕ, ◌++◌, ◌+◌, ◌-◌, ◌∷◌, ◌≡◌}
 
 pub entering_node_uses_its_search_steps : (standings : List NodeSearchState) (graph : List (List ℕ)) (v p : ℕ) → slice_get standings v ≡ Some New → length standings ≡ length graph
@@ -25,7 +25,7 @@ closing_node_keeps_search_steps_left (New ∷ ss) (es ∷ graph) (suc v) p is = 
 closing_node_keeps_search_steps_left (Open q ∷ ss) (es ∷ graph) (suc v) p is = closing_node_keeps_search_steps_left ss graph v p is
 closing_node_keeps_search_steps_left (Closed ∷ ss) (es ∷ graph) (suc v) p is = closing_node_keeps_search_steps_left ss graph v p is
 
-pub pushed_step_adds_its_steps_left : (graph : List (List ℕ)) (way : List DepthSearchStep) (s : DepthSearchStep)
+pub pushed_step_adds_its_steps_left : (graph : List (List ℕ)) (way : List NodeOnSearchPath) (s : NodeOnSearchPath)
     → steps_left_on_path graph (way ++ s ∷ []) ≡ steps_left_on_path graph way + (1 + (length (edge_targets_of_node graph s.node) - s.edges))
 pushed_step_adds_its_steps_left graph [] s = omega arith
 pushed_step_adds_its_steps_left graph (t ∷ way) s = omega (arith, pushed_step_adds_its_steps_left graph way s)

@@ -1,5 +1,5 @@
 -- What is computed of chains agrees with them.
-use Rattle.sudoers_check.proofs.Common.{Bool, DefinitionMentionsName, IsCyclic, IsReachable, IsReachedBySteps, Kind, Line, List, ListHasElement, PlacedDefinition, [], alias_names_among_members, ap, arith, cond}
+use Rattle.sudoers_check.proofs.Common.{Bool, DefinitionMentionsName, IsCyclic, IsReachedFromSpecOrDefaults, IsReachedByChainOfSteps, Kind, Line, List, ListHasElement, PlacedDefinition, [], alias_names_among_members, ap, arith, cond}
 use Rattle.sudoers_check.proofs.Common.{definitions_left_after_rounds, definitions_of_lines, false, filter, here, inl, inr, is_cyclic, is_definition_of_name, is_definition_of_names, is_reached_from_names, is_unused}
 use Rattle.sudoers_check.proofs.Common.{length, list_any, names_mentioned_by, not, onward, refl, root_alias_names, subst, suc, sym, true, zero, ℕ, ◌<◌, ◌||◌, ◌∙◌, ◌∷◌, ◌≡◌, ◌≤◌, ◌⊎◌}
 use Rattle.sudoers_check.proofs.Named.{truth_value_is_not_true_and_false, truth_value_is_true_or_false, element_of_part_is_in_flat_map, flat_map_element_is_of_some_part, passing_element_is_in_filtered, filtered_element_is_in_list_and_passes, passing_list_has_passing_element, passing_element_makes_list_pass, definition_of_name_has_kind_and_name, definition_of_kind_and_name_defines_it, definition_is_of_its_own_name, defined_name_has_definition_in_list, definition_in_list_defines_its_name}
@@ -15,7 +15,7 @@ not_being_false_is_true false e = cc
 -- WHAT IS TAKEN OUT IS LED TO
 
 abbrev IsNameReachedByMentions : Kind → List PlacedDefinition → List (List ℕ) → List ℕ → Type 0
-IsNameReachedByMentions k all from = IsReachedBySteps (DefinitionMentionsName k all) (ListHasElement from)
+IsNameReachedByMentions k all from = IsReachedByChainOfSteps (DefinitionMentionsName k all) (ListHasElement from)
 
 -- those that are named are led to, and so is what they mention
 names_mentioned_by_reached_are_reached : (k : Kind) (all : List PlacedDefinition) (from names : List (List ℕ)) (ds : List PlacedDefinition) → ((name : List ℕ) → ListHasElement names name → IsNameReachedByMentions k all from name)
@@ -173,14 +173,14 @@ reached_name_is_defined_by_none_left k all from ds c name (onward x y led joins)
 
 -- BOTH WAYS
 
-pub definition_found_reached_is_reached : (names : List (List ℕ)) (ds : List PlacedDefinition) (d : PlacedDefinition) → ListHasElement ds d → is_reached_from_names names ds d ≡ true → IsReachedBySteps (DefinitionMentionsName d.kind ds) (ListHasElement names) d.def.name
+pub definition_found_reached_is_reached : (names : List (List ℕ)) (ds : List PlacedDefinition) (d : PlacedDefinition) → ListHasElement ds d → is_reached_from_names names ds d ≡ true → IsReachedByChainOfSteps (DefinitionMentionsName d.kind ds) (ListHasElement names) d.def.name
 definition_found_reached_is_reached names ds d h e =
-    elim (definition_is_left_or_reached (length ds) d.kind ds names names ds (λ name has. here name has) (λ x has. has) d h refl) as (λ _. IsReachedBySteps (DefinitionMentionsName d.kind ds) (ListHasElement names) d.def.name) [
+    elim (definition_is_left_or_reached (length ds) d.kind ds names names ds (λ name has. here name has) (λ x has. has) d h refl) as (λ _. IsReachedByChainOfSteps (DefinitionMentionsName d.kind ds) (ListHasElement names) d.def.name) [
       | inl left ↦ absurd (truth_value_is_not_true_and_false _ (definition_in_list_defines_its_name d.kind d.def.name _ d left (definition_is_of_its_own_name d)) (not_being_true_is_false _ e))
       | inr led ↦ led
     ]
 
-pub definition_found_unreached_is_not_reached : (names : List (List ℕ)) (ds : List PlacedDefinition) (d : PlacedDefinition) → is_reached_from_names names ds d ≡ false → IsReachedBySteps (DefinitionMentionsName d.kind ds) (ListHasElement names) d.def.name → ⊥
+pub definition_found_unreached_is_not_reached : (names : List (List ℕ)) (ds : List PlacedDefinition) (d : PlacedDefinition) → is_reached_from_names names ds d ≡ false → IsReachedByChainOfSteps (DefinitionMentionsName d.kind ds) (ListHasElement names) d.def.name → ⊥
 definition_found_unreached_is_not_reached names ds d e led =
     let left = defined_name_has_definition_in_list d.kind d.def.name (definitions_left_after_rounds (length ds) d.kind names ds) (not_being_false_is_true _ e) in
     let begun : SeeksMentionsOfTakenDefinitions d.kind ds names names ds = record {
@@ -189,10 +189,10 @@ definition_found_unreached_is_not_reached names ds d e led =
     } in
     reached_name_is_defined_by_none_left d.kind ds names (definitions_left_after_rounds (length ds) d.kind names ds) (search_of_enough_rounds_is_closed (length ds) d.kind ds names names ds (omega arith) begun) d.def.name led left.0 left.1 left.2
 
-pub unused_definition_is_not_reachable : (lines : List Line) (d : PlacedDefinition) → ListHasElement (definitions_of_lines lines) d → is_unused lines d ≡ true → IsReachable d.kind lines d.def.name → ⊥
+pub unused_definition_is_not_reachable : (lines : List Line) (d : PlacedDefinition) → ListHasElement (definitions_of_lines lines) d → is_unused lines d ≡ true → IsReachedFromSpecOrDefaults d.kind lines d.def.name → ⊥
 unused_definition_is_not_reachable lines d h e = definition_found_unreached_is_not_reached (root_alias_names d.kind lines) (definitions_of_lines lines) d (not_being_true_is_false _ e)
 
-pub used_definition_is_reachable : (lines : List Line) (d : PlacedDefinition) → ListHasElement (definitions_of_lines lines) d → is_unused lines d ≡ false → IsReachable d.kind lines d.def.name
+pub used_definition_is_reachable : (lines : List Line) (d : PlacedDefinition) → ListHasElement (definitions_of_lines lines) d → is_unused lines d ≡ false → IsReachedFromSpecOrDefaults d.kind lines d.def.name
 used_definition_is_reachable lines d h e = definition_found_reached_is_reached (root_alias_names d.kind lines) (definitions_of_lines lines) d h (not_being_false_is_true _ e)
 
 pub definition_found_cyclic_is_cyclic : (lines : List Line) (d : PlacedDefinition) → ListHasElement (definitions_of_lines lines) d → is_cyclic lines d ≡ true → IsCyclic lines d

@@ -1,9 +1,9 @@
 -- Chains of mentions are those of the graph.
-use Rattle.sudoers_check.proofs.Common.{AreValidWalkLines, Bool, DefinitionMentionsName, HasEdge, HaveDistinctNames, IsOnCycle, IsReachedBySteps, IsReachedFromNodes, Kind, Line, List, ListHasElement}
+use Rattle.sudoers_check.proofs.Common.{AreValidWalkLines, Bool, DefinitionMentionsName, HasEdge, HaveDistinctNames, IsOnCycle, IsReachedByChainOfSteps, IsReachedFromNodes, Kind, Line, List, ListHasElement}
 use Rattle.sudoers_check.proofs.Common.{MarksDecidePredicate, Member, Mention, Node, None, Option, PlacedDefinition, Some, [], alias_names_among_members, alias_names_of_atom, ap, arith, cons_option}
 use Rattle.sudoers_check.proofs.Common.{definitions_of_lines, definitions_with_mark, edge_targets_of_node, false, filter, first_definition_of, flat_map, graph_nodes_of_definitions, here, if◌then◌else◌, inl, inr}
-use Rattle.sudoers_check.proofs.Common.{is_cyclic, is_definition_of_name, is_equal_kind, is_spec_or_defaults_node, is_unused, is_used, length, map, mention_graph_of_definitions, mentions_in_node, not}
-use Rattle.sudoers_check.proofs.Common.{number_of_definition, numbers_of_defined_mentions, numbers_of_defined_names, onward, option_map, refl, root_alias_names, root_names_in_node, root_numbers_in_lines_from}
+use Rattle.sudoers_check.proofs.Common.{is_cyclic, is_definition_of_name, is_equal_kind, is_spec_or_defaults_line_node, is_unused, is_used, length, map, mention_graph_of_definitions, mentions_in_node, not}
+use Rattle.sudoers_check.proofs.Common.{number_of_definition, numbers_of_defined_mentions, numbers_of_defined_names, onward, option_map, refl, root_alias_names, root_names_in_node, root_numbers_in_lines_numbered_from}
 use Rattle.sudoers_check.proofs.Common.{slice_get, subst, suc, sym, true, zero, ℕ, ◌++◌, ◌+◌, ◌∙◌, ◌∷◌, ◌≡◌, ◌⊎◌}
 use Rattle.sudoers_grammar.specs.Node as node
 use Rattle.sudoers_check.proofs.Named.{element_of_appended_is_in_either, element_of_front_is_in_appended, element_of_back_is_in_appended, element_of_part_is_in_flat_map, flat_map_element_is_of_some_part, kinds_tested_equal_are_equal, kind_is_equal_to_itself, definition_of_name_has_kind_and_name, definition_is_of_its_own_name}
@@ -132,7 +132,7 @@ definition_in_valid_lines_has_number lines walk d h =
 -- chains of the graph are those of mentions
 graph_chain_is_mention_chain : (ds : List PlacedDefinition) (From : ℕ → Type 0) (Begun : Kind → List ℕ → Type 0)
     → ((i : ℕ) (d : PlacedDefinition) → From i → slice_get ds i ≡ Some d → Begun d.kind d.def.name)
-    → (i : ℕ) → IsReachedBySteps (HasEdge (mention_graph_of_definitions ds)) From i → (d : PlacedDefinition) → slice_get ds i ≡ Some d → IsReachedBySteps (DefinitionMentionsName d.kind ds) (Begun d.kind) d.def.name
+    → (i : ℕ) → IsReachedByChainOfSteps (HasEdge (mention_graph_of_definitions ds)) From i → (d : PlacedDefinition) → slice_get ds i ≡ Some d → IsReachedByChainOfSteps (DefinitionMentionsName d.kind ds) (Begun d.kind) d.def.name
 graph_chain_is_mention_chain ds From Begun begun i (here x from) d at = here d.def.name (begun x d from at)
 graph_chain_is_mention_chain ds From Begun begun i (onward x y chain leads) d at =
     let by = node_with_edge_is_a_definition ds ds x y leads in
@@ -140,15 +140,15 @@ graph_chain_is_mention_chain ds From Begun begun i (onward x y chain leads) d at
     let said = number_of_names_is_of_a_name source.kind (alias_names_among_members source.def.members) ds y (subst (λ edges. ListHasElement edges y) (graph_node_has_numbers_of_mentioned_names ds ds x source by.1) leads) in
     let is = definition_of_name_has_kind_and_name source.kind said.0 d (definition_with_number_has_its_name source.kind said.0 ds y d said.2 at) in
     let before = graph_chain_is_mention_chain ds From Begun begun x chain source by.1 in
-    let whole : IsReachedBySteps (DefinitionMentionsName source.kind ds) (Begun source.kind) said.0 =
+    let whole : IsReachedByChainOfSteps (DefinitionMentionsName source.kind ds) (Begun source.kind) said.0 =
     onward source.def.name said.0 before (record { by = source; stands = list_has_element_at_its_index ds x source by.1; of_kind = refl; of_name = refl; mentions = said.1 }) in
-    subst (λ k. IsReachedBySteps (DefinitionMentionsName k ds) (Begun k) d.def.name) (sym is.0) (subst (λ n. IsReachedBySteps (DefinitionMentionsName source.kind ds) (Begun source.kind) n) (sym is.1) whole)
+    subst (λ k. IsReachedByChainOfSteps (DefinitionMentionsName k ds) (Begun k) d.def.name) (sym is.0) (subst (λ n. IsReachedByChainOfSteps (DefinitionMentionsName source.kind ds) (Begun source.kind) n) (sym is.1) whole)
 
 -- chains of mentions are those of the graph
 mention_chain_is_graph_chain : (ds : List PlacedDefinition) → HaveDistinctNames ds → (From : ℕ → Type 0) (k : Kind) (Begun : List ℕ → Type 0)
     → ((name : List ℕ) (i : ℕ) → Begun name → number_of_definition k name ds ≡ Some i → From i)
-    → (name : List ℕ) → IsReachedBySteps (DefinitionMentionsName k ds) Begun name → (i : ℕ) (d : PlacedDefinition) → slice_get ds i ≡ Some d → d.kind ≡ k → d.def.name ≡ name
-    → IsReachedBySteps (HasEdge (mention_graph_of_definitions ds)) From i
+    → (name : List ℕ) → IsReachedByChainOfSteps (DefinitionMentionsName k ds) Begun name → (i : ℕ) (d : PlacedDefinition) → slice_get ds i ≡ Some d → d.kind ≡ k → d.def.name ≡ name
+    → IsReachedByChainOfSteps (HasEdge (mention_graph_of_definitions ds)) From i
 mention_chain_is_graph_chain ds once From k Begun begun name (here x is) i d at kind called =
     let own : number_of_definition k x ds ≡ Some i = ap (λ j. number_of_definition j x ds) (sym kind) ∙ ap (λ n. number_of_definition d.kind n ds) (sym called) ∙ definition_has_its_own_number ds once i d at in
     here i (begun x i is own)
@@ -174,7 +174,7 @@ defined_mention_has_number_among_numbers ds [] i m h e = absurd h
 defined_mention_has_number_among_numbers ds (n ∷ ms) i m (inl same) e = cons_option_has_its_head (number_of_definition n.kind n.name ds) (numbers_of_defined_mentions ds ms) i (ap (λ (x : Mention). number_of_definition x.kind x.name ds) same ∙ e)
 defined_mention_has_number_among_numbers ds (n ∷ ms) i m (inr h) e = cons_option_keeps_element_of_list (number_of_definition n.kind n.name ds) (numbers_of_defined_mentions ds ms) i (defined_mention_has_number_among_numbers ds ms i m h e)
 
-names_of_rooting_mentions_are_root_names : (k : Kind) (line : ℕ) (n : Node) → is_spec_or_defaults_node n ≡ true → flat_map (name_if_mention_of_kind k) (mentions_in_node line n) ≡ root_names_in_node k n
+names_of_rooting_mentions_are_root_names : (k : Kind) (line : ℕ) (n : Node) → is_spec_or_defaults_line_node n ≡ true → flat_map (name_if_mention_of_kind k) (mentions_in_node line n) ≡ root_names_in_node k n
 names_of_rooting_mentions_are_root_names k line (node.Spec users groups) e = items_picked_from_node_are_of_members k line (name_if_mention_of_kind k) (λ (m : Member). alias_names_of_atom m.atom) (mention_name_is_picked_from_member k line) (node.Spec users groups)
 names_of_rooting_mentions_are_root_names k line (node.Defaults scope params) e = items_picked_from_node_are_of_members k line (name_if_mention_of_kind k) (λ (m : Member). alias_names_of_atom m.atom) (mention_name_is_picked_from_member k line) (node.Defaults scope params)
 names_of_rooting_mentions_are_root_names k line (node.Alias j defs) e = absurd cc
@@ -182,7 +182,7 @@ names_of_rooting_mentions_are_root_names k line node.Blank e = absurd cc
 names_of_rooting_mentions_are_root_names k line node.Comment e = absurd cc
 names_of_rooting_mentions_are_root_names k line (node.Include dir path) e = absurd cc
 
-node_of_other_sort_has_no_roots : (k : Kind) (n : Node) → is_spec_or_defaults_node n ≡ false → root_names_in_node k n ≡ []
+node_of_other_sort_has_no_roots : (k : Kind) (n : Node) → is_spec_or_defaults_line_node n ≡ false → root_names_in_node k n ≡ []
 node_of_other_sort_has_no_roots k (node.Spec users groups) e = absurd cc
 node_of_other_sort_has_no_roots k (node.Defaults scope params) e = absurd cc
 node_of_other_sort_has_no_roots k (node.Alias j defs) e = refl
@@ -202,17 +202,17 @@ name_of_kind_is_that_of_mention k m name h = by (is_equal_kind k m.kind) refl h
     by true t (inr g) = absurd g
     by false t g = absurd g
 
-root_number_is_of_a_root_name : (ds : List PlacedDefinition) (n : ℕ) (lines : List Line) (i : ℕ) → ListHasElement (root_numbers_in_lines_from ds n lines) i
+root_number_is_of_a_root_name : (ds : List PlacedDefinition) (n : ℕ) (lines : List Line) (i : ℕ) → ListHasElement (root_numbers_in_lines_numbered_from ds n lines) i
     → (k : Kind) × (name : List ℕ) × ListHasElement (root_alias_names k lines) name × (number_of_definition k name ds ≡ Some i)
 root_number_is_of_a_root_name ds n [] i h = absurd h
 root_number_is_of_a_root_name ds n (line ∷ lines) i h =
-    elim (element_of_appended_is_in_either (if is_spec_or_defaults_node line.node then numbers_of_defined_mentions ds (mentions_in_node n line.node) else []) (root_numbers_in_lines_from ds (n + 1) lines) i h)
+    elim (element_of_appended_is_in_either (if is_spec_or_defaults_line_node line.node then numbers_of_defined_mentions ds (mentions_in_node n line.node) else []) (root_numbers_in_lines_numbered_from ds (n + 1) lines) i h)
     as (λ _. (k : Kind) × (name : List ℕ) × ListHasElement (root_alias_names k (line ∷ lines)) name × (number_of_definition k name ds ≡ Some i)) [
-      | inl first ↦ by (is_spec_or_defaults_node line.node) refl first
+      | inl first ↦ by (is_spec_or_defaults_line_node line.node) refl first
       | inr later ↦ let r = root_number_is_of_a_root_name ds (n + 1) lines i later in (r.0, r.1, element_of_back_is_in_appended (root_names_in_node r.0 line.node) (root_alias_names r.0 lines) r.1 r.2, r.3)
     ]
   where
-    by : (b : Bool) → is_spec_or_defaults_node line.node ≡ b → ListHasElement (if b then numbers_of_defined_mentions ds (mentions_in_node n line.node) else []) i
+    by : (b : Bool) → is_spec_or_defaults_line_node line.node ≡ b → ListHasElement (if b then numbers_of_defined_mentions ds (mentions_in_node n line.node) else []) i
         → (k : Kind) × (name : List ℕ) × ListHasElement (root_alias_names k (line ∷ lines)) name × (number_of_definition k name ds ≡ Some i)
     by true t g =
         let m = number_of_mentions_is_of_a_mention ds (mentions_in_node n line.node) i g in
@@ -222,15 +222,15 @@ root_number_is_of_a_root_name ds n (line ∷ lines) i h =
     by false t g = absurd g
 
 defined_root_name_has_root_number : (ds : List PlacedDefinition) (n : ℕ) (lines : List Line) (k : Kind) (name : List ℕ) (i : ℕ) → ListHasElement (root_alias_names k lines) name → number_of_definition k name ds ≡ Some i
-    → ListHasElement (root_numbers_in_lines_from ds n lines) i
+    → ListHasElement (root_numbers_in_lines_numbered_from ds n lines) i
 defined_root_name_has_root_number ds n [] k name i h e = absurd h
 defined_root_name_has_root_number ds n (line ∷ lines) k name i h e =
-    elim (element_of_appended_is_in_either (root_names_in_node k line.node) (root_alias_names k lines) name h) as (λ _. ListHasElement (root_numbers_in_lines_from ds n (line ∷ lines)) i) [
-      | inl first ↦ element_of_front_is_in_appended (if is_spec_or_defaults_node line.node then numbers_of_defined_mentions ds (mentions_in_node n line.node) else []) (root_numbers_in_lines_from ds (n + 1) lines) i (by (is_spec_or_defaults_node line.node) refl first)
-      | inr later ↦ element_of_back_is_in_appended (if is_spec_or_defaults_node line.node then numbers_of_defined_mentions ds (mentions_in_node n line.node) else []) (root_numbers_in_lines_from ds (n + 1) lines) i (defined_root_name_has_root_number ds (n + 1) lines k name i later e)
+    elim (element_of_appended_is_in_either (root_names_in_node k line.node) (root_alias_names k lines) name h) as (λ _. ListHasElement (root_numbers_in_lines_numbered_from ds n (line ∷ lines)) i) [
+      | inl first ↦ element_of_front_is_in_appended (if is_spec_or_defaults_line_node line.node then numbers_of_defined_mentions ds (mentions_in_node n line.node) else []) (root_numbers_in_lines_numbered_from ds (n + 1) lines) i (by (is_spec_or_defaults_line_node line.node) refl first)
+      | inr later ↦ element_of_back_is_in_appended (if is_spec_or_defaults_line_node line.node then numbers_of_defined_mentions ds (mentions_in_node n line.node) else []) (root_numbers_in_lines_numbered_from ds (n + 1) lines) i (defined_root_name_has_root_number ds (n + 1) lines k name i later e)
     ]
   where
-    by : (b : Bool) → is_spec_or_defaults_node line.node ≡ b → ListHasElement (root_names_in_node k line.node) name → ListHasElement (if b then numbers_of_defined_mentions ds (mentions_in_node n line.node) else []) i
+    by : (b : Bool) → is_spec_or_defaults_line_node line.node ≡ b → ListHasElement (root_names_in_node k line.node) name → ListHasElement (if b then numbers_of_defined_mentions ds (mentions_in_node n line.node) else []) i
     by true t g =
         let m = flat_map_element_is_of_some_part (name_if_mention_of_kind k) (mentions_in_node n line.node) name (subst (λ names. ListHasElement names name) (sym (names_of_rooting_mentions_are_root_names k n line.node t)) g) in
         let x : Mention = m.0 in
@@ -239,7 +239,7 @@ defined_root_name_has_root_number ds n (line ∷ lines) k name i h e =
     by false t g = subst (λ names. ListHasElement names name) (node_of_other_sort_has_no_roots k line.node t) g
 
 -- what is mentioned there is a root of its kind
-definition_of_root_number_has_root_name : (lines : List Line) (i : ℕ) (d : PlacedDefinition) → ListHasElement (root_numbers_in_lines_from (definitions_of_lines lines) 0 lines) i → slice_get (definitions_of_lines lines) i ≡ Some d → ListHasElement (root_alias_names d.kind lines) d.def.name
+definition_of_root_number_has_root_name : (lines : List Line) (i : ℕ) (d : PlacedDefinition) → ListHasElement (root_numbers_in_lines_numbered_from (definitions_of_lines lines) 0 lines) i → slice_get (definitions_of_lines lines) i ≡ Some d → ListHasElement (root_alias_names d.kind lines) d.def.name
 definition_of_root_number_has_root_name lines i d h at =
     let said = root_number_is_of_a_root_name (definitions_of_lines lines) 0 lines i h in
     let is = definition_of_name_has_kind_and_name said.0 said.1 d (definition_with_number_has_its_name said.0 said.1 (definitions_of_lines lines) i d said.3 at) in
@@ -291,7 +291,7 @@ truth_value_not_true_is_false true h = absurd (h refl)
 truth_value_not_true_is_false false h = refl
 
 pub reached_node_marks_are_used_definitions : (lines : List Line) (marks : List Bool) → HaveDistinctNames (definitions_of_lines lines)
-    → MarksDecidePredicate (IsReachedFromNodes (mention_graph_of_definitions (definitions_of_lines lines)) (root_numbers_in_lines_from (definitions_of_lines lines) 0 lines)) (length (mention_graph_of_definitions (definitions_of_lines lines))) marks
+    → MarksDecidePredicate (IsReachedFromNodes (mention_graph_of_definitions (definitions_of_lines lines)) (root_numbers_in_lines_numbered_from (definitions_of_lines lines) 0 lines)) (length (mention_graph_of_definitions (definitions_of_lines lines))) marks
     → marks ≡ map (is_used lines) (definitions_of_lines lines)
 reached_node_marks_are_used_definitions lines marks once are =
     marks_of_predicate_are_its_values (is_used lines) marks (definitions_of_lines lines) (are.size ∙ mention_graph_has_node_per_definition (definitions_of_lines lines)) each
@@ -299,10 +299,10 @@ reached_node_marks_are_used_definitions lines marks once are =
     each : (i : ℕ) (d : PlacedDefinition) (b : Bool) → slice_get (definitions_of_lines lines) i ≡ Some d → slice_get marks i ≡ Some b → is_used lines d ≡ b
     each i d true at mark =
         ap not (truth_value_not_true_is_false (is_unused lines d) (λ e. unused_definition_is_not_reachable lines d (list_has_element_at_its_index (definitions_of_lines lines) i d at) e
-        (graph_chain_is_mention_chain (definitions_of_lines lines) (ListHasElement (root_numbers_in_lines_from (definitions_of_lines lines) 0 lines)) (λ k. ListHasElement (root_alias_names k lines)) (definition_of_root_number_has_root_name lines) i (are.holds i mark) d at)))
+        (graph_chain_is_mention_chain (definitions_of_lines lines) (ListHasElement (root_numbers_in_lines_numbered_from (definitions_of_lines lines) 0 lines)) (λ k. ListHasElement (root_alias_names k lines)) (definition_of_root_number_has_root_name lines) i (are.holds i mark) d at)))
     each i d false at mark =
         ap not (truth_value_not_false_is_true (is_unused lines d) (λ e. are.fails i mark
-        (mention_chain_is_graph_chain (definitions_of_lines lines) once (ListHasElement (root_numbers_in_lines_from (definitions_of_lines lines) 0 lines)) d.kind (ListHasElement (root_alias_names d.kind lines))
+        (mention_chain_is_graph_chain (definitions_of_lines lines) once (ListHasElement (root_numbers_in_lines_numbered_from (definitions_of_lines lines) 0 lines)) d.kind (ListHasElement (root_alias_names d.kind lines))
         (λ name j h number. defined_root_name_has_root_number (definitions_of_lines lines) 0 lines d.kind name j h number) d.def.name
         (used_definition_is_reachable lines d (list_has_element_at_its_index (definitions_of_lines lines) i d at) e) i d at refl refl)))
 

@@ -1,6 +1,6 @@
 -- The numbers of definitions, by their places.
 use Rattle.sudoers_check.proofs.Common.{AliasLineFirstNumber, AreValidWalkLines, Cmnd, Def, Host, Kind, Line, List, ListHasElement, Node, None, Option, PlacedDefinition, Runas, Some, User, [], alias_line_if_any}
-use Rattle.sudoers_check.proofs.Common.{alias_lines_from, ap, ap₂, arith, cases_eq, cases_lt, definition_count_in_node, definition_count_of_kind, definition_place_of_name, definitions_from_line_number}
+use Rattle.sudoers_check.proofs.Common.{alias_lines_of_lines_numbered_from, ap, ap₂, arith, cases_eq, cases_lt, definition_count_in_node, definition_count_of_kind, definition_place_of_name, definitions_from_line_number}
 use Rattle.sudoers_check.proofs.Common.{definitions_from_place, definitions_in_line, definitions_of_lines, false, first_definition_of, get_or, get_or_from_slice_get, if◌then◌else◌, inl, inr, is_definition_of_name}
 use Rattle.sudoers_check.proofs.Common.{is_equal_kind, length, length-append, number_of_definition, option_map, refl, slice_get, slice_get-get_or, slice_get_within, subst, suc, sym, true, zero, ℕ, ◌++◌, ◌+◌, ◌<◌}
 use Rattle.sudoers_check.proofs.Common.{◌∙◌, ◌∷◌, ◌≡◌, ◌≢◌, ◌≤◌}
@@ -58,7 +58,7 @@ definition_count_in_valid_lines_is_limited lines walk = omega (arith, definition
 -- The definition at this place is the one with this number, where so many stand before these lines, the first of which has number n.
 pub record IsPlaceOfNumberedDefinition (s n : ℕ) (lines : List Line) (p : Place) (i : ℕ) : Type 0 where
   pub number : ℕ
-  pub first : ListHasElement (alias_lines_from n s lines) (record { line = p.line; number = number })
+  pub first : ListHasElement (alias_lines_of_lines_numbered_from n s lines) (record { line = p.line; number = number })
   pub sum : number + p.def ≡ s + i
   pub small : i < definition_count_in_lines lines
 
@@ -150,8 +150,8 @@ definition_found_in_node_has_its_place k name s n line lines = by_node line.node
         found_relation_is_weakened (IsDefinitionOfLineAtIndex n 0 defs) (λ d i. IsPlaceOfNumberedDefinition s n (line ∷ lines) d.place i) (first_definition_of k name (definitions_from_place j n 0 defs)) (number_of_definition k name (definitions_from_place j n 0 defs))
         (λ d i is. let few : definition_count_in_node line.node ≡ length defs = ap definition_count_in_node e in record {
           number = s;
-          first = subst (λ l. ListHasElement (alias_lines_from n s (line ∷ lines)) (record { line = l; number = s })) (sym is.on)
-              (line_with_definitions_leads_alias_lines n s (definition_count_in_node line.node) (alias_lines_from (n + 1) (s + definition_count_in_node line.node) lines) (omega (arith, is.within, few)));
+          first = subst (λ l. ListHasElement (alias_lines_of_lines_numbered_from n s (line ∷ lines)) (record { line = l; number = s })) (sym is.on)
+              (line_with_definitions_leads_alias_lines n s (definition_count_in_node line.node) (alias_lines_of_lines_numbered_from (n + 1) (s + definition_count_in_node line.node) lines) (omega (arith, is.within, few)));
           sum = omega (arith, is.at);
           small = omega (arith, is.within, few);
         }) (definition_found_in_line_has_its_number k name j n 0 defs)
@@ -171,7 +171,7 @@ definition_found_in_lines_has_its_place k name s n (line ∷ lines) =
     (definition_found_in_node_has_its_place k name s n line lines) (definition_found_in_lines_has_its_place k name (s + definition_count_in_node line.node) (n + 1) lines) (λ d i is. is)
     (λ d i is. record {
       number = is.number;
-      first = element_of_back_is_in_appended (alias_line_if_any n s (definition_count_in_node line.node)) (alias_lines_from (n + 1) (s + definition_count_in_node line.node) lines) (record { line = d.place.line; number = is.number }) is.first;
+      first = element_of_back_is_in_appended (alias_line_if_any n s (definition_count_in_node line.node)) (alias_lines_of_lines_numbered_from (n + 1) (s + definition_count_in_node line.node) lines) (record { line = d.place.line; number = is.number }) is.first;
       sum = omega (arith, is.sum, count);
       small = omega (arith, is.small, count);
     }) in
@@ -209,32 +209,32 @@ defined_name_has_number_of_its_place k name lines p e = by (first_definition_of 
 -- ---- lines in rising order
 
 -- the lines stand in rising order, each once, behind those before
-alias_lines_from_number_are_not_before : (n s : ℕ) (lines : List Line) (k : ℕ) (x : AliasLineFirstNumber) → slice_get (alias_lines_from n s lines) k ≡ Some x → n ≤ x.line
+alias_lines_from_number_are_not_before : (n s : ℕ) (lines : List Line) (k : ℕ) (x : AliasLineFirstNumber) → slice_get (alias_lines_of_lines_numbered_from n s lines) k ≡ Some x → n ≤ x.line
 alias_lines_from_number_are_not_before n s [] k x at = absurd cc
 alias_lines_from_number_are_not_before n s (line ∷ lines) k x at = by (definition_count_in_node line.node) (alias_lines_from_number_are_not_before (n + 1) (s + definition_count_in_node line.node) lines) k at
   where
-    by : (many : ℕ) → ((j : ℕ) (y : AliasLineFirstNumber) → slice_get (alias_lines_from (n + 1) (s + definition_count_in_node line.node) lines) j ≡ Some y → n + 1 ≤ y.line)
-        → (j : ℕ) → slice_get (alias_line_if_any n s many ++ alias_lines_from (n + 1) (s + definition_count_in_node line.node) lines) j ≡ Some x → n ≤ x.line
+    by : (many : ℕ) → ((j : ℕ) (y : AliasLineFirstNumber) → slice_get (alias_lines_of_lines_numbered_from (n + 1) (s + definition_count_in_node line.node) lines) j ≡ Some y → n + 1 ≤ y.line)
+        → (j : ℕ) → slice_get (alias_line_if_any n s many ++ alias_lines_of_lines_numbered_from (n + 1) (s + definition_count_in_node line.node) lines) j ≡ Some x → n ≤ x.line
     by zero rest j e = omega (arith, rest j x e)
     by (suc many) rest zero e = let same : record { line = n; number = s } ≡ x = cc in omega (arith, ap (λ (y : AliasLineFirstNumber). y.line) same)
     by (suc many) rest (suc j) e = omega (arith, rest j x e)
 
-pub alias_lines_are_strictly_ascending : (n s : ℕ) (lines : List Line) (i j : ℕ) (x y : AliasLineFirstNumber) → slice_get (alias_lines_from n s lines) i ≡ Some x → slice_get (alias_lines_from n s lines) j ≡ Some y → i < j → x.line < y.line
+pub alias_lines_are_strictly_ascending : (n s : ℕ) (lines : List Line) (i j : ℕ) (x y : AliasLineFirstNumber) → slice_get (alias_lines_of_lines_numbered_from n s lines) i ≡ Some x → slice_get (alias_lines_of_lines_numbered_from n s lines) j ≡ Some y → i < j → x.line < y.line
 alias_lines_are_strictly_ascending n s [] i j x y at to h = absurd cc
 alias_lines_are_strictly_ascending n s (line ∷ lines) i j x y at to h =
     by (definition_count_in_node line.node) (alias_lines_are_strictly_ascending (n + 1) (s + definition_count_in_node line.node) lines) (alias_lines_from_number_are_not_before (n + 1) (s + definition_count_in_node line.node) lines) i j at to h
   where
     by : (many : ℕ)
-        → ((i j : ℕ) (x y : AliasLineFirstNumber) → slice_get (alias_lines_from (n + 1) (s + definition_count_in_node line.node) lines) i ≡ Some x → slice_get (alias_lines_from (n + 1) (s + definition_count_in_node line.node) lines) j ≡ Some y → i < j → x.line < y.line)
-        → ((j : ℕ) (y : AliasLineFirstNumber) → slice_get (alias_lines_from (n + 1) (s + definition_count_in_node line.node) lines) j ≡ Some y → n + 1 ≤ y.line)
-        → (i j : ℕ) → slice_get (alias_line_if_any n s many ++ alias_lines_from (n + 1) (s + definition_count_in_node line.node) lines) i ≡ Some x
-        → slice_get (alias_line_if_any n s many ++ alias_lines_from (n + 1) (s + definition_count_in_node line.node) lines) j ≡ Some y → i < j → x.line < y.line
+        → ((i j : ℕ) (x y : AliasLineFirstNumber) → slice_get (alias_lines_of_lines_numbered_from (n + 1) (s + definition_count_in_node line.node) lines) i ≡ Some x → slice_get (alias_lines_of_lines_numbered_from (n + 1) (s + definition_count_in_node line.node) lines) j ≡ Some y → i < j → x.line < y.line)
+        → ((j : ℕ) (y : AliasLineFirstNumber) → slice_get (alias_lines_of_lines_numbered_from (n + 1) (s + definition_count_in_node line.node) lines) j ≡ Some y → n + 1 ≤ y.line)
+        → (i j : ℕ) → slice_get (alias_line_if_any n s many ++ alias_lines_of_lines_numbered_from (n + 1) (s + definition_count_in_node line.node) lines) i ≡ Some x
+        → slice_get (alias_line_if_any n s many ++ alias_lines_of_lines_numbered_from (n + 1) (s + definition_count_in_node line.node) lines) j ≡ Some y → i < j → x.line < y.line
     by zero rest number_or_shifted_number i j e f h = rest i j x y e f h
     by (suc many) rest number_or_shifted_number i zero e f h = absurd (omega arith)
     by (suc many) rest number_or_shifted_number zero (suc j) e f h = let same : record { line = n; number = s } ≡ x = cc in omega (arith, ap (λ (z : AliasLineFirstNumber). z.line) same, number_or_shifted_number j y f)
     by (suc many) rest number_or_shifted_number (suc i) (suc j) e f h = rest i j x y e f (omega arith)
 
-pub alias_line_numbers_ascend_with_index : (lines : List Line) (firsts : List AliasLineFirstNumber) → firsts ≡ alias_lines_from 0 0 lines → (i j : ℕ) (d : AliasLineFirstNumber) → i ≤ j → j < length firsts
+pub alias_line_numbers_ascend_with_index : (lines : List Line) (firsts : List AliasLineFirstNumber) → firsts ≡ alias_lines_of_lines_numbered_from 0 0 lines → (i j : ℕ) (d : AliasLineFirstNumber) → i ≤ j → j < length firsts
     → (get_or firsts i d).line ≤ (get_or firsts j d).line
 alias_line_numbers_ascend_with_index lines firsts are i j d le h = elim (cases_lt i j) [
   | inl l ↦
@@ -245,11 +245,11 @@ alias_line_numbers_ascend_with_index lines firsts are i j d le h = elim (cases_l
 ]
 
 -- a place among them is that of its line
-first_number_at_line_is_unique : (lines : List Line) (firsts : List AliasLineFirstNumber) → firsts ≡ alias_lines_from 0 0 lines → (at : ℕ) (d x : AliasLineFirstNumber) → at < length firsts → (get_or firsts at d).line ≡ x.line
-    → ListHasElement (alias_lines_from 0 0 lines) x → (get_or firsts at d).number ≡ x.number
+first_number_at_line_is_unique : (lines : List Line) (firsts : List AliasLineFirstNumber) → firsts ≡ alias_lines_of_lines_numbered_from 0 0 lines → (at : ℕ) (d x : AliasLineFirstNumber) → at < length firsts → (get_or firsts at d).line ≡ x.line
+    → ListHasElement (alias_lines_of_lines_numbered_from 0 0 lines) x → (get_or firsts at d).number ≡ x.number
 first_number_at_line_is_unique lines firsts are at d x h e stands =
-    let place = Has_place (alias_lines_from 0 0 lines) x stands in
-    let here : slice_get (alias_lines_from 0 0 lines) at ≡ Some (get_or firsts at d) = ap (λ xs. slice_get xs at) (sym are) ∙ slice_get-get_or firsts at d h in
+    let place = Has_place (alias_lines_of_lines_numbered_from 0 0 lines) x stands in
+    let here : slice_get (alias_lines_of_lines_numbered_from 0 0 lines) at ≡ Some (get_or firsts at d) = ap (λ xs. slice_get xs at) (sym are) ∙ slice_get-get_or firsts at d h in
     let same : place.0 ≡ at = elim (cases_eq place.0 at) [
       | inl q ↦ q
       | inr q ↦ elim (cases_lt place.0 at) [
@@ -257,22 +257,22 @@ first_number_at_line_is_unique lines firsts are at d x h e stands =
         | inr l ↦ let less = alias_lines_are_strictly_ascending 0 0 lines at place.0 (get_or firsts at d) x here place.1 (omega (arith, l, q)) in absurd (omega (arith, less, e))
       ]
     ] in
-    let two : Some (get_or firsts at d) ≡ Some x = sym here ∙ ap (slice_get (alias_lines_from 0 0 lines)) (sym same) ∙ place.1 in
+    let two : Some (get_or firsts at d) ≡ Some x = sym here ∙ ap (slice_get (alias_lines_of_lines_numbered_from 0 0 lines)) (sym same) ∙ place.1 in
     let is : get_or firsts at d ≡ x = cc in
     ap (λ (y : AliasLineFirstNumber). y.number) is
 
 -- A line that has a definition is among them.
-pub line_of_definition_is_among_alias_lines : (k : Kind) (name : List ℕ) (lines : List Line) (p : Place) (firsts : List AliasLineFirstNumber) → firsts ≡ alias_lines_from 0 0 lines → definition_place_of_name k name lines ≡ Some p
+pub line_of_definition_is_among_alias_lines : (k : Kind) (name : List ℕ) (lines : List Line) (p : Place) (firsts : List AliasLineFirstNumber) → firsts ≡ alias_lines_of_lines_numbered_from 0 0 lines → definition_place_of_name k name lines ≡ Some p
     → ((i : ℕ) (d : AliasLineFirstNumber) → i < length firsts → (get_or firsts i d).line ≢ p.line) → ⊥
 line_of_definition_is_among_alias_lines k name lines p firsts are e none =
     let n = defined_name_has_number_of_its_place k name lines p e in
     let x : AliasLineFirstNumber = record { line = p.line; number = n.2.number } in
-    let place = Has_place (alias_lines_from 0 0 lines) x n.2.first in
+    let place = Has_place (alias_lines_of_lines_numbered_from 0 0 lines) x n.2.first in
     let at : slice_get firsts place.0 ≡ Some x = ap (λ xs. slice_get xs place.0) are ∙ place.1 in
     none place.0 x (slice_get_within firsts place.0 x at) (ap (λ (y : AliasLineFirstNumber). y.line) (get_or_from_slice_get firsts place.0 x x at))
 
 -- What is told of a name that is defined at this place.
-pub definition_number_is_told_by_line : (k : Kind) (name : List ℕ) (lines : List Line) (p : Place) (firsts : List AliasLineFirstNumber) (at : ℕ) (first : AliasLineFirstNumber) → firsts ≡ alias_lines_from 0 0 lines → definition_place_of_name k name lines ≡ Some p
+pub definition_number_is_told_by_line : (k : Kind) (name : List ℕ) (lines : List Line) (p : Place) (firsts : List AliasLineFirstNumber) (at : ℕ) (first : AliasLineFirstNumber) → firsts ≡ alias_lines_of_lines_numbered_from 0 0 lines → definition_place_of_name k name lines ≡ Some p
     → at < length firsts → ((d : AliasLineFirstNumber) → (get_or firsts at d).line ≡ p.line) → first ≡ get_or firsts at first
     → (number_of_definition k name (definitions_of_lines lines) ≡ Some (first.number + p.def)) × (first.number + p.def < definition_count_in_lines lines)
 definition_number_is_told_by_line k name lines p firsts at first are e within line is =

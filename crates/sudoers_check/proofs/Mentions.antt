@@ -2,7 +2,7 @@
 use Rattle.sudoers_check.proofs.Common.{Atom, Bool, CmdSpec, Cmnd, Def, Host, HostGroup, Kind, Line, List, ListedMember, Member, Mention, Node, None, Option, Runas, RunasSpec, Some, User, [], alias_member_of_atom}
 use Rattle.sudoers_check.proofs.Common.{alias_names_of_atom, aliases_among_listed, aliases_in_node, all_mentions_in_lines, ap, append-nil, append_assoc, ap₂, bytes_eq, bytes_eq-Decides, cond, false, filter, flat_map}
 use Rattle.sudoers_check.proofs.Common.{if◌then◌else◌, is_equal_kind, is_mention_of_name, length, listed_members_of_command, listed_members_of_host_group, listed_members_of_node, listed_members_of_runas, map}
-use Rattle.sudoers_check.proofs.Common.{map-append, members_listed_as_kind, mention_of_alias_member, mention_of_atom, mentions_among_listed, mentions_in_lines_from, mentions_in_node, refl, sym, true, ℕ, ◌&&◌, ◌++◌}
+use Rattle.sudoers_check.proofs.Common.{map-append, members_listed_as_kind, mention_of_alias_member, mention_of_atom, mentions_among_listed_members, mentions_in_lines_numbered_from, mentions_in_node, refl, sym, true, ℕ, ◌&&◌, ◌++◌}
 use Rattle.sudoers_check.proofs.Common.{◌+◌, ◌-◌, ◌∙◌, ◌∷◌, ◌≡◌}
 use Rattle.sudoers_grammar.specs.declared.node.Atom.TheVariants as atom
 use Rattle.sudoers_grammar.specs.Node as node
@@ -18,7 +18,7 @@ flat_map_to_nothing_is_empty [] = refl
 flat_map_to_nothing_is_empty (x ∷ xs) = flat_map_to_nothing_is_empty xs
 
 -- the mentions among members of lists one after another
-mentions_among_appended_are_appended : (line : ℕ) (xs ys : List ListedMember) → mentions_among_listed line (xs ++ ys) ≡ mentions_among_listed line xs ++ mentions_among_listed line ys
+mentions_among_appended_are_appended : (line : ℕ) (xs ys : List ListedMember) → mentions_among_listed_members line (xs ++ ys) ≡ mentions_among_listed_members line xs ++ mentions_among_listed_members line ys
 mentions_among_appended_are_appended line xs ys = flat_map_of_appended_is_appended (λ (l : ListedMember). mention_of_atom line l.0 l.1 l.1.atom) xs ys
 
 -- THE ALIASES OF A LINE
@@ -27,7 +27,7 @@ mention_of_alias_member_is_of_atom : (line : ℕ) (k : Kind) (m : Member) (a : A
 mention_of_alias_member_is_of_atom line k m (atom.Alias name) = refl
 mention_of_alias_member_is_of_atom line k m a = refl
 
-mentions_of_listed_aliases_are_mentions : (line : ℕ) (ls : List ListedMember) → map (mention_of_alias_member line) (aliases_among_listed ls) ≡ mentions_among_listed line ls
+mentions_of_listed_aliases_are_mentions : (line : ℕ) (ls : List ListedMember) → map (mention_of_alias_member line) (aliases_among_listed ls) ≡ mentions_among_listed_members line ls
 mentions_of_listed_aliases_are_mentions line [] = refl
 mentions_of_listed_aliases_are_mentions line (l ∷ ls) =
     map-append (mention_of_alias_member line) (alias_member_of_atom l.0 l.1 l.1.atom) (aliases_among_listed ls)
@@ -45,13 +45,13 @@ PicksFromMentionsOfKind k line pick t = (j : Kind) (m : Member) → flat_map pic
 
 -- what is picked of the members of lists
 abbrev items_picked_from_listed_mentions : {Y : Type 0} → (Mention → List Y) → ℕ → List ListedMember → List Y
-items_picked_from_listed_mentions pick line ls = flat_map pick (mentions_among_listed line ls)
+items_picked_from_listed_mentions pick line ls = flat_map pick (mentions_among_listed_members line ls)
 
 -- of lists one after another
 items_picked_from_appended_are_appended : {Y : Type 0} (pick : Mention → List Y) (line : ℕ) (xs ys : List ListedMember) → items_picked_from_listed_mentions pick line (xs ++ ys) ≡ items_picked_from_listed_mentions pick line xs ++ items_picked_from_listed_mentions pick line ys
 items_picked_from_appended_are_appended pick line xs ys =
     ap (flat_map pick) (mentions_among_appended_are_appended line xs ys)
-    ∙ flat_map_of_appended_is_appended pick (mentions_among_listed line xs) (mentions_among_listed line ys)
+    ∙ flat_map_of_appended_is_appended pick (mentions_among_listed_members line xs) (mentions_among_listed_members line ys)
 
 both_branches_empty_is_empty : {X : Type 0} (b : Bool) → (let none : List X = [] in none ≡ (if b then none else none))
 both_branches_empty_is_empty true = refl
@@ -193,11 +193,11 @@ spans_picked_are_of_mentions_of_name k name (m ∷ ms) =
       | false ↦ refl
     ]
 
-mentions_from_line_are_picked_spans : (k : Kind) (name : List ℕ) (n : ℕ) (lines : List Line) → mentions_from_line_number k name n lines ≡ flat_map (span_if_mention_of_name k name) (mentions_in_lines_from n lines)
+mentions_from_line_are_picked_spans : (k : Kind) (name : List ℕ) (n : ℕ) (lines : List Line) → mentions_from_line_number k name n lines ≡ flat_map (span_if_mention_of_name k name) (mentions_in_lines_numbered_from n lines)
 mentions_from_line_are_picked_spans k name n [] = refl
 mentions_from_line_are_picked_spans k name n (line ∷ lines) =
     ap₂ (λ x y. x ++ y) (sym (items_picked_from_node_are_of_members k n (span_if_mention_of_name k name) (λ (m : Member). mention_span_of_member n name m m.atom) (mention_span_is_picked_from_member k name n) line.node)) (mentions_from_line_are_picked_spans k name (n + 1) lines)
-    ∙ sym (flat_map_of_appended_is_appended (span_if_mention_of_name k name) (mentions_in_node n line.node) (mentions_in_lines_from (n + 1) lines))
+    ∙ sym (flat_map_of_appended_is_appended (span_if_mention_of_name k name) (mentions_in_node n line.node) (mentions_in_lines_numbered_from (n + 1) lines))
 
 pub mentions_in_lines_are_mention_spans : (lines : List Line) (k : Kind) (name : List ℕ) → mentions_in_lines k name lines ≡ map (λ (m : Mention). m.span) (filter (is_mention_of_name k name) (all_mentions_in_lines lines))
 mentions_in_lines_are_mention_spans lines k name = mentions_from_line_are_picked_spans k name 0 lines ∙ spans_picked_are_of_mentions_of_name k name (all_mentions_in_lines lines)

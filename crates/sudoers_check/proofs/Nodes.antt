@@ -1,8 +1,8 @@
 -- The graph of the definitions.
-use Rattle.sudoers_check.proofs.Common.{AllByRecursion, AreNodesOfGraph, Atom, Bool, Def, IsGraph, Kind, Line, List, Member, Mention, None, Option, PlacedDefinition, Some, [], alias_member_of_atom}
+use Rattle.sudoers_check.proofs.Common.{AllByRecursion, AreNodesOfGraph, Atom, Bool, Def, HasAllEdgeTargetsInGraph, Kind, Line, List, Member, Mention, None, Option, PlacedDefinition, Some, [], alias_member_of_atom}
 use Rattle.sudoers_check.proofs.Common.{alias_names_among_members, alias_names_of_atom, aliases_among_listed, ap, arith, cons_option, definitions_from_place, false, graph_nodes_of_definitions, if◌then◌else◌}
-use Rattle.sudoers_check.proofs.Common.{is_definition_of_name, is_spec_or_defaults_node, length, map, map-append, members_listed_as_kind, mention_graph_of_definitions, mentions_in_node, number_of_definition}
-use Rattle.sudoers_check.proofs.Common.{numbers_of_defined_aliases, numbers_of_defined_mentions, numbers_of_defined_names, option_map, refl, root_numbers_in_lines_from, suc, true, ℕ, ◌++◌, ◌+◌, ◌<◌, ◌∷◌, ◌≡◌}
+use Rattle.sudoers_check.proofs.Common.{is_definition_of_name, is_spec_or_defaults_line_node, length, map, map-append, members_listed_as_kind, mention_graph_of_definitions, mentions_in_node, number_of_definition}
+use Rattle.sudoers_check.proofs.Common.{numbers_of_defined_aliases, numbers_of_defined_mentions, numbers_of_defined_names, option_map, refl, root_numbers_in_lines_numbered_from, suc, true, ℕ, ◌++◌, ◌+◌, ◌<◌, ◌∷◌, ◌≡◌}
 use Rattle.sudoers_grammar.specs.declared.node.Atom.TheVariants as atom
 
 -- ---- those of a line
@@ -63,7 +63,7 @@ mapped_list_keeps_length f (x ∷ xs) = ap suc (mapped_list_keeps_length f xs)
 pub mention_graph_has_node_per_definition : (ds : List PlacedDefinition) → length (mention_graph_of_definitions ds) ≡ length ds
 mention_graph_has_node_per_definition ds = mapped_list_keeps_length (λ (d : PlacedDefinition). numbers_of_defined_names d.kind (alias_names_among_members d.def.members) ds) ds
 
-pub mention_graph_is_graph : (ds : List PlacedDefinition) → IsGraph (mention_graph_of_definitions ds)
+pub mention_graph_is_graph : (ds : List PlacedDefinition) → HasAllEdgeTargetsInGraph (mention_graph_of_definitions ds)
 mention_graph_is_graph ds = graph_edges_are_below_count ds ds (length (mention_graph_of_definitions ds)) (mention_graph_has_node_per_definition ds)
 
 numbers_of_mentions_are_below_count : (ds : List PlacedDefinition) (ms : List Mention) (n : ℕ) → n ≡ length ds → AllByRecursion (λ i. i < n) (numbers_of_defined_mentions ds ms)
@@ -78,15 +78,15 @@ appended_lists_keep_property_of_all : (P : ℕ → Type 0) (xs ys : List ℕ) �
 appended_lists_keep_property_of_all P [] ys p q = q
 appended_lists_keep_property_of_all P (x ∷ xs) ys p q = (p.0, appended_lists_keep_property_of_all P xs ys p.1 q)
 
-root_numbers_are_below_count : (ds : List PlacedDefinition) (n : ℕ) (lines : List Line) (m : ℕ) → m ≡ length ds → AllByRecursion (λ i. i < m) (root_numbers_in_lines_from ds n lines)
+root_numbers_are_below_count : (ds : List PlacedDefinition) (n : ℕ) (lines : List Line) (m : ℕ) → m ≡ length ds → AllByRecursion (λ i. i < m) (root_numbers_in_lines_numbered_from ds n lines)
 root_numbers_are_below_count ds n [] m e = tt
 root_numbers_are_below_count ds n (line ∷ lines) m e =
-    appended_lists_keep_property_of_all (λ i. i < m) (if is_spec_or_defaults_node line.node then numbers_of_defined_mentions ds (mentions_in_node n line.node) else []) (root_numbers_in_lines_from ds (n + 1) lines)
-    (by (is_spec_or_defaults_node line.node)) (root_numbers_are_below_count ds (n + 1) lines m e)
+    appended_lists_keep_property_of_all (λ i. i < m) (if is_spec_or_defaults_line_node line.node then numbers_of_defined_mentions ds (mentions_in_node n line.node) else []) (root_numbers_in_lines_numbered_from ds (n + 1) lines)
+    (by (is_spec_or_defaults_line_node line.node)) (root_numbers_are_below_count ds (n + 1) lines m e)
   where
     by : (b : Bool) → AllByRecursion (λ i. i < m) (if b then numbers_of_defined_mentions ds (mentions_in_node n line.node) else [])
     by true = numbers_of_mentions_are_below_count ds (mentions_in_node n line.node) m e
     by false = tt
 
-pub root_numbers_are_nodes_of_mention_graph : (ds : List PlacedDefinition) (lines : List Line) → AreNodesOfGraph (mention_graph_of_definitions ds) (root_numbers_in_lines_from ds 0 lines)
+pub root_numbers_are_nodes_of_mention_graph : (ds : List PlacedDefinition) (lines : List Line) → AreNodesOfGraph (mention_graph_of_definitions ds) (root_numbers_in_lines_numbered_from ds 0 lines)
 root_numbers_are_nodes_of_mention_graph ds lines = root_numbers_are_below_count ds 0 lines (length (mention_graph_of_definitions ds)) (mention_graph_has_node_per_definition ds)

@@ -1,11 +1,11 @@
 -- Notes line by line are those of the whole.
-use Rattle.sudoers_check.proofs.Common.{Atom, Bool, Def, Kind, Line, List, ListHasElement, ListedMember, Member, Mention, Node, None, Note, Option, PlacedDefinition, SeenKeysMatchMentions, Some, WalkLineSpot}
+use Rattle.sudoers_check.proofs.Common.{Atom, Bool, Def, Kind, Line, List, ListHasElement, ListedMember, Member, Mention, Node, None, Note, Option, PlacedDefinition, AreKeysOfUndefinedMentions, Some, WalkLineSpot}
 use Rattle.sudoers_check.proofs.Common.{WalkState, [], ap, append-nil, append_assoc, ap₂, arith, bytes_eq, bytes_eq-Decides, definition_count_in_node, definition_place_of_name, definitions_from_line_number}
 use Rattle.sudoers_check.proofs.Common.{definitions_from_place, definitions_in_line, definitions_of_lines, definitions_with_mark, drop, false, first_definition_of, if◌then◌else◌, inl, inr, is_equal_kind}
 use Rattle.sudoers_check.proofs.Common.{is_first_mention_of_undefined, is_mention_of_name, is_some, length, length-drop, length-take, line_of_row, lines_of_rows, list_any, listed_members_of_node, map, map-append}
-use Rattle.sudoers_check.proofs.Common.{mention_of_atom, mentions_in_lines_from, mentions_in_node, new_undefined_mentions, note_in_line_text, note_in_walk_line, note_of_definition, note_of_mention}
-use Rattle.sudoers_check.proofs.Common.{notes_of_marked_definitions, notes_of_marked_in_lines, notes_of_marked_in_node, notes_of_mentions, option_map, refl, slice_get, slice_index_or, spot_of_walk_line, suc, sym}
-use Rattle.sudoers_check.proofs.Common.{take, text_of_line_at, true, undefined_mentions_of_lines, undefined_notes_in_lines, unmarked_places_from, unmarked_places_in_lines, unmarked_places_in_node, zero, ℕ, ◌++◌, ◌+◌}
+use Rattle.sudoers_check.proofs.Common.{mention_of_atom, mentions_in_lines_numbered_from, mentions_in_node, new_undefined_mentions, note_in_line_text, note_in_walk_line, note_of_definition, note_of_mention}
+use Rattle.sudoers_check.proofs.Common.{notes_of_definitions_in_line_with_mark, notes_of_definitions_in_lines_with_mark, notes_of_definitions_in_line_node_with_mark, notes_of_mentions, option_map, refl, slice_get, slice_index_or, spot_of_walk_line, suc, sym}
+use Rattle.sudoers_check.proofs.Common.{take, text_of_line_at, true, undefined_mentions_of_lines, undefined_notes_in_lines, unmarked_places_in_line_counted_from, unmarked_places_in_lines, unmarked_places_in_line_node, zero, ℕ, ◌++◌, ◌+◌}
 use Rattle.sudoers_check.proofs.Common.{◌<◌, ◌||◌, ◌∙◌, ◌∷◌, ◌≡◌}
 use Rattle.std.specs.Option.{is_some as is_there}
 use Rattle.sudoers_grammar.specs.declared.node.Atom.TheVariants as atom
@@ -39,8 +39,8 @@ mention_test_over_pushed_is_either k name (x ∷ before) m = ap (λ b. is_mentio
     assoc false b c = refl
 
 -- a name that is defined is none that is not
-pub defined_mention_keeps_seen_keys_matching : (ds : List PlacedDefinition) (keys : List (List ℕ)) (before : List Mention) (m : Mention) → is_some (first_definition_of m.kind m.name ds) ≡ true → SeenKeysMatchMentions ds keys before
-    → SeenKeysMatchMentions ds keys (before ++ m ∷ [])
+pub defined_mention_keeps_seen_keys_matching : (ds : List PlacedDefinition) (keys : List (List ℕ)) (before : List Mention) (m : Mention) → is_some (first_definition_of m.kind m.name ds) ≡ true → AreKeysOfUndefinedMentions ds keys before
+    → AreKeysOfUndefinedMentions ds keys (before ++ m ∷ [])
 defined_mention_keeps_seen_keys_matching ds keys before m name_with_place_is_defined agrees k name none =
     agrees k name none ∙ sym (mention_test_over_pushed_is_either k name before m ∙ ap (λ b. list_any (is_mention_of_name k name) before || b) (other (is_mention_of_name k name m) refl) ∙ or_none (list_any (is_mention_of_name k name) before))
   where
@@ -115,7 +115,7 @@ note_in_text_is_note_in_walk walk n text k name start e = ap (λ t. note_in_line
 
 -- ---- definitions with a mark
 
-pub no_definitions_have_no_notes : (wanted : Bool) (at : WalkLineSpot) (text : List ℕ) (k : Kind) (marks : List Bool) → notes_of_marked_definitions wanted at text k marks [] ≡ []
+pub no_definitions_have_no_notes : (wanted : Bool) (at : WalkLineSpot) (text : List ℕ) (k : Kind) (marks : List Bool) → notes_of_definitions_in_line_with_mark wanted at text k marks [] ≡ []
 no_definitions_have_no_notes wanted at text k [] = refl
 no_definitions_have_no_notes wanted at text k (m ∷ ms) = refl
 
@@ -136,7 +136,7 @@ definitions_picked_from_appended_are_appended false (true ∷ ms) (x ∷ xs) ys 
 definitions_picked_from_appended_are_appended false (false ∷ ms) (x ∷ xs) ys = ap (λ zs. x ∷ zs) (definitions_picked_from_appended_are_appended false ms xs ys)
 
 definition_notes_in_line_are_of_picked : (wanted : Bool) (walk : WalkState) (line : ℕ) (text : List ℕ) (k : Kind) (n : ℕ) (marks : List Bool) (defs : List Def) → text_of_line_at walk.lines line ≡ text
-    → notes_of_marked_definitions wanted (spot_of_walk_line walk line) text k marks defs ≡ map (note_of_definition walk) (definitions_with_mark wanted marks (definitions_from_place k line n defs))
+    → notes_of_definitions_in_line_with_mark wanted (spot_of_walk_line walk line) text k marks defs ≡ map (note_of_definition walk) (definitions_with_mark wanted marks (definitions_from_place k line n defs))
 definition_notes_in_line_are_of_picked wanted walk line text k n [] defs e = refl
 definition_notes_in_line_are_of_picked wanted walk line text k n (m ∷ ms) [] e = refl
 definition_notes_in_line_are_of_picked true walk line text k n (true ∷ ms) (d ∷ defs) e = ap₂ (λ x xs. x ∷ xs) (note_in_text_is_note_in_walk walk line text k d.name d.start e) (definition_notes_in_line_are_of_picked true walk line text k (n + 1) ms defs e)
@@ -145,7 +145,7 @@ definition_notes_in_line_are_of_picked false walk line text k n (true ∷ ms) (d
 definition_notes_in_line_are_of_picked false walk line text k n (false ∷ ms) (d ∷ defs) e = ap₂ (λ x xs. x ∷ xs) (note_in_text_is_note_in_walk walk line text k d.name d.start e) (definition_notes_in_line_are_of_picked false walk line text k (n + 1) ms defs e)
 
 notes_in_node_are_of_picked_definitions : (wanted : Bool) (walk : WalkState) (line : ℕ) (text : List ℕ) (marks : List Bool) (says : Node) → text_of_line_at walk.lines line ≡ text
-    → notes_of_marked_in_node wanted (spot_of_walk_line walk line) text marks says ≡ map (note_of_definition walk) (definitions_with_mark wanted marks (definitions_in_line line says))
+    → notes_of_definitions_in_line_node_with_mark wanted (spot_of_walk_line walk line) text marks says ≡ map (note_of_definition walk) (definitions_with_mark wanted marks (definitions_in_line line says))
 notes_in_node_are_of_picked_definitions wanted walk line text marks (node.Alias k defs) e = definition_notes_in_line_are_of_picked wanted walk line text k 0 marks defs e
 notes_in_node_are_of_picked_definitions wanted walk line text marks node.Blank e = ap (map (note_of_definition walk)) (sym (no_definitions_are_picked_from_none wanted marks))
 notes_in_node_are_of_picked_definitions wanted walk line text marks node.Comment e = ap (map (note_of_definition walk)) (sym (no_definitions_are_picked_from_none wanted marks))
@@ -154,7 +154,7 @@ notes_in_node_are_of_picked_definitions wanted walk line text marks (node.Defaul
 notes_in_node_are_of_picked_definitions wanted walk line text marks (node.Spec users groups) e = ap (map (note_of_definition walk)) (sym (no_definitions_are_picked_from_none wanted marks))
 
 notes_in_later_lines_are_of_picked : (wanted : Bool) (walk : WalkState) (front rest : List Line) (marks : List Bool) → front ++ rest ≡ walk.lines
-    → notes_of_marked_in_lines wanted walk (length front) marks rest ≡ map (note_of_definition walk) (definitions_with_mark wanted marks (definitions_from_line_number (length front) rest))
+    → notes_of_definitions_in_lines_with_mark wanted walk (length front) marks rest ≡ map (note_of_definition walk) (definitions_with_mark wanted marks (definitions_from_line_number (length front) rest))
 notes_in_later_lines_are_of_picked wanted walk front [] marks e = ap (map (note_of_definition walk)) (sym (no_definitions_are_picked_from_none wanted marks))
 notes_in_later_lines_are_of_picked wanted walk front (line ∷ rest) marks e =
     let n : ℕ = length front in
@@ -162,8 +162,8 @@ notes_in_later_lines_are_of_picked wanted walk front (line ∷ rest) marks e =
     let N = note_of_definition walk in
     let behind : List Bool = drop (definition_count_in_node line.node) marks in
     let first = notes_in_node_are_of_picked_definitions wanted walk n line.text (take (definition_count_in_node line.node) marks) line.node (line_after_front_has_its_text walk front line rest e) in
-    let more : notes_of_marked_in_lines wanted walk (n + 1) behind rest ≡ map N (definitions_with_mark wanted behind (definitions_from_line_number (n + 1) rest)) =
-    ap (λ i. notes_of_marked_in_lines wanted walk i behind rest) (sym (pushed_line_raises_length_by_one front line))
+    let more : notes_of_definitions_in_lines_with_mark wanted walk (n + 1) behind rest ≡ map N (definitions_with_mark wanted behind (definitions_from_line_number (n + 1) rest)) =
+    ap (λ i. notes_of_definitions_in_lines_with_mark wanted walk i behind rest) (sym (pushed_line_raises_length_by_one front line))
     ∙ notes_in_later_lines_are_of_picked wanted walk (front ++ line ∷ []) rest behind (front_with_line_and_rest_is_walk walk front line rest e)
     ∙ ap (λ i. map N (definitions_with_mark wanted behind (definitions_from_line_number i rest))) (pushed_line_raises_length_by_one front line) in
     ap₂ (λ xs ys. xs ++ ys) first more
@@ -172,7 +172,7 @@ notes_in_later_lines_are_of_picked wanted walk front (line ∷ rest) marks e =
     ∙ ap (map N) (sym (definitions_picked_from_appended_are_appended wanted marks (definitions_in_line n line.node) (definitions_from_line_number (n + 1) rest)))
 
 pub notes_in_all_lines_are_of_picked : (wanted : Bool) (marks : List Bool) (walk : WalkState)
-    → notes_of_marked_in_lines wanted walk 0 marks walk.lines ≡ map (note_of_definition walk) (definitions_with_mark wanted marks (definitions_of_lines walk.lines))
+    → notes_of_definitions_in_lines_with_mark wanted walk 0 marks walk.lines ≡ map (note_of_definition walk) (definitions_with_mark wanted marks (definitions_of_lines walk.lines))
 notes_in_all_lines_are_of_picked wanted marks walk = notes_in_later_lines_are_of_picked wanted walk [] walk.lines marks refl
 
 -- ---- undefined names
@@ -230,7 +230,7 @@ undefined_mention_is_a_mention ds before (m ∷ ms) x h = elim (element_of_appen
     by false h = absurd h
 
 undefined_notes_in_later_lines_are_mapped : (ds : List PlacedDefinition) (walk : WalkState) (front rest : List Line) (before : List Mention) → front ++ rest ≡ walk.lines
-    → undefined_notes_in_lines ds walk before (length front) rest ≡ map (note_of_mention walk) (new_undefined_mentions ds before (mentions_in_lines_from (length front) rest))
+    → undefined_notes_in_lines ds walk before (length front) rest ≡ map (note_of_mention walk) (new_undefined_mentions ds before (mentions_in_lines_numbered_from (length front) rest))
 undefined_notes_in_later_lines_are_mapped ds walk front [] before e = refl
 undefined_notes_in_later_lines_are_mapped ds walk front (line ∷ rest) before e =
     let n : ℕ = length front in
@@ -238,13 +238,13 @@ undefined_notes_in_later_lines_are_mapped ds walk front (line ∷ rest) before e
     let N = note_of_mention walk in
     let first = notes_of_mentions_in_line_are_mapped walk n line.text (new_undefined_mentions ds before here) (line_after_front_has_its_text walk front line rest e)
     (λ x h. mention_in_node_is_on_its_line n line.node x (undefined_mention_is_a_mention ds before here x h)) in
-    let more : undefined_notes_in_lines ds walk (before ++ here) (n + 1) rest ≡ map N (new_undefined_mentions ds (before ++ here) (mentions_in_lines_from (n + 1) rest)) =
+    let more : undefined_notes_in_lines ds walk (before ++ here) (n + 1) rest ≡ map N (new_undefined_mentions ds (before ++ here) (mentions_in_lines_numbered_from (n + 1) rest)) =
     ap (λ i. undefined_notes_in_lines ds walk (before ++ here) i rest) (sym (pushed_line_raises_length_by_one front line))
     ∙ undefined_notes_in_later_lines_are_mapped ds walk (front ++ line ∷ []) rest (before ++ here) (front_with_line_and_rest_is_walk walk front line rest e)
-    ∙ ap (λ i. map N (new_undefined_mentions ds (before ++ here) (mentions_in_lines_from i rest))) (pushed_line_raises_length_by_one front line) in
+    ∙ ap (λ i. map N (new_undefined_mentions ds (before ++ here) (mentions_in_lines_numbered_from i rest))) (pushed_line_raises_length_by_one front line) in
     ap₂ (λ xs ys. xs ++ ys) first more
-    ∙ sym (map-append N (new_undefined_mentions ds before here) (new_undefined_mentions ds (before ++ here) (mentions_in_lines_from (n + 1) rest)))
-    ∙ ap (map N) (sym (undefined_mentions_of_appended_are_appended ds before here (mentions_in_lines_from (n + 1) rest)))
+    ∙ sym (map-append N (new_undefined_mentions ds before here) (new_undefined_mentions ds (before ++ here) (mentions_in_lines_numbered_from (n + 1) rest)))
+    ∙ ap (map N) (sym (undefined_mentions_of_appended_are_appended ds before here (mentions_in_lines_numbered_from (n + 1) rest)))
 
 pub undefined_notes_of_walk_are_mapped : (walk : WalkState)
     → undefined_notes_in_lines (definitions_of_lines walk.lines) walk [] 0 walk.lines ≡ map (note_of_mention walk) (undefined_mentions_of_lines walk.lines)
@@ -253,14 +253,14 @@ undefined_notes_of_walk_are_mapped walk = undefined_notes_in_later_lines_are_map
 -- ---- places of definitions without a mark
 
 unmarked_places_from_place_are_of_picked : (line : ℕ) (k : Kind) (n : ℕ) (marks : List Bool) (defs : List Def) → length marks ≡ length defs
-    → unmarked_places_from line k n marks ≡ map (λ (d : PlacedDefinition). (d.kind, d.place)) (definitions_with_mark false marks (definitions_from_place k line n defs))
+    → unmarked_places_in_line_counted_from line k n marks ≡ map (λ (d : PlacedDefinition). (d.kind, d.place)) (definitions_with_mark false marks (definitions_from_place k line n defs))
 unmarked_places_from_place_are_of_picked line k n [] defs l = refl
 unmarked_places_from_place_are_of_picked line k n (m ∷ ms) [] l = absurd (omega (arith, l))
 unmarked_places_from_place_are_of_picked line k n (true ∷ ms) (d ∷ defs) l = unmarked_places_from_place_are_of_picked line k (n + 1) ms defs (omega (arith, l))
 unmarked_places_from_place_are_of_picked line k n (false ∷ ms) (d ∷ defs) l = ap (λ ps. (k, record { line = line; def = n }) ∷ ps) (unmarked_places_from_place_are_of_picked line k (n + 1) ms defs (omega (arith, l)))
 
 unmarked_places_in_node_are_of_picked : (line : ℕ) (marks : List Bool) (says : Node) → length marks ≡ definition_count_in_node says
-    → unmarked_places_in_node line marks says ≡ map (λ (d : PlacedDefinition). (d.kind, d.place)) (definitions_with_mark false marks (definitions_in_line line says))
+    → unmarked_places_in_line_node line marks says ≡ map (λ (d : PlacedDefinition). (d.kind, d.place)) (definitions_with_mark false marks (definitions_in_line line says))
 unmarked_places_in_node_are_of_picked line marks (node.Alias k defs) l = unmarked_places_from_place_are_of_picked line k 0 marks defs l
 unmarked_places_in_node_are_of_picked line marks node.Blank l = ap (map (λ (d : PlacedDefinition). (d.kind, d.place))) (sym (no_definitions_are_picked_from_none false marks))
 unmarked_places_in_node_are_of_picked line marks node.Comment l = ap (map (λ (d : PlacedDefinition). (d.kind, d.place))) (sym (no_definitions_are_picked_from_none false marks))

@@ -1,12 +1,12 @@
 -- Ways along edges, joined and taken apart.
-use Rattle.sudoers_check.proofs.Common.{HasEdge, HasPathBetween, IsOnCycle, IsReachedBySteps, List, here, inl, inr, onward, subst, sym, ℕ, ◌≡◌, ◌⊎◌}
+use Rattle.sudoers_check.proofs.Common.{HasEdge, HasPathBetween, IsOnCycle, IsReachedByChainOfSteps, List, here, inl, inr, onward, subst, sym, ℕ, ◌≡◌, ◌⊎◌}
 
 module _ (graph : List (List ℕ)) where
-  pub path_on : (P : ℕ → Type 0) (v w : ℕ) → IsReachedBySteps (HasEdge graph) P v → HasPathBetween graph v w → IsReachedBySteps (HasEdge graph) P w
-  path_on P v w c (here x e) = subst (IsReachedBySteps (HasEdge graph) P) e c
+  pub path_on : (P : ℕ → Type 0) (v w : ℕ) → IsReachedByChainOfSteps (HasEdge graph) P v → HasPathBetween graph v w → IsReachedByChainOfSteps (HasEdge graph) P w
+  path_on P v w c (here x e) = subst (IsReachedByChainOfSteps (HasEdge graph) P) e c
   path_on P v w c (onward x y p s) = onward x y (path_on P v x c p) s
 
-  pub path_cases : (v w : ℕ) → HasPathBetween graph v w → (v ≡ w) ⊎ IsReachedBySteps (HasEdge graph) (HasEdge graph v) w
+  pub path_cases : (v w : ℕ) → HasPathBetween graph v w → (v ≡ w) ⊎ IsReachedByChainOfSteps (HasEdge graph) (HasEdge graph v) w
   path_cases v w (here x e) = inl e
   path_cases v w (onward x y p s) =
       elim (path_cases v x p) [ inl e ↦ inr (here y (subst (λ u. HasEdge graph u y) (sym e) s)) | inr c ↦ inr (onward x y c s) ]

@@ -1,6 +1,6 @@
 -- What the steps of the search keep: an edge is looked at, a node is entered, groups are joined, a node is left.
-use Rattle.sudoers_check.proofs.Common.{AreGroupsJoined, Bool, Closed, DepthSearchStep, HasEdge, HasPathBetween, IsClosedOrInLaterGroup, IsEdgeLookedAt, IsInGroupNotBefore, KeepsSearchInvariant, List, ListHasElement}
-use Rattle.sudoers_check.proofs.Common.{New, NodeSearchState, None, Open, Option, Some, [], ap, arith, cases_eq, cases_lt, edge_targets_of_node, get_or, here, inl, inr, length, length-set, onward, place_of_step, set}
+use Rattle.sudoers_check.proofs.Common.{AreGroupsJoined, Bool, Closed, NodeOnSearchPath, HasEdge, HasPathBetween, IsClosedOrInGroupNotBefore, IsEdgeLookedAt, IsInGroupNotBefore, HasSearchInvariantWithNextNode, List, ListHasElement}
+use Rattle.sudoers_check.proofs.Common.{New, NodeSearchState, None, Open, Option, Some, [], ap, arith, cases_eq, cases_lt, edge_targets_of_node, get_or, here, inl, inr, length, length-set, onward, open_place_of_path_node, set}
 use Rattle.sudoers_check.proofs.Common.{slice_get, slice_get-get_or, slice_get_within, subst, sym, ℕ, ◌++◌, ◌+◌, ◌-◌, ◌<◌, ◌∙◌, ◌∷◌, ◌≡◌, ◌≤◌, ◌⊎◌}
 use Rattle.sudoers_check.proofs.Lists.{Has_at, place_of, get_front, get_pushed, get_push, Has_front, Has_pushed, Has_push, get-set_same, get-set_other, get-set}
 use Rattle.sudoers_check.proofs.Ascending.{ascends_front, ascends_last, ascends_push}
@@ -10,13 +10,13 @@ pub no_next_node_leaves_first_case : {A : Type 0} (x : ℕ) → A ⊎ (None ≡ 
 no_next_node_leaves_first_case x (inl a) = a
 no_next_node_leaves_first_case x (inr e) = absurd cc
 
-abbrev pub step_with_one_more_edge : DepthSearchStep → DepthSearchStep
+abbrev pub step_with_one_more_edge : NodeOnSearchPath → NodeOnSearchPath
 step_with_one_more_edge s = record { node = s.node; place = s.place; edges = s.edges + 1 }
 
 -- ---- the last node of the way
 
-module _ (graph : List (List ℕ)) (standings : List NodeSearchState) (marks : List Bool) (nodes groups : List ℕ) (way : List DepthSearchStep) (step : DepthSearchStep)
-    (f : KeepsSearchInvariant graph None standings marks nodes groups (way ++ step ∷ [])) where
+module _ (graph : List (List ℕ)) (standings : List NodeSearchState) (marks : List Bool) (nodes groups : List ℕ) (way : List NodeOnSearchPath) (step : NodeOnSearchPath)
+    (f : HasSearchInvariantWithNextNode graph None standings marks nodes groups (way ++ step ∷ [])) where
   pub last_at : slice_get nodes step.place ≡ Some step.node
   last_at = f.on_way step (Has_pushed way step)
 
@@ -24,8 +24,8 @@ module _ (graph : List (List ℕ)) (standings : List NodeSearchState) (marks : L
   starts_up_to b h =
       let s = f.starts b h in
       elim (Has_push way step s.0 s.1) [
-        | inl k ↦ let lt : s.0.place < step.place = ascends_last place_of_step way step f.way_ascends s.0 k in omega (arith, s.2)
-        | inr e ↦ let same : step.place ≡ s.0.place = ap place_of_step e in omega (arith, s.2)
+        | inl k ↦ let lt : s.0.place < step.place = ascends_last open_place_of_path_node way step f.way_ascends s.0 k in omega (arith, s.2)
+        | inr e ↦ let same : step.place ≡ s.0.place = ap open_place_of_path_node e in omega (arith, s.2)
       ]
 
   -- all open nodes reach the last one, and where its edge leads
@@ -34,7 +34,7 @@ module _ (graph : List (List ℕ)) (standings : List NodeSearchState) (marks : L
 
   looked_now : (w : ℕ) → slice_get (edge_targets_of_node graph step.node) step.edges ≡ Some w
       → (p j v x : ℕ) → slice_get nodes p ≡ Some v → slice_get (edge_targets_of_node graph v) j ≡ Some x → IsEdgeLookedAt (way ++ step_with_one_more_edge step ∷ []) p j
-      → IsClosedOrInLaterGroup standings nodes groups p x ⊎ (Some w ≡ Some x)
+      → IsClosedOrInGroupNotBefore standings nodes groups p x ⊎ (Some w ≡ Some x)
   looked_now w edge p j v x at e l = elim (cases_eq p step.place) [
     | inl last_is ↦
         let below : j < step.edges + 1 = l (step_with_one_more_edge step) (Has_pushed way (step_with_one_more_edge step)) (sym last_is) in
@@ -45,18 +45,18 @@ module _ (graph : List (List ℕ)) (standings : List NodeSearchState) (marks : L
               inr (sym edge ∙ ap (slice_get (edge_targets_of_node graph step.node)) (sym same) ∙ ap (λ u. slice_get (edge_targets_of_node graph u) j) (sym v_is) ∙ e)
           | inr other ↦ inl (no_next_node_leaves_first_case x (f.looked p j v x at e (λ s h on. elim (Has_push way step s h) [
             | inl k ↦ l s (Has_front way (step_with_one_more_edge step ∷ []) s k) on
-            | inr is ↦ let edges_is : step.edges ≡ s.edges = ap (λ (t : DepthSearchStep). t.edges) is in omega arith
+            | inr is ↦ let edges_is : step.edges ≡ s.edges = ap (λ (t : NodeOnSearchPath). t.edges) is in omega arith
           ])))
         ]
     | inr apart ↦ inl (no_next_node_leaves_first_case x (f.looked p j v x at e (λ s h on. elim (Has_push way step s h) [
       | inl k ↦ l s (Has_front way (step_with_one_more_edge step ∷ []) s k) on
-      | inr is ↦ absurd (apart (sym (ap place_of_step is ∙ on)))
+      | inr is ↦ absurd (apart (sym (ap open_place_of_path_node is ∙ on)))
     ])))
   ]
 
   -- the next edge is looked at
   pub advanced : (w : ℕ) → slice_get (edge_targets_of_node graph step.node) step.edges ≡ Some w
-      → KeepsSearchInvariant graph (Some w) standings marks nodes groups (way ++ step_with_one_more_edge step ∷ [])
+      → HasSearchInvariantWithNextNode graph (Some w) standings marks nodes groups (way ++ step_with_one_more_edge step ∷ [])
   advanced w edge = record {
     standings_size = f.standings_size;
     marks_size = f.marks_size;
@@ -69,14 +69,14 @@ module _ (graph : List (List ℕ)) (standings : List NodeSearchState) (marks : L
     unmarked = f.unmarked;
     on_way = λ s h. elim (Has_push way (step_with_one_more_edge step) s h) [
       | inl k ↦ f.on_way s (Has_front way (step ∷ []) s k)
-      | inr is ↦ subst (λ (t : DepthSearchStep). slice_get nodes t.place ≡ Some t.node) is last_at
+      | inr is ↦ subst (λ (t : NodeOnSearchPath). slice_get nodes t.place ≡ Some t.node) is last_at
     ];
-    way_ascends = ascends_push place_of_step way (step_with_one_more_edge step) (ascends_front place_of_step way (step ∷ []) f.way_ascends)
-        (λ s h. ascends_last place_of_step way step f.way_ascends s h);
+    way_ascends = ascends_push open_place_of_path_node way (step_with_one_more_edge step) (ascends_front open_place_of_path_node way (step ∷ []) f.way_ascends)
+        (λ s h. ascends_last open_place_of_path_node way step f.way_ascends s h);
     groups_ascend = f.groups_ascend;
     starts = λ b h. let s = f.starts b h in elim (Has_push way step s.0 s.1) [
       | inl k ↦ (s.0, Has_front way (step_with_one_more_edge step ∷ []) s.0 k, s.2)
-      | inr is ↦ (step_with_one_more_edge step, Has_pushed way (step_with_one_more_edge step), ap place_of_step is ∙ s.2)
+      | inr is ↦ (step_with_one_more_edge step, Has_pushed way (step_with_one_more_edge step), ap open_place_of_path_node is ∙ s.2)
     ];
     first = f.first;
   }
@@ -87,17 +87,17 @@ module _ (graph : List (List ℕ)) (standings : List NodeSearchState) (marks : L
   looked_all done p j v x at e l s h on = elim (Has_push way step s h) [
     | inl k ↦ l s k on
     | inr is ↦
-        let place_is : step.place ≡ p = ap place_of_step is ∙ on in
+        let place_is : step.place ≡ p = ap open_place_of_path_node is ∙ on in
         let node_is : Some step.node ≡ Some v = sym last_at ∙ ap (slice_get nodes) place_is ∙ at in
         let v_is : v ≡ step.node = cc in
         let within : j < length (edge_targets_of_node graph v) = slice_get_within (edge_targets_of_node graph v) j x e in
         let same : length (edge_targets_of_node graph v) ≡ length (edge_targets_of_node graph step.node) = ap (λ u. length (edge_targets_of_node graph u)) v_is in
-        let edges_is : step.edges ≡ s.edges = ap (λ (t : DepthSearchStep). t.edges) is in
+        let edges_is : step.edges ≡ s.edges = ap (λ (t : NodeOnSearchPath). t.edges) is in
         omega arith
   ]
 
   -- the last node is left, and its group does not begin with it
-  pub left_open : length (edge_targets_of_node graph step.node) ≤ step.edges → (ListHasElement groups step.place → ⊥) → KeepsSearchInvariant graph None standings marks nodes groups way
+  pub left_open : length (edge_targets_of_node graph step.node) ≤ step.edges → (ListHasElement groups step.place → ⊥) → HasSearchInvariantWithNextNode graph None standings marks nodes groups way
   left_open done no_start = record {
     standings_size = f.standings_size;
     marks_size = f.marks_size;
@@ -109,11 +109,11 @@ module _ (graph : List (List ℕ)) (standings : List NodeSearchState) (marks : L
     marked = f.marked;
     unmarked = f.unmarked;
     on_way = λ s h. f.on_way s (Has_front way (step ∷ []) s h);
-    way_ascends = ascends_front place_of_step way (step ∷ []) f.way_ascends;
+    way_ascends = ascends_front open_place_of_path_node way (step ∷ []) f.way_ascends;
     groups_ascend = f.groups_ascend;
     starts = λ b h. let s = f.starts b h in elim (Has_push way step s.0 s.1) [
       | inl k ↦ (s.0, k, s.2)
-      | inr is ↦ absurd (no_start (subst (ListHasElement groups) (sym (ap place_of_step is ∙ s.2)) h))
+      | inr is ↦ absurd (no_start (subst (ListHasElement groups) (sym (ap open_place_of_path_node is ∙ s.2)) h))
     ];
     first = f.first;
   }
@@ -134,10 +134,10 @@ module _ (graph : List (List ℕ)) (standings : List NodeSearchState) (marks : L
 
 -- ---- where an edge led
 
-module _ (graph : List (List ℕ)) (next : Option ℕ) (standings : List NodeSearchState) (marks : List Bool) (nodes groups : List ℕ) (way : List DepthSearchStep)
-    (f : KeepsSearchInvariant graph next standings marks nodes groups way) (w : ℕ) (is_next : (x : ℕ) → next ≡ Some x → w ≡ x) where
+module _ (graph : List (List ℕ)) (next : Option ℕ) (standings : List NodeSearchState) (marks : List Bool) (nodes groups : List ℕ) (way : List NodeOnSearchPath)
+    (f : HasSearchInvariantWithNextNode graph next standings marks nodes groups way) (w : ℕ) (is_next : (x : ℕ) → next ≡ Some x → w ≡ x) where
   -- to a closed node
-  pub led_to_closed : slice_get standings w ≡ Some Closed → KeepsSearchInvariant graph None standings marks nodes groups way
+  pub led_to_closed : slice_get standings w ≡ Some Closed → HasSearchInvariantWithNextNode graph None standings marks nodes groups way
   led_to_closed c = record {
     standings_size = f.standings_size;
     marks_size = f.marks_size;
@@ -158,7 +158,7 @@ module _ (graph : List (List ℕ)) (next : Option ℕ) (standings : List NodeSea
   module _ (reach : (p v : ℕ) → slice_get nodes p ≡ Some v → HasPathBetween graph v w) where
     -- to an open node
     pub led_to_open : (q : ℕ) → slice_get standings w ≡ Some (Open q) → (groups_new : List ℕ) → AreGroupsJoined groups q groups_new
-        → KeepsSearchInvariant graph None standings marks nodes groups_new way
+        → HasSearchInvariantWithNextNode graph None standings marks nodes groups_new way
     led_to_open q is groups_new j = record {
       standings_size = f.standings_size;
       marks_size = f.marks_size;
@@ -193,7 +193,7 @@ module _ (graph : List (List ℕ)) (next : Option ℕ) (standings : List NodeSea
       abbrev standings_new : List NodeSearchState
       standings_new = set standings w (Open (length nodes))
 
-      abbrev entry : DepthSearchStep
+      abbrev entry : NodeOnSearchPath
       entry = record { node = w; place = length nodes; edges = 0 }
 
       kept : (v : ℕ) (s : NodeSearchState) → (New ≡ s → ⊥) → slice_get standings v ≡ Some s → slice_get standings_new v ≡ Some s
@@ -230,7 +230,7 @@ module _ (graph : List (List ℕ)) (next : Option ℕ) (standings : List NodeSea
           by (inr a) (inr b) = here x (sym a.1 ∙ b.1)
 
       looked_then : (p j v x : ℕ) → slice_get (nodes ++ w ∷ []) p ≡ Some v → slice_get (edge_targets_of_node graph v) j ≡ Some x → IsEdgeLookedAt (way ++ entry ∷ []) p j
-          → IsClosedOrInLaterGroup standings_new (nodes ++ w ∷ []) (groups ++ k ∷ []) p x
+          → IsClosedOrInGroupNotBefore standings_new (nodes ++ w ∷ []) (groups ++ k ∷ []) p x
       looked_then p j v x at e l = elim (get_push nodes w p v at) [
         | inl old ↦
             let within : p < length nodes = slice_get_within nodes p v old in
@@ -244,7 +244,7 @@ module _ (graph : List (List ℕ)) (next : Option ℕ) (standings : List NodeSea
         | inr new ↦ absurd (let below : j < 0 = l entry (Has_pushed way entry) (sym new.0) in omega arith)
       ]
 
-      pub led_to_new : KeepsSearchInvariant graph None (set standings w (Open (length nodes))) marks (nodes ++ w ∷ []) (groups ++ length nodes ∷ [])
+      pub led_to_new : HasSearchInvariantWithNextNode graph None (set standings w (Open (length nodes))) marks (nodes ++ w ∷ []) (groups ++ length nodes ∷ [])
           (way ++ record { node = w; place = length nodes; edges = 0 } ∷ [])
       led_to_new = record {
         standings_size = length-set standings w (Open k) ∙ f.standings_size;
@@ -258,9 +258,9 @@ module _ (graph : List (List ℕ)) (next : Option ℕ) (standings : List NodeSea
         unmarked = λ v c m. f.unmarked v (was v Closed (λ e. absurd cc) c) m;
         on_way = λ s h. elim (Has_push way entry s h) [
           | inl old ↦ get_front nodes (w ∷ []) s.place s.node (f.on_way s old)
-          | inr same ↦ subst (λ (t : DepthSearchStep). slice_get (nodes ++ w ∷ []) t.place ≡ Some t.node) same (get_pushed nodes w)
+          | inr same ↦ subst (λ (t : NodeOnSearchPath). slice_get (nodes ++ w ∷ []) t.place ≡ Some t.node) same (get_pushed nodes w)
         ];
-        way_ascends = ascends_push place_of_step way entry f.way_ascends (λ s h. slice_get_within nodes s.place s.node (f.on_way s h));
+        way_ascends = ascends_push open_place_of_path_node way entry f.way_ascends (λ s h. slice_get_within nodes s.place s.node (f.on_way s h));
         groups_ascend = ascends_push (λ n. n) groups k f.groups_ascend (λ b h.
             let s = f.starts b h in
             let within : s.0.place < length nodes = slice_get_within nodes s.0.place s.0.node (f.on_way s.0 s.1) in

@@ -1,5 +1,5 @@
 -- The steps of the search, each shorter than what was left.
-use Rattle.sudoers_check.proofs.Common.{AreGroupsJoined, Bool, Closed, DepthSearchStep, HasPathBetween, HasSearchInvariant, IsMetNode, IsSearchStepResult, KeepsSearchInvariant, List, New, NodeIsEntered}
+use Rattle.sudoers_check.proofs.Common.{AreGroupsJoined, Bool, Closed, NodeOnSearchPath, HasPathBetween, HasSearchInvariant, IsMetNode, IsSearchStepResult, HasSearchInvariantWithNextNode, List, New, EntersNewNode}
 use Rattle.sudoers_check.proofs.Common.{NodeSearchState, None, Open, Option, Some, [], ap, arith, cycle_search_steps_left, edge_targets_of_node, inl, inr, length, refl, set, slice_get, slice_get_within}
 use Rattle.sudoers_check.proofs.Common.{steps_left_for_new_nodes, steps_left_on_path, subst, sym, ℕ, ◌++◌, ◌<◌, ◌∷◌, ◌≡◌}
 use Rattle.sudoers_check.specs.declared.cycles.CycleSearch.{CycleSearch}
@@ -7,14 +7,14 @@ use Rattle.sudoers_check.proofs.Fuel.{entering_node_uses_its_search_steps, pushe
 use Rattle.sudoers_check.proofs.Lists.{Has_at, get-set}
 use Rattle.sudoers_check.proofs.Searching.{step_with_one_more_edge, all_reach, advanced, led_to_closed, led_to_open, led_to_new}
 
-pub equal_search_state_keeps_invariant : (graph : List (List ℕ)) {a b : List NodeSearchState} {c d : List Bool} {e f g h : List ℕ} {i j : List DepthSearchStep}
-    → a ≡ b → c ≡ d → e ≡ f → g ≡ h → i ≡ j → KeepsSearchInvariant graph None a c e g i → KeepsSearchInvariant graph None b d f h j
+pub equal_search_state_keeps_invariant : (graph : List (List ℕ)) {a b : List NodeSearchState} {c d : List Bool} {e f g h : List ℕ} {i j : List NodeOnSearchPath}
+    → a ≡ b → c ≡ d → e ≡ f → g ≡ h → i ≡ j → HasSearchInvariantWithNextNode graph None a c e g i → HasSearchInvariantWithNextNode graph None b d f h j
 equal_search_state_keeps_invariant graph {a} {b} {c} {d} {e} {f} {g} {h} {i} {j} p q r s t x =
-    subst (λ y. KeepsSearchInvariant graph None b d f h y) t
-    (subst (λ y. KeepsSearchInvariant graph None b d f y i) s
-    (subst (λ y. KeepsSearchInvariant graph None b d y g i) r
-    (subst (λ y. KeepsSearchInvariant graph None b y e g i) q
-    (subst (λ y. KeepsSearchInvariant graph None y c e g i) p x))))
+    subst (λ y. HasSearchInvariantWithNextNode graph None b d f h y) t
+    (subst (λ y. HasSearchInvariantWithNextNode graph None b d f y i) s
+    (subst (λ y. HasSearchInvariantWithNextNode graph None b d y g i) r
+    (subst (λ y. HasSearchInvariantWithNextNode graph None b y e g i) q
+    (subst (λ y. HasSearchInvariantWithNextNode graph None y c e g i) p x))))
 
 pub entering_node_keeps_met_nodes : (standings : List NodeSearchState) (w p v : ℕ) → IsMetNode standings v → IsMetNode (set standings w (Open p)) v
 entering_node_keeps_met_nodes standings w p v met e = elim (get-set standings w v (Open p) New e) [
@@ -30,24 +30,24 @@ entered_node_is_met standings w p e = elim (get-set standings w w (Open p) New e
 ]
 
 pub entering_new_node_keeps_search_invariant : (graph : List (List ℕ)) (next : Option ℕ) (old new : CycleSearch) (w : ℕ)
-    → KeepsSearchInvariant graph next old.standings.items old.marks.items old.nodes.items old.groups.items old.way.items
+    → HasSearchInvariantWithNextNode graph next old.standings.items old.marks.items old.nodes.items old.groups.items old.way.items
     → ((x : ℕ) → next ≡ Some x → w ≡ x) → ((p v : ℕ) → slice_get old.nodes.items p ≡ Some v → HasPathBetween graph v w)
-    → slice_get old.standings.items w ≡ Some New → NodeIsEntered w old new → HasSearchInvariant graph new
+    → slice_get old.standings.items w ≡ Some New → EntersNewNode w old new → HasSearchInvariant graph new
 entering_new_node_keeps_search_invariant graph next old new w f is_next reach is e =
     equal_search_state_keeps_invariant graph (sym e.standings) (sym e.marks) (sym e.nodes) (sym e.groups) (sym e.way)
     (led_to_new graph next old.standings.items old.marks.items old.nodes.items old.groups.items old.way.items f w is_next reach is)
 
-module _ (graph : List (List ℕ)) (standings : List NodeSearchState) (marks : List Bool) (nodes groups : List ℕ) (way : List DepthSearchStep) (step : DepthSearchStep)
-    (f : KeepsSearchInvariant graph None standings marks nodes groups (way ++ step ∷ []))
-    (w : ℕ) (edge : slice_get (edge_targets_of_node graph step.node) step.edges ≡ Some w) (way_new : List DepthSearchStep) (is_way : way_new ≡ way ++ step_with_one_more_edge step ∷ []) where
+module _ (graph : List (List ℕ)) (standings : List NodeSearchState) (marks : List Bool) (nodes groups : List ℕ) (way : List NodeOnSearchPath) (step : NodeOnSearchPath)
+    (f : HasSearchInvariantWithNextNode graph None standings marks nodes groups (way ++ step ∷ []))
+    (w : ℕ) (edge : slice_get (edge_targets_of_node graph step.node) step.edges ≡ Some w) (way_new : List NodeOnSearchPath) (is_way : way_new ≡ way ++ step_with_one_more_edge step ∷ []) where
   shorter : steps_left_on_path graph way_new < steps_left_on_path graph (way ++ step ∷ [])
   shorter =
       let within : step.edges < length (edge_targets_of_node graph step.node) = slice_get_within (edge_targets_of_node graph step.node) step.edges w edge in
       let more = ap (steps_left_on_path graph) is_way in
       omega (arith, more, pushed_step_adds_its_steps_left graph way step, pushed_step_adds_its_steps_left graph way (step_with_one_more_edge step))
 
-  moved : KeepsSearchInvariant graph (Some w) standings marks nodes groups way_new
-  moved = subst (λ y. KeepsSearchInvariant graph (Some w) standings marks nodes groups y) (sym is_way) (advanced graph standings marks nodes groups way step f w edge)
+  moved : HasSearchInvariantWithNextNode graph (Some w) standings marks nodes groups way_new
+  moved = subst (λ y. HasSearchInvariantWithNextNode graph (Some w) standings marks nodes groups y) (sym is_way) (advanced graph standings marks nodes groups way step f w edge)
 
   is_next : (x : ℕ) → Some w ≡ Some x → w ≡ x
   is_next x e = cc
@@ -58,11 +58,11 @@ module _ (graph : List (List ℕ)) (standings : List NodeSearchState) (marks : L
   pub shorter_fuel : cycle_search_steps_left graph standings way_new < cycle_search_steps_left graph standings (way ++ step ∷ [])
   shorter_fuel = let less = shorter in omega arith
 
-  pub step_to_closed : slice_get standings w ≡ Some Closed → KeepsSearchInvariant graph None standings marks nodes groups way_new
+  pub step_to_closed : slice_get standings w ≡ Some Closed → HasSearchInvariantWithNextNode graph None standings marks nodes groups way_new
   step_to_closed = led_to_closed graph (Some w) standings marks nodes groups way_new moved w is_next
 
   pub step_to_open : (q : ℕ) → slice_get standings w ≡ Some (Open q) → (groups_new : List ℕ) → AreGroupsJoined groups q groups_new
-      → KeepsSearchInvariant graph None standings marks nodes groups_new way_new
+      → HasSearchInvariantWithNextNode graph None standings marks nodes groups_new way_new
   step_to_open = led_to_open graph (Some w) standings marks nodes groups way_new moved w is_next reach
 
   pub step_to_new : slice_get standings w ≡ Some New → (new : CycleSearch)

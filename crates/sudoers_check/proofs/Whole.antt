@@ -1,8 +1,8 @@
 -- Where the search ends.
-use Rattle.sudoers_check.proofs.Common.{Bool, Closed, IsMetNode, IsOnCycle, KeepsSearchInvariant, List, MarksDecidePredicate, New, NodeSearchState, None, Open, Some, [], arith, false, get_or, length, slice_get}
+use Rattle.sudoers_check.proofs.Common.{Bool, Closed, IsMetNode, IsOnCycle, HasSearchInvariantWithNextNode, List, MarksDecidePredicate, New, NodeSearchState, None, Open, Some, [], arith, false, get_or, length, slice_get}
 use Rattle.sudoers_check.proofs.Common.{slice_get-get_or, slice_get_within, true, ℕ, ◌<◌, ◌≡◌}
 
-module _ (graph : List (List ℕ)) (standings : List NodeSearchState) (marks : List Bool) (nodes groups : List ℕ) (f : KeepsSearchInvariant graph None standings marks nodes groups []) where
+module _ (graph : List (List ℕ)) (standings : List NodeSearchState) (marks : List Bool) (nodes groups : List ℕ) (f : HasSearchInvariantWithNextNode graph None standings marks nodes groups []) where
   -- at the end of the way no node is open
   pub none_open : (p v : ℕ) → slice_get nodes p ≡ Some v → ⊥
   none_open p v at =

@@ -9,7 +9,7 @@ use Rattle.sudoers_grammar.specs.Node as node
 use Rattle.sudoers_tree.specs.Line.{Line}
 use Rattle.sudoers_tree.specs.Definition.{PlacedDefinition, definitions_of_lines}
 use Rattle.sudoers_tree.specs.Mention.{members_of_kind_in_line}
-use Rattle.sudoers_check.specs.Chain.{ListHasElement, IsReachedBySteps}
+use Rattle.sudoers_check.specs.Chain.{ListHasElement, IsReachedByChainOfSteps}
 
 abbrev pub alias_names_of_atom : Atom → List (List ℕ)
 alias_names_of_atom (atom.Alias name) = name ∷ []
@@ -41,16 +41,16 @@ abbrev pub root_alias_names : Kind → List Line → List (List ℕ)
 root_alias_names k lines = flat_map (λ (line : Line). root_names_in_node k line.node) lines
 
 -- A chain of mentions leads to the name from a user specification or a Defaults line.
-abbrev pub IsReachable : Kind → List Line → List ℕ → Type 0
-IsReachable k lines = IsReachedBySteps (DefinitionMentionsName k (definitions_of_lines lines)) (ListHasElement (root_alias_names k lines))
+abbrev pub IsReachedFromSpecOrDefaults : Kind → List Line → List ℕ → Type 0
+IsReachedFromSpecOrDefaults k lines = IsReachedByChainOfSteps (DefinitionMentionsName k (definitions_of_lines lines)) (ListHasElement (root_alias_names k lines))
 
 -- The definition's alias is joined to itself by a chain of one or more mentions.
 abbrev pub IsCyclic : List Line → PlacedDefinition → Type 0
-IsCyclic lines d = IsReachedBySteps (DefinitionMentionsName d.kind (definitions_of_lines lines)) (ListHasElement (alias_names_among_members d.def.members)) d.def.name
+IsCyclic lines d = IsReachedByChainOfSteps (DefinitionMentionsName d.kind (definitions_of_lines lines)) (ListHasElement (alias_names_among_members d.def.members)) d.def.name
 
 -- Some alias is cyclic to which a chain of mentions leads from a user specification or a Defaults line.
-pub record HasReachableCycle (lines : List Line) : Type 0 where
+pub record HasCyclicAliasReachedFromSpecOrDefaults (lines : List Line) : Type 0 where
   pub alias : PlacedDefinition
   pub stands : ListHasElement (definitions_of_lines lines) alias
-  pub reached : IsReachable alias.kind lines alias.def.name
+  pub reached : IsReachedFromSpecOrDefaults alias.kind lines alias.def.name
   pub cyclic : IsCyclic lines alias

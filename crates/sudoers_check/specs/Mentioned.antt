@@ -23,12 +23,12 @@ mention_of_atom line k m (atom.Alias name) =
 mention_of_atom line k m other = []
 
 -- the mentions among members of lists of the line with this number, from 0
-abbrev pub mentions_among_listed : ℕ → List ListedMember → List Mention
-mentions_among_listed line ls = flat_map (λ (l : ListedMember). mention_of_atom line l.0 l.1 l.1.atom) ls
+abbrev pub mentions_among_listed_members : ℕ → List ListedMember → List Mention
+mentions_among_listed_members line ls = flat_map (λ (l : ListedMember). mention_of_atom line l.0 l.1 l.1.atom) ls
 
 -- what the line with this number, from 0, mentions that says this
 abbrev pub mentions_in_node : ℕ → Node → List Mention
-mentions_in_node line n = mentions_among_listed line (listed_members_of_node n)
+mentions_in_node line n = mentions_among_listed_members line (listed_members_of_node n)
 
 -- the mention that an alias is in the line with this number
 abbrev pub mention_of_alias_member : ℕ → AliasMember → Mention
@@ -36,13 +36,13 @@ mention_of_alias_member line a =
     record { kind = a.kind; name = a.name; span = record { line = line; start = a.stop - length a.name; stop = a.stop } }
 
 -- what lines mention that are numbered from this number on
-abbrev pub mentions_in_lines_from : ℕ → List Line → List Mention
-mentions_in_lines_from n [] = []
-mentions_in_lines_from n (line ∷ lines) = mentions_in_node n line.node ++ mentions_in_lines_from (n + 1) lines
+abbrev pub mentions_in_lines_numbered_from : ℕ → List Line → List Mention
+mentions_in_lines_numbered_from n [] = []
+mentions_in_lines_numbered_from n (line ∷ lines) = mentions_in_node n line.node ++ mentions_in_lines_numbered_from (n + 1) lines
 
 -- all mentions, in the order of the lines
 abbrev pub all_mentions_in_lines : List Line → List Mention
-all_mentions_in_lines lines = mentions_in_lines_from 0 lines
+all_mentions_in_lines lines = mentions_in_lines_numbered_from 0 lines
 
 -- the mention is one of this name in this kind
 abbrev pub is_mention_of_name : Kind → List ℕ → Mention → Bool

@@ -28,9 +28,9 @@ alias_line_if_any line number (suc many) = record { line = line; number = number
 
 -- the lines that have definitions, of lines that are numbered from n on, each with how many definitions stand before it, where so many
 -- stand before all
-abbrev pub alias_lines_from : ℕ → ℕ → List Line → List AliasLineFirstNumber
-alias_lines_from n number [] = []
-alias_lines_from n number (line ∷ lines) = alias_line_if_any n number (definition_count_in_node line.node) ++ alias_lines_from (n + 1) (number + definition_count_in_node line.node) lines
+abbrev pub alias_lines_of_lines_numbered_from : ℕ → ℕ → List Line → List AliasLineFirstNumber
+alias_lines_of_lines_numbered_from n number [] = []
+alias_lines_of_lines_numbered_from n number (line ∷ lines) = alias_line_if_any n number (definition_count_in_node line.node) ++ alias_lines_of_lines_numbered_from (n + 1) (number + definition_count_in_node line.node) lines
 
 -- which of the definitions is the first of this name in this kind
 abbrev pub number_of_definition : Kind → List ℕ → List PlacedDefinition → Option ℕ
@@ -53,23 +53,23 @@ graph_nodes_of_definitions ds others = map (λ (d : PlacedDefinition). numbers_o
 abbrev pub mention_graph_of_definitions : List PlacedDefinition → List (List ℕ)
 mention_graph_of_definitions ds = graph_nodes_of_definitions ds ds
 
-abbrev pub is_spec_or_defaults_node : Node → Bool
-is_spec_or_defaults_node (node.Spec users groups) = true
-is_spec_or_defaults_node (node.Defaults scope params) = true
-is_spec_or_defaults_node (node.Alias k defs) = false
-is_spec_or_defaults_node node.Blank = false
-is_spec_or_defaults_node node.Comment = false
-is_spec_or_defaults_node (node.Include dir path) = false
+abbrev pub is_spec_or_defaults_line_node : Node → Bool
+is_spec_or_defaults_line_node (node.Spec users groups) = true
+is_spec_or_defaults_line_node (node.Defaults scope params) = true
+is_spec_or_defaults_line_node (node.Alias k defs) = false
+is_spec_or_defaults_line_node node.Blank = false
+is_spec_or_defaults_line_node node.Comment = false
+is_spec_or_defaults_line_node (node.Include dir path) = false
 
 -- the numbers of what is mentioned there, where it is defined
 abbrev pub numbers_of_defined_mentions : List PlacedDefinition → List Mention → List ℕ
 numbers_of_defined_mentions ds ms = filter_map (λ (m : Mention). number_of_definition m.kind m.name ds) ms
 
 -- the numbers of the definitions that user specifications and Defaults lines mention, of lines that are numbered from this on
-abbrev pub root_numbers_in_lines_from : List PlacedDefinition → ℕ → List Line → List ℕ
-root_numbers_in_lines_from ds n [] = []
-root_numbers_in_lines_from ds n (line ∷ lines) =
-    (if is_spec_or_defaults_node line.node then numbers_of_defined_mentions ds (mentions_in_node n line.node) else []) ++ root_numbers_in_lines_from ds (n + 1) lines
+abbrev pub root_numbers_in_lines_numbered_from : List PlacedDefinition → ℕ → List Line → List ℕ
+root_numbers_in_lines_numbered_from ds n [] = []
+root_numbers_in_lines_numbered_from ds n (line ∷ lines) =
+    (if is_spec_or_defaults_line_node line.node then numbers_of_defined_mentions ds (mentions_in_node n line.node) else []) ++ root_numbers_in_lines_numbered_from ds (n + 1) lines
 
 -- those of the definitions that have this mark
 abbrev pub definitions_with_mark : Bool → List Bool → List PlacedDefinition → List PlacedDefinition

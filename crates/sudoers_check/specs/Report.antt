@@ -73,28 +73,28 @@ report_of_walk walk = record {
 abbrev pub note_place_text : LoadedPolicy → Note → List ℕ
 note_place_text policy n = name_of_numbered_file policy.files n.file ++ codes ":" ++ decimal n.line ++ codes ":" ++ decimal n.col ++ codes ": "
 
-abbrev pub note_name_text : List ℕ → Note → List ℕ
-note_name_text word n = word ++ codes " " ++ alias_line_keyword n.kind ++ codes " " ++ n.name ++ codes "\n"
+abbrev pub note_finding_and_alias_text : List ℕ → Note → List ℕ
+note_finding_and_alias_text word n = word ++ codes " " ++ alias_line_keyword n.kind ++ codes " " ++ n.name ++ codes "\n"
 
 -- FILE:LINE:COL: WORD KIND NAME, where FILE is the name of the file of the note
 abbrev pub note_text : LoadedPolicy → List ℕ → Note → List ℕ
-note_text policy word n = note_place_text policy n ++ note_name_text word n
+note_text policy word n = note_place_text policy n ++ note_finding_and_alias_text word n
 
 abbrev pub is_empty : List Note → Bool
 is_empty [] = true
 is_empty (n ∷ ns) = false
 
 -- there are no undefined names and no cycles, or these are no faults
-abbrev pub is_report_without_faults : Bool → Report → Bool
-is_report_without_faults false report = true
-is_report_without_faults true report = is_empty report.undefined && is_empty report.cyclic
+abbrev pub is_report_parsed_ok : Bool → Report → Bool
+is_report_parsed_ok false report = true
+is_report_parsed_ok true report = is_empty report.undefined && is_empty report.cyclic
 
-abbrev pub verdict_line_text : Bool → List ℕ
-verdict_line_text true = codes ": parsed OK\n"
-verdict_line_text false = codes ": faults found\n"
+abbrev pub parsed_ok_or_faults_found_ending : Bool → List ℕ
+parsed_ok_or_faults_found_ending true = codes ": parsed OK\n"
+parsed_ok_or_faults_found_ending false = codes ": faults found\n"
 
 -- a line for each note, and a last one, which names the first file
 abbrev pub report_text : LoadedPolicy → Bool → Report → List ℕ
 report_text policy strict report =
     flat_map (note_text policy (codes "undefined")) report.undefined ++ flat_map (note_text policy (codes "cyclic")) report.cyclic
-    ++ flat_map (note_text policy (codes "unused")) report.unused ++ name_of_numbered_file policy.files 0 ++ verdict_line_text (is_report_without_faults strict report)
+    ++ flat_map (note_text policy (codes "unused")) report.unused ++ name_of_numbered_file policy.files 0 ++ parsed_ok_or_faults_found_ending (is_report_parsed_ok strict report)

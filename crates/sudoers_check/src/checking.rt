@@ -6,14 +6,14 @@ ghost use Rattle.sudoers_tree.specs.FilePlaces.{file_place_of_walk_place};
 ghost use Rattle.sudoers_tree.specs.Line.{lines_of_rows};
 ghost use Rattle.sudoers_tree.specs.Definition.{definitions_of_lines, PlacedDefinition};
 ghost use Rattle.sudoers_check.specs.Led.{is_used, is_cyclic, unused_definitions_of_lines, cyclic_definitions_of_lines};
-ghost use Rattle.sudoers_check.specs.Numbers.{definitions_with_mark, mention_graph_of_definitions, root_numbers_in_lines_from};
-ghost use Rattle.sudoers_check.specs.internal.Noting.{unmarked_places_from, unmarked_places_in_node};
+ghost use Rattle.sudoers_check.specs.Numbers.{definitions_with_mark, mention_graph_of_definitions, root_numbers_in_lines_numbered_from};
+ghost use Rattle.sudoers_check.specs.internal.Noting.{unmarked_places_in_line_counted_from, unmarked_places_in_line_node};
 ghost use Rattle.sudoers_check.specs.Report.{report_of_walk};
 
 use crate::cycles::find_nodes_on_cycles;
+use crate::definition_counts_and_line_kinds::{count_definitions_in_line, find_defined_alias_kind};
 use crate::definition_numbers::{DefinitionGraphAndRoots, DefinitionNumbers};
 use crate::graph::Graph;
-use crate::line_definitions::{count_definitions, find_defined_alias_kind};
 use crate::notes::{make_notes_of_definitions, make_notes_of_undefined_names};
 use crate::report::Report;
 use std::alloc::{AllocError, Global};
@@ -52,7 +52,7 @@ pub fn unused(
     ensures { IfOk result (λ places. places.items
         ≡ map (λ (d : PlacedDefinition). (d.kind, file_place_of_walk_place policy.now.walk d.place)) (unused_definitions_of_lines policy.now.walk.lines)) }
 {
-    let on_walk = find_unused_definitions(alloc, policy.walk())?;
+    let on_walk = list_unused_definitions_of_walk(alloc, policy.walk())?;
     let mut places = Vec::with_capacity(alloc, on_walk.len())?;
     for found in on_walk.as_slice() {
         places.push((found.0, policy.file_place_of_walk_place(found.1)))?;
@@ -66,7 +66,7 @@ pub fn unused(
 /// # Errors
 ///
 /// Memory ran out.
-pub fn find_unused_definitions(
+pub fn list_unused_definitions_of_walk(
     alloc: Global,
     walk: Walk<'_>,
 ) -> Result<Vec<(Kind, Place)>, AllocError>
@@ -92,7 +92,7 @@ fn find_unmarked_definitions(
     let lines = walk.lines();
     for (number, row) in lines.rows.iter().enumerate() {
         let node = lines.tables.node_of_row(&row.node);
-        let (here, behind) = rest.split_at(count_definitions(&node));
+        let (here, behind) = rest.split_at(count_definitions_in_line(&node));
         append_unmarked_of_line(number, &node, here, &mut places)?;
         rest = behind;
     }
@@ -126,7 +126,7 @@ fn mark_reached_definitions(
     lines: &RowsOfTable<'_, LineRow>,
 ) -> Result<Vec<bool>, AllocError>
     requires graph { links.now.graph ≡ mention_graph_of_definitions (definitions_of_lines numbers.now.walk) }
-    requires roots { links.now.roots.items ≡ root_numbers_in_lines_from (definitions_of_lines numbers.now.walk) 0 (lines_of_rows lines.now) }
+    requires roots { links.now.roots.items ≡ root_numbers_in_lines_numbered_from (definitions_of_lines numbers.now.walk) 0 (lines_of_rows lines.now) }
     requires same { definitions_of_lines (lines_of_rows lines.now) ≡ definitions_of_lines numbers.now.walk }
     ensures { IfOk result (λ marks. marks.items ≡ map (is_used (lines_of_rows lines.now)) (definitions_of_lines (lines_of_rows lines.now))) }
 {
@@ -160,21 +160,21 @@ fn append_unmarked_of_line(
     marks: &[bool],
     places: &mut Vec<(Kind, Place)>,
 ) -> Result<(), AllocError>
-    ensures { OnOk result (places.new.items ≡ places.old.items ++ unmarked_places_in_node number marks.now (node_of_view node.now)) }
+    ensures { OnOk result (places.new.items ≡ places.old.items ++ unmarked_places_in_line_node number marks.now (node_of_view node.now)) }
 {
     match find_defined_alias_kind(node) {
-        Some(kind) => append_unmarked_places(number, kind, marks, places),
+        Some(kind) => append_unmarked_places_in_line(number, kind, marks, places),
         None => Ok(()),
     }
 }
 
-fn append_unmarked_places(
+fn append_unmarked_places_in_line(
     line: usize,
     kind: Kind,
     marks: &[bool],
     places: &mut Vec<(Kind, Place)>,
 ) -> Result<(), AllocError>
-    ensures { OnOk result (places.new.items ≡ places.old.items ++ unmarked_places_from line kind 0 marks.now) }
+    ensures { OnOk result (places.new.items ≡ places.old.items ++ unmarked_places_in_line_counted_from line kind 0 marks.now) }
 {
     for (def, mark) in marks.iter().enumerate() {
         if !*mark {

@@ -3,12 +3,12 @@
 ghost use Rattle.std.specs.Prelude.{◌≡◌, ◌<◌, ◌≤◌, [], ◌↔◌, ℕ, Some, slice_get, length, IfOk, OnOk, IsTrue};
 ghost use Rattle.sudoers_check.specs.internal.Graph.{edge_targets_of_node, HasEdge, IsOnCycle, MarksDecidePredicate};
 ghost use Rattle.sudoers_check.specs.declared.cycles.NodeSearchState.TheVariants.{Open};
-ghost use Rattle.sudoers_check.specs.internal.Search.{HasAscendingKeys, ClosesOpenNodes, SearchHasMetNode, NodeIsEntered, AreGroupsJoined, HasSearchInvariant, HasSearchInvariantWithStep, SearchStepLeadsTo};
+ghost use Rattle.sudoers_check.specs.internal.Search.{HasAscendingKeys, ClosesOpenNodes, SearchHasMetNode, EntersNewNode, AreGroupsJoined, HasSearchInvariant, HasSearchInvariantWithLastPathNode, SearchStepLeadsTo};
 
 use crate::graph::Graph;
 use std::alloc::{AllocError, Global};
 
-/// Which nodes are on a cycle.
+/// Returns which nodes are on a cycle.
 ///
 /// # Errors
 ///
@@ -36,7 +36,7 @@ enum NodeSearchState {
 
 /// A node on the way, its place among the open ones, and how many of its edges were looked at.
 #[derive(Clone, Copy)]
-struct DepthSearchStep {
+struct NodeOnSearchPath {
     node: usize,
     place: usize,
     edges: usize,
@@ -52,7 +52,7 @@ struct CycleSearch {
     /// Where the groups of open nodes begin.
     groups: Vec<usize>,
     /// The way to the node that is looked at.
-    way: Vec<DepthSearchStep>,
+    way: Vec<NodeOnSearchPath>,
     /// Which of the closed nodes are on a cycle.
     marks: Vec<bool>,
 }
@@ -89,15 +89,15 @@ impl CycleSearch {
     }
 
     /// Looks at the next edge of the last node of the way, or leaves it where there is none.
-    fn look(&mut self, graph: &Graph, step: DepthSearchStep) -> Result<(), AllocError>
-        requires { HasSearchInvariantWithStep graph.now self.old step }
+    fn look(&mut self, graph: &Graph, step: NodeOnSearchPath) -> Result<(), AllocError>
+        requires { HasSearchInvariantWithLastPathNode graph.now self.old step }
         ensures { OnOk result (SearchStepLeadsTo graph.now self.old step self.new) }
     {
         let Some(next) = graph.edges_of_node(step.node).get(step.edges).copied() else {
             self.leave_last_node(graph, step);
             return Ok(());
         };
-        self.way.push(DepthSearchStep {
+        self.way.push(NodeOnSearchPath {
             edges: step.edges + 1,
             ..step
         })?;
@@ -111,16 +111,16 @@ impl CycleSearch {
         }
     }
 
-    /// A node that was not met, in a group of its own.
+    /// Adds a node that was not met, in a group of its own.
     fn enter(&mut self, node: usize) -> Result<(), AllocError>
         requires { node < length self.old.standings.items }
-        ensures { OnOk result (NodeIsEntered node self.old self.new) }
+        ensures { OnOk result (EntersNewNode node self.old self.new) }
     {
         let place = self.nodes.len();
         self.standings[node] = NodeSearchState::Open(place);
         self.groups.push(place)?;
         self.nodes.push(node)?;
-        self.way.push(DepthSearchStep {
+        self.way.push(NodeOnSearchPath {
             node,
             place,
             edges: 0,
@@ -129,8 +129,8 @@ impl CycleSearch {
     }
 
     /// Leaves the last node of the way. Where its group begins with it, all of the group was looked at.
-    fn leave_last_node(&mut self, graph: &Graph, step: DepthSearchStep)
-        requires kept { HasSearchInvariantWithStep graph.now self.old step }
+    fn leave_last_node(&mut self, graph: &Graph, step: NodeOnSearchPath)
+        requires kept { HasSearchInvariantWithLastPathNode graph.now self.old step }
         requires edges { length (edge_targets_of_node graph.now step.node) ≤ step.edges }
         ensures { SearchStepLeadsTo graph.now self.old step self.new }
     {
@@ -177,7 +177,7 @@ fn join_open_groups(groups: &mut Vec<usize>, place: usize)
     }
 }
 
-/// Whether an edge leads from the node to itself.
+/// Returns whether an edge leads from the node to itself.
 fn has_edge_to_itself(graph: &Graph, node: usize) -> bool
     requires { node < length graph.now }
     ensures { IsTrue result ↔ HasEdge graph.now node node }

@@ -7,11 +7,11 @@ ghost use Rattle.sudoers_tree.specs.Definition.{definitions_of_lines, definition
 ghost use Rattle.sudoers_tree.specs.Line.{lines_of_rows};
 ghost use Rattle.sudoers_check.specs.Chains.{alias_names_among_members};
 ghost use Rattle.sudoers_check.specs.declared.definition_numbers.AliasLineFirstNumber.{AliasLineFirstNumber as FirstOf};
-ghost use Rattle.sudoers_check.specs.Numbers.{alias_line_if_any, alias_lines_from, number_of_definition, numbers_of_defined_names, numbers_of_defined_aliases, graph_nodes_of_definitions, mention_graph_of_definitions, root_numbers_in_lines_from, numbers_of_defined_mentions};
+ghost use Rattle.sudoers_check.specs.Numbers.{alias_line_if_any, alias_lines_of_lines_numbered_from, number_of_definition, numbers_of_defined_names, numbers_of_defined_aliases, graph_nodes_of_definitions, mention_graph_of_definitions, root_numbers_in_lines_numbered_from, numbers_of_defined_mentions};
 ghost use Rattle.sudoers_check.specs.Mentioned.{mentions_in_node as mentions_of};
 
+use crate::definition_counts_and_line_kinds::{count_definitions_in_line, is_spec_or_defaults};
 use crate::graph::Graph;
-use crate::line_definitions::{count_definitions, is_spec_or_defaults};
 use crate::line_mentions::find_mentions_in_line;
 use std::alloc::{AllocError, Global};
 use sudoers_tree::{
@@ -40,7 +40,7 @@ pub struct DefinitionNumbers<'a> {
     /// The lines that define aliases, in the order of the walk.
     firsts: Vec<AliasLineFirstNumber>,
     count: usize,
-    ghost firsts_are: { firsts.items ≡ alias_lines_from 0 0 walk },
+    ghost firsts_are: { firsts.items ≡ alias_lines_of_lines_numbered_from 0 0 walk },
     ghost count_is: { count ≡ length (definitions_of_lines walk) },
 }
 
@@ -60,7 +60,7 @@ fn append_alias_line(
 }
 
 /// Returns the place of a line among lines in rising order, if it is there.
-fn find_alias_line(firsts: &[AliasLineFirstNumber], line: usize) -> Option<usize>
+fn index_of_alias_line(firsts: &[AliasLineFirstNumber], line: usize) -> Option<usize>
     requires { (i j : ℕ) (d : FirstOf) → i ≤ j → j < length firsts.now → (slice_index_or firsts.now i d).line ≤ (slice_index_or firsts.now j d).line }
     ensures found { IfSome result (λ at. (at < length firsts.now) × ((d : FirstOf) → (slice_index_or firsts.now at d).line ≡ line)) }
     ensures missing { result ≡ None → (i : ℕ) (d : FirstOf) → i < length firsts.now → (slice_index_or firsts.now i d).line ≢ line }
@@ -86,7 +86,7 @@ impl<'a> DefinitionNumbers<'a> {
         let mut count = 0;
         let lines = walk.lines();
         for (line, row) in lines.rows.iter().enumerate() {
-            let many = count_definitions(&lines.tables.node_of_row(&row.node));
+            let many = count_definitions_in_line(&lines.tables.node_of_row(&row.node));
             append_alias_line(line, count, many, &mut firsts)?;
             count += many;
         }
@@ -111,13 +111,13 @@ impl<'a> DefinitionNumbers<'a> {
         // laws
         self.walk.is_walk();
         let place = self.walk.place_of_definition(kind, name)?;
-        let at = find_alias_line(self.firsts.as_slice(), place.line)?;
+        let at = index_of_alias_line(self.firsts.as_slice(), place.line)?;
         Some(self.firsts[at].number + place.def)
     }
 
     /// Returns the lines that define aliases, in the order of the walk.
     pub fn alias_lines(&self) -> &[AliasLineFirstNumber]
-        ensures { result.now ≡ alias_lines_from 0 0 self.now.walk }
+        ensures { result.now ≡ alias_lines_of_lines_numbered_from 0 0 self.now.walk }
     {
         self.firsts.as_slice()
     }
@@ -132,7 +132,7 @@ impl<'a> DefinitionNumbers<'a> {
     ) -> Result<DefinitionGraphAndRoots, AllocError>
         requires { definitions_of_lines (lines_of_rows lines.now) ≡ definitions_of_lines self.now.walk }
         ensures graph { IfOk result (λ links. links.graph ≡ mention_graph_of_definitions (definitions_of_lines self.now.walk)) }
-        ensures roots { IfOk result (λ links. links.roots.items ≡ root_numbers_in_lines_from (definitions_of_lines self.now.walk) 0 (lines_of_rows lines.now)) }
+        ensures roots { IfOk result (λ links. links.roots.items ≡ root_numbers_in_lines_numbered_from (definitions_of_lines self.now.walk) 0 (lines_of_rows lines.now)) }
     {
         let mut nodes = Vec::new(alloc);
         let mut roots = Vec::new(alloc);
@@ -140,7 +140,7 @@ impl<'a> DefinitionNumbers<'a> {
             let node = lines.tables.node_of_row(&row.node);
             self.append_nodes_of_line(alloc, &node, &mut nodes)?;
             if is_spec_or_defaults(&node) {
-                self.append_numbers_of_mentions(alloc, number, &node, &mut roots)?;
+                self.append_numbers_of_mentions_in_line(alloc, number, &node, &mut roots)?;
             }
         }
         let graph = Graph::from_nodes(nodes);
@@ -217,7 +217,7 @@ impl<'a> DefinitionNumbers<'a> {
     }
 
     /// Adds the numbers of the definitions that a line mentions.
-    fn append_numbers_of_mentions(
+    fn append_numbers_of_mentions_in_line(
         &self,
         alloc: Global,
         number: usize,

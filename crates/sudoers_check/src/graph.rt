@@ -3,7 +3,7 @@
 ghost use Rattle.std.specs.Prelude.{◌≡◌, ◌<◌, length, map, [], List, ℕ, IfOk, OnOk};
 ghost use Rattle.std.specs.List.{AllByRecursion};
 ghost use Rattle.sudoers_check.specs.internal.Found.{ListsMarkedNodes, MarksNodesAdded};
-ghost use Rattle.sudoers_check.specs.internal.Graph.{edge_targets_of_node, AreNodesOfGraph, IsGraph, IsReachedFromNodes, MarksDecidePredicate};
+ghost use Rattle.sudoers_check.specs.internal.Graph.{edge_targets_of_node, AreNodesOfGraph, HasAllEdgeTargetsInGraph, IsReachedFromNodes, MarksDecidePredicate};
 
 use std::alloc::{AllocError, Global};
 use std::marker::Model;
@@ -17,32 +17,32 @@ pub struct Graph {
 impl Model for Graph {
     ghost use Rattle.std.specs.Prelude.{ℕ, List, map};
     ghost use Rattle.std.specs.declared.vec.Vec.{Vec};
-    ghost use Rattle.sudoers_check.specs.internal.Graph.{IsGraph};
+    ghost use Rattle.sudoers_check.specs.internal.Graph.{HasAllEdgeTargetsInGraph};
 
     ghost Value = { List (List ℕ) };
 
     ghost view = { λ graph. map (λ edges. edges.items) graph.nodes.items };
 
-    ghost invariant = { λ graph. IsGraph (map (λ edges. edges.items) graph.nodes.items) };
+    ghost invariant = { λ graph. HasAllEdgeTargetsInGraph (map (λ edges. edges.items) graph.nodes.items) };
 }
 
 impl Graph {
-    /// The graph of these nodes.
+    /// Returns the graph of these nodes.
     pub fn from_nodes(nodes: Vec<Vec<usize>>) -> Graph
-        requires { IsGraph (map (λ edges. edges.items) nodes.items) }
+        requires { HasAllEdgeTargetsInGraph (map (λ edges. edges.items) nodes.items) }
         ensures { result ≡ map (λ edges. edges.items) nodes.items }
     {
         Graph { nodes }
     }
 
-    /// How many nodes there are.
+    /// Returns how many nodes there are.
     pub fn len(&self) -> usize
         ensures { result ≡ length self.now }
     {
         self.nodes.len()
     }
 
-    /// The nodes to which the edges of a node lead.
+    /// Returns the nodes to which the edges of a node lead.
     pub fn edges_of_node(&self, node: usize) -> &[usize]
         requires { node < length self.now }
         ensures edges { result.now ≡ edge_targets_of_node self.now node }
@@ -51,7 +51,7 @@ impl Graph {
         self.nodes[node].as_slice()
     }
 
-    /// Which nodes are reached from these.
+    /// Returns which nodes are reached from these.
     ///
     /// # Errors
     ///

@@ -8,7 +8,7 @@ ghost use Rattle.sudoers_tree.specs.Definition.{PlacedDefinition, definitions_of
 ghost use Rattle.sudoers_tree.specs.Policy.{AreValidWalkLines};
 ghost use Rattle.sudoers_tree.specs.Mention.{mentions_in_lines};
 ghost use Rattle.sudoers_check.specs.Chain.{ListHasElement};
-ghost use Rattle.sudoers_check.specs.Chains.{IsReachable, IsCyclic};
+ghost use Rattle.sudoers_check.specs.Chains.{IsReachedFromSpecOrDefaults, IsCyclic};
 ghost use Rattle.sudoers_check.specs.Led.{is_unused, is_cyclic};
 ghost use Rattle.sudoers_check.specs.Numbers.{number_of_definition};
 ghost use Rattle.sudoers_check.specs.Mentioned.{Mention, all_mentions_in_lines, is_mention_of_name};
@@ -17,9 +17,9 @@ ghost use Rattle.sudoers_check.specs.Mentioned.{Mention, all_mentions_in_lines, 
 /// or a Defaults line; and which are cyclic: those joined to themselves.
 pub fn chains_are()
     ensures unused { (lines : List LineOf) (d : PlacedDefinition) → ListHasElement (definitions_of_lines lines) d → is_unused lines d ≡ true
-        → IsReachable d.kind lines d.def.name → ⊥ }
+        → IsReachedFromSpecOrDefaults d.kind lines d.def.name → ⊥ }
     ensures used { (lines : List LineOf) (d : PlacedDefinition) → ListHasElement (definitions_of_lines lines) d → is_unused lines d ≡ false
-        → IsReachable d.kind lines d.def.name }
+        → IsReachedFromSpecOrDefaults d.kind lines d.def.name }
     ensures cyclic { (lines : List LineOf) (d : PlacedDefinition) → ListHasElement (definitions_of_lines lines) d → is_cyclic lines d ≡ true
         → IsCyclic lines d }
     ensures straight { (lines : List LineOf) (d : PlacedDefinition) → ListHasElement (definitions_of_lines lines) d → is_cyclic lines d ≡ false

@@ -3,16 +3,16 @@
 
 mod checking;
 mod cycles;
+mod definition_counts_and_line_kinds;
 mod definition_numbers;
 mod graph;
 pub mod laws;
-mod line_definitions;
 mod line_mentions;
 mod notes;
 mod physical_line_cursor;
 mod report;
 mod seen_names;
 
-pub use checking::{check, find_unused_definitions, mark_used_definitions, unused};
+pub use checking::{check, list_unused_definitions_of_walk, mark_used_definitions, unused};
 pub use definition_numbers::{AliasLineFirstNumber, DefinitionNumbers};
 pub use report::{Note, Report, report_text};

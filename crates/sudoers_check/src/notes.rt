@@ -8,9 +8,9 @@ ghost use Rattle.sudoers_tree.specs.Walk.{spot_of_walk_line};
 ghost use Rattle.sudoers_check.specs.Report.{note_in_line_text, note_of_mention, note_of_definition, undefined_mentions_of_lines, new_undefined_mentions, is_first_mention_of_undefined};
 ghost use Rattle.sudoers_check.specs.Mentioned.{Mention as MentionOf};
 ghost use Rattle.sudoers_check.specs.Numbers.{definitions_with_mark};
-ghost use Rattle.sudoers_check.specs.internal.Noting.{notes_of_marked_definitions, notes_of_marked_in_node, notes_of_mentions, SeenKeysMatchMentions};
+ghost use Rattle.sudoers_check.specs.internal.Noting.{notes_of_definitions_in_line_with_mark, notes_of_definitions_in_line_node_with_mark, notes_of_mentions, AreKeysOfUndefinedMentions};
 
-use crate::line_definitions::count_definitions;
+use crate::definition_counts_and_line_kinds::count_definitions_in_line;
 use crate::line_mentions::{Mention, find_mentions_in_line};
 use crate::physical_line_cursor::PhysicalLineCursor;
 use crate::report::Note;
@@ -38,7 +38,7 @@ pub fn make_notes_of_definitions(
     let lines = policy.lines();
     for (number, line_row) in lines.rows.iter().enumerate() {
         let line = Line::from_line_row(lines.tables, line_row);
-        let (here, behind) = rest.split_at(count_definitions(&line.node));
+        let (here, behind) = rest.split_at(count_definitions_in_line(&line.node));
         let mut cursor = make_cursor_at_line(policy, number, &line);
         append_notes_of_line(alloc, &mut cursor, &line.node, here, wanted, &mut notes)?;
         rest = behind;
@@ -71,7 +71,7 @@ fn append_notes_of_line(
     notes: &mut Vec<Note>,
 ) -> Result<(), AllocError>
     ensures { OnOk result (notes.new.items ≡ notes.old.items
-        ++ notes_of_marked_in_node wanted cursor.old.spot cursor.old.text.now marks.now (node_of_view node.now)) }
+        ++ notes_of_definitions_in_line_node_with_mark wanted cursor.old.spot cursor.old.text.now marks.now (node_of_view node.now)) }
 {
     match node {
         Node::Alias { kind, defs } => append_notes_of_definitions(
@@ -92,7 +92,7 @@ fn append_notes_of_definitions(
     notes: &mut Vec<Note>,
 ) -> Result<(), AllocError>
     ensures { OnOk result (notes.new.items ≡ notes.old.items
-        ++ notes_of_marked_definitions wanted cursor.old.spot cursor.old.text.now kind marks.now (alias_definitions_of_view defs.now)) }
+        ++ notes_of_definitions_in_line_with_mark wanted cursor.old.spot cursor.old.text.now kind marks.now (alias_definitions_of_view defs.now)) }
 {
     let mut rest = marks;
     let tables = defs.tables;
@@ -149,11 +149,11 @@ fn append_notes_of_undefined(
     seen: &mut SeenAliasNames,
     notes: &mut Vec<Note>,
 ) -> Result<(), AllocError>
-    ensures notes { OnOk result ((before : List MentionOf) → SeenKeysMatchMentions (definitions_of_lines walk.now) seen.old before
+    ensures notes { OnOk result ((before : List MentionOf) → AreKeysOfUndefinedMentions (definitions_of_lines walk.now) seen.old before
         → notes.new.items ≡ notes.old.items ++ notes_of_mentions cursor.old.spot cursor.old.text.now
         (new_undefined_mentions (definitions_of_lines walk.now) before mentions.now)) }
-    ensures seen { OnOk result ((before : List MentionOf) → SeenKeysMatchMentions (definitions_of_lines walk.now) seen.old before
-        → SeenKeysMatchMentions (definitions_of_lines walk.now) seen.new (before ++ mentions.now)) }
+    ensures seen { OnOk result ((before : List MentionOf) → AreKeysOfUndefinedMentions (definitions_of_lines walk.now) seen.old before
+        → AreKeysOfUndefinedMentions (definitions_of_lines walk.now) seen.new (before ++ mentions.now)) }
 {
     for mention in mentions {
         if is_first_undefined_mention(alloc, walk, mention, seen)? {
@@ -171,10 +171,10 @@ fn is_first_undefined_mention(
     mention: &Mention<'_>,
     seen: &mut SeenAliasNames,
 ) -> Result<bool, AllocError>
-    ensures is { IfOk result (λ first. (before : List MentionOf) → SeenKeysMatchMentions (definitions_of_lines walk.now) seen.old before
+    ensures is { IfOk result (λ first. (before : List MentionOf) → AreKeysOfUndefinedMentions (definitions_of_lines walk.now) seen.old before
         → first ≡ is_first_mention_of_undefined (definitions_of_lines walk.now) before mention.now) }
-    ensures seen { OnOk result ((before : List MentionOf) → SeenKeysMatchMentions (definitions_of_lines walk.now) seen.old before
-        → SeenKeysMatchMentions (definitions_of_lines walk.now) seen.new (before ++ mention.now ∷ [])) }
+    ensures seen { OnOk result ((before : List MentionOf) → AreKeysOfUndefinedMentions (definitions_of_lines walk.now) seen.old before
+        → AreKeysOfUndefinedMentions (definitions_of_lines walk.now) seen.new (before ++ mention.now ∷ [])) }
 {
     if walk
         .place_of_definition(mention.kind, mention.name)

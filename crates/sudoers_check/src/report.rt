@@ -3,7 +3,7 @@
 ghost use Rattle.std.specs.Prelude.{◌≡◌, ◌++◌, IfOk, OnOk};
 ghost use Rattle.std.specs.List.{flat_map};
 ghost use Rattle.std.specs.Fmt.{decimal};
-ghost use Rattle.sudoers_check.specs.Report.{note_place_text, note_name_text, note_text, is_report_without_faults as is_fine_report, verdict_line_text, report_text as text_of_report};
+ghost use Rattle.sudoers_check.specs.Report.{note_place_text, note_finding_and_alias_text, note_text, is_report_parsed_ok as is_fine_report, parsed_ok_or_faults_found_ending, report_text as text_of_report};
 
 use std::alloc::{AllocError, Global};
 use sudoers_grammar::alias_keyword_of_kind;
@@ -37,7 +37,7 @@ pub struct Report {
 
 impl Report {
     /// Returns whether there are no undefined names and no cyclic aliases, or they are not looked at.
-    pub fn has_no_faults(&self, strict: bool) -> bool
+    pub fn is_parsed_ok(&self, strict: bool) -> bool
         ensures { result ≡ is_fine_report strict self.now }
     {
         !strict || (self.undefined.len() == 0 && self.cyclic.len() == 0)
@@ -67,12 +67,12 @@ pub fn report_text(
     let unused = report.unused.as_slice();
     append_note_lines(alloc, &mut text, policy, b"unused", unused)?;
     text.extend_from_slice(policy.file_name(0))?;
-    text.extend_from_slice(choose_verdict_text(report.has_no_faults(strict)))?;
+    text.extend_from_slice(choose_parsed_ok_or_faults_found_ending(report.is_parsed_ok(strict)))?;
     Ok(text)
 }
 
-fn choose_verdict_text(fine: bool) -> &'static [u8]
-    ensures { result.now ≡ verdict_line_text fine }
+fn choose_parsed_ok_or_faults_found_ending(fine: bool) -> &'static [u8]
+    ensures { result.now ≡ parsed_ok_or_faults_found_ending fine }
 {
     if fine {
         b": parsed OK\n"
@@ -92,7 +92,7 @@ fn append_note_lines(
 {
     for note in notes {
         append_note_place(alloc, text, policy, note)?;
-        append_note_name(text, word, note)?;
+        append_note_finding_and_alias(text, word, note)?;
     }
     Ok(())
 }
@@ -115,8 +115,12 @@ fn append_note_place(
 }
 
 /// Adds the word, the kind and the name.
-fn append_note_name(text: &mut Vec<u8>, word: &[u8], note: &Note) -> Result<(), AllocError>
-    ensures { OnOk result (text.new.items ≡ text.old.items ++ note_name_text word.now note.now) }
+fn append_note_finding_and_alias(
+    text: &mut Vec<u8>,
+    word: &[u8],
+    note: &Note,
+) -> Result<(), AllocError>
+    ensures { OnOk result (text.new.items ≡ text.old.items ++ note_finding_and_alias_text word.now note.now) }
 {
     text.extend_from_slice(word)?;
     text.extend_from_slice(b" ")?;

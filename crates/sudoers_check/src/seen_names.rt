@@ -3,7 +3,7 @@
 ghost use Rattle.std.specs.Prelude.{◌≡◌, ◌∷◌, [], not, ◌||◌, List, ℕ, IfOk, OnOk};
 ghost use Rattle.std.specs.Str.{bytes_eq};
 ghost use Rattle.sudoers_grammar.specs.declared.node.Kind.{Kind as KindOf};
-ghost use Rattle.sudoers_check.specs.internal.Seen.{key_of_kind_and_name, has_key_of_name};
+ghost use Rattle.sudoers_check.specs.internal.Seen.{key_of_kind_and_name, is_name_key_among_keys};
 
 use indexmap::IndexSet;
 use std::alloc::{AllocError, Global};
@@ -25,7 +25,7 @@ impl Model for SeenAliasNames {
 }
 
 impl SeenAliasNames {
-    /// No names.
+    /// Returns the set without names.
     pub fn new(alloc: Global) -> SeenAliasNames
         ensures { result ≡ [] }
     {
@@ -45,16 +45,16 @@ impl SeenAliasNames {
         kind: Kind,
         name: &[u8],
     ) -> Result<bool, AllocError>
-        ensures new { IfOk result (λ is_new. is_new ≡ not (has_key_of_name self.old kind name.now)) }
-        ensures added { OnOk result ((k : KindOf) (other : List ℕ) → has_key_of_name self.new k other
-            ≡ has_key_of_name self.old k other || bytes_eq (key_of_kind_and_name k other) (key_of_kind_and_name kind name.now)) }
+        ensures new { IfOk result (λ is_new. is_new ≡ not (is_name_key_among_keys self.old kind name.now)) }
+        ensures added { OnOk result ((k : KindOf) (other : List ℕ) → is_name_key_among_keys self.new k other
+            ≡ is_name_key_among_keys self.old k other || bytes_eq (key_of_kind_and_name k other) (key_of_kind_and_name kind name.now)) }
     {
         let key = key_of_name(alloc, kind, name)?;
         Ok(self.keys.insert(key)?)
     }
 }
 
-/// The name behind a byte for its kind.
+/// Returns the name behind a byte for its kind.
 fn key_of_name(alloc: Global, kind: Kind, name: &[u8]) -> Result<Vec<u8>, AllocError>
     ensures { IfOk result (λ bytes. bytes.items ≡ key_of_kind_and_name kind name.now) }
 {

@@ -14,12 +14,12 @@ use Rattle.sudoers_line_rows.specs.View.{member_of_view}
 use Rattle.sudoers_match.specs.declared.command_settings.CommandSettings.{CommandSettings as HeadHeld}
 use Rattle.sudoers_match.specs.declared.options.CommandOptions.{CommandOptions}
 use Rattle.sudoers_match.specs.declared.tags.CommandTags.{CommandTags}
-use Rattle.sudoers_match.specs.Heads.{SettingsOfCommand, given_options_in_order, all_option_names, final_value_of_option, final_value_of_tag, final_tags_of}
+use Rattle.sudoers_match.specs.Heads.{AccumulatedCommandSettings, given_options_in_order, all_option_names, final_value_of_option, final_value_of_tag, final_tags_of}
 use Rattle.sudoers_match.specs.IsHead.{HoldsCommandSettings}
 use Rattle.sudoers_match.specs.Values.{OptionValues, final_values_of_options, option_values_of_view}
 use Rattle.sudoers_cvt_spell.specs.Members.{printed_member}
-use Rattle.sudoers_cvt_spell.specs.Commands.{printed_option, printed_tag_or_negated}
-use Rattle.sudoers_cvt_rules.specs.Effective.{effective_command, given_tags_in_order, all_tags_in_order}
+use Rattle.sudoers_cvt_spell.specs.Commands.{printed_option, tag_keyword_or_negated}
+use Rattle.sudoers_cvt_rules.specs.Effective.{effective_command, given_tags_in_order, all_tags_in_name_order}
 use Rattle.sudoers_cvt_json.specs.Value.{string_array_value, runas_object_or_null, command_object_value}
 use Rattle.sudoers_cvt_json.specs.internal.Built.{command_value_of_view, printed_option_texts, printed_tag_texts}
 
@@ -58,24 +58,24 @@ printed_options_of_view_are_final_ones held options e =
 -- ---- tags
 
 printing_keeps_consed_tag : (name : Tag) (o : Option Bool) (ps : List (Tag × Bool))
-    → map (λ (p : Tag × Bool). printed_tag_or_negated p.0 p.1) (cons_option (option_map (λ (on : Bool). (name, on)) o) ps)
-    ≡ cons_option (option_map (printed_tag_or_negated name) o) (map (λ (p : Tag × Bool). printed_tag_or_negated p.0 p.1) ps)
+    → map (λ (p : Tag × Bool). tag_keyword_or_negated p.0 p.1) (cons_option (option_map (λ (on : Bool). (name, on)) o) ps)
+    ≡ cons_option (option_map (tag_keyword_or_negated name) o) (map (λ (p : Tag × Bool). tag_keyword_or_negated p.0 p.1) ps)
 printing_keeps_consed_tag name None ps = refl
 printing_keeps_consed_tag name (Some on) ps = refl
 
 printing_keeps_filtered_tags : (f : Tag → Option Bool) (names : List Tag)
-    → map (λ (p : Tag × Bool). printed_tag_or_negated p.0 p.1) (filter_map (λ name. option_map (λ (on : Bool). (name, on)) (f name)) names)
-    ≡ filter_map (λ name. option_map (printed_tag_or_negated name) (f name)) names
+    → map (λ (p : Tag × Bool). tag_keyword_or_negated p.0 p.1) (filter_map (λ name. option_map (λ (on : Bool). (name, on)) (f name)) names)
+    ≡ filter_map (λ name. option_map (tag_keyword_or_negated name) (f name)) names
 printing_keeps_filtered_tags f [] = refl
 printing_keeps_filtered_tags f (name ∷ names) =
     printing_keeps_consed_tag name (f name) (filter_map (λ n. option_map (λ (on : Bool). (n, on)) (f n)) names)
-    ∙ ap (λ texts. cons_option (option_map (printed_tag_or_negated name) (f name)) texts) (printing_keeps_filtered_tags f names)
+    ∙ ap (λ texts. cons_option (option_map (tag_keyword_or_negated name) (f name)) texts) (printing_keeps_filtered_tags f names)
 
 printed_tags_of_view_are_final_ones : (held : CommandTags) (tags : List (Tag × Bool)) → held ≡ final_tags_of tags
-    → printed_tag_texts held ≡ map (λ (p : Tag × Bool). printed_tag_or_negated p.0 p.1) (given_tags_in_order (final_value_of_tag tags))
+    → printed_tag_texts held ≡ map (λ (p : Tag × Bool). tag_keyword_or_negated p.0 p.1) (given_tags_in_order (final_value_of_tag tags))
 printed_tags_of_view_are_final_ones held tags e =
-    let said : printed_tag_texts (final_tags_of tags) ≡ filter_map (λ name. option_map (printed_tag_or_negated name) (final_value_of_tag tags name)) all_tags_in_order = refl in
-    ap printed_tag_texts e ∙ said ∙ sym (printing_keeps_filtered_tags (final_value_of_tag tags) all_tags_in_order)
+    let said : printed_tag_texts (final_tags_of tags) ≡ filter_map (λ name. option_map (tag_keyword_or_negated name) (final_value_of_tag tags name)) all_tags_in_name_order = refl in
+    ap printed_tag_texts e ∙ said ∙ sym (printing_keeps_filtered_tags (final_value_of_tag tags) all_tags_in_name_order)
 
 -- ---- the command
 
@@ -86,7 +86,7 @@ command_object_of_parts command options runas tags =
     (member (codes "runas") (runas_object_or_null runas)
     (member (codes "tags") (string_array_value tags) no_members))))
 
-pub command_of_held_settings_is_effective : (held : HeadHeld) (h : SettingsOfCommand) (m : MemberView) → HoldsCommandSettings held h → command_value_of_view held m ≡ command_object_value (effective_command (h, member_of_view m))
+pub command_of_held_settings_is_effective : (held : HeadHeld) (h : AccumulatedCommandSettings) (m : MemberView) → HoldsCommandSettings held h → command_value_of_view held m ≡ command_object_value (effective_command (h, member_of_view m))
 command_of_held_settings_is_effective held h m is =
     let c = printed_member false Cmnd (member_of_view m) in
     ap (λ r. command_object_of_parts c (printed_option_texts held.options) r (printed_tag_texts held.tags)) is.runas

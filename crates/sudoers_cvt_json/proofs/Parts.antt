@@ -10,7 +10,7 @@ use Rattle.sudoers_cvt_rules.specs.declared.rule.Rule.TheVariants.{Defaults, Def
 use Rattle.sudoers_cvt_rules.specs.Rule.{node_of_rule_view}
 use Rattle.sudoers_cvt_rules.specs.Rules.{Rules}
 use Rattle.sudoers_cvt_json.specs.Value.{json_entries_of_node, array_value_of, rules_object_value}
-use Rattle.sudoers_cvt_json.specs.internal.Built.{IsJsonFault, array_items_text, rule_object_value}
+use Rattle.sudoers_cvt_json.specs.internal.Built.{IsJsonFault, text_of_array_items_and_end, rule_object_value}
 
 -- A fault of a part is one of the whole.
 pub fault_of_part_is_fault_of_whole : (part whole : Bool) (fault : CvtFault) → (part ≡ false → whole ≡ false) → IsJsonFault part fault → IsJsonFault whole fault
@@ -21,16 +21,16 @@ five_appended_parts_are_regrouped : (o a b c d e : List ℕ) → ((((o ++ a) ++ 
 five_appended_parts_are_regrouped o a b c d e = simp append_assoc
 
 pub host_group_object_text_is_appended : (out : List ℕ) (commands : List Data) (hosts : Data)
-    → ((((out ++ codes "{\"commands\":[") ++ array_items_text false commands) ++ codes ",\"hosts\":") ++ compact_text hosts) ++ codes "}"
+    → ((((out ++ codes "{\"commands\":[") ++ text_of_array_items_and_end false commands) ++ codes ",\"hosts\":") ++ compact_text hosts) ++ codes "}"
     ≡ out ++ compact_text (object (member (codes "commands") (array_value_of commands) (member (codes "hosts") hosts no_members)))
 unfolding serde_json_on_literals
-host_group_object_text_is_appended out commands hosts = five_appended_parts_are_regrouped out (codes "{\"commands\":[") (array_items_text false commands) (codes ",\"hosts\":") (compact_text hosts) (codes "}")
+host_group_object_text_is_appended out commands hosts = five_appended_parts_are_regrouped out (codes "{\"commands\":[") (text_of_array_items_and_end false commands) (codes ",\"hosts\":") (compact_text hosts) (codes "}")
 
 pub spec_object_text_is_appended : (out : List ℕ) (groups : List Data) (users : Data)
-    → ((((out ++ codes "{\"groups\":[") ++ array_items_text false groups) ++ codes ",\"users\":") ++ compact_text users) ++ codes "}"
+    → ((((out ++ codes "{\"groups\":[") ++ text_of_array_items_and_end false groups) ++ codes ",\"users\":") ++ compact_text users) ++ codes "}"
     ≡ out ++ compact_text (object (member (codes "groups") (array_value_of groups) (member (codes "users") users no_members)))
 unfolding serde_json_on_literals
-spec_object_text_is_appended out groups users = five_appended_parts_are_regrouped out (codes "{\"groups\":[") (array_items_text false groups) (codes ",\"users\":") (compact_text users) (codes "}")
+spec_object_text_is_appended out groups users = five_appended_parts_are_regrouped out (codes "{\"groups\":[") (text_of_array_items_and_end false groups) (codes ",\"users\":") (compact_text users) (codes "}")
 
 -- ---- rules
 
@@ -45,12 +45,12 @@ appended_tail_is_taken_out : (a b c d e f : List ℕ) (t u : List ℕ) → a ++ 
 appended_tail_is_taken_out a b c d e f t u = simp append_assoc
 
 pub rules_object_text_is_appended : (a d s : List Data)
-    → (((((codes "{\"aliases\":[" ++ array_items_text false a) ++ codes ",\"defaults\":[") ++ array_items_text false d) ++ codes ",\"specs\":[") ++ array_items_text false s) ++ codes "}\n"
+    → (((((codes "{\"aliases\":[" ++ text_of_array_items_and_end false a) ++ codes ",\"defaults\":[") ++ text_of_array_items_and_end false d) ++ codes ",\"specs\":[") ++ text_of_array_items_and_end false s) ++ codes "}\n"
     ≡ compact_text (object_of_rule_arrays a d s) ++ codes "\n"
 unfolding serde_json_on_literals
 rules_object_text_is_appended a d s =
-    seven_appended_parts_are_regrouped (codes "{\"aliases\":[") (array_items_text false a) (codes ",\"defaults\":[") (array_items_text false d) (codes ",\"specs\":[") (array_items_text false s) (codes "}\n")
-    ∙ appended_tail_is_taken_out (codes "{\"aliases\":[") (array_items_text false a) (codes ",\"defaults\":[") (array_items_text false d) (codes ",\"specs\":[") (array_items_text false s) (codes "}") (codes "\n")
+    seven_appended_parts_are_regrouped (codes "{\"aliases\":[") (text_of_array_items_and_end false a) (codes ",\"defaults\":[") (text_of_array_items_and_end false d) (codes ",\"specs\":[") (text_of_array_items_and_end false s) (codes "}\n")
+    ∙ appended_tail_is_taken_out (codes "{\"aliases\":[") (text_of_array_items_and_end false a) (codes ",\"defaults\":[") (text_of_array_items_and_end false d) (codes ",\"specs\":[") (text_of_array_items_and_end false s) (codes "}") (codes "\n")
 
 pub entries_of_rule_views_are_rule_objects : (rules : List Rule) → flat_map json_entries_of_node (map node_of_rule_view rules) ≡ map rule_object_value rules
 entries_of_rule_views_are_rule_objects [] = refl

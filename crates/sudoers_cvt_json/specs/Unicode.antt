@@ -5,18 +5,18 @@ use Rattle.serde_json.specs.Data.{Data, null, boolean, number, string, array, ob
 
 -- Every text of the value is UTF-8. Keys do not count: they are words of JSON's own.
 abbrev mutual
-  pub is_unicode : Data → Bool
-  is_unicode null = true
-  is_unicode (boolean b) = true
-  is_unicode (number n) = true
-  is_unicode (string text) = is_utf8 text
-  is_unicode (array ds) = items_are_unicode ds
-  is_unicode (object ms) = members_are_unicode ms
+  pub are_texts_of_value_unicode : Data → Bool
+  are_texts_of_value_unicode null = true
+  are_texts_of_value_unicode (boolean b) = true
+  are_texts_of_value_unicode (number n) = true
+  are_texts_of_value_unicode (string text) = is_utf8 text
+  are_texts_of_value_unicode (array ds) = are_texts_of_items_unicode ds
+  are_texts_of_value_unicode (object ms) = are_texts_of_object_members_unicode ms
 
-  pub items_are_unicode : Items → Bool
-  items_are_unicode no_items = true
-  items_are_unicode (item d ds) = is_unicode d && items_are_unicode ds
+  pub are_texts_of_items_unicode : Items → Bool
+  are_texts_of_items_unicode no_items = true
+  are_texts_of_items_unicode (item d ds) = are_texts_of_value_unicode d && are_texts_of_items_unicode ds
 
-  pub members_are_unicode : Members → Bool
-  members_are_unicode no_members = true
-  members_are_unicode (member key d ms) = is_unicode d && members_are_unicode ms
+  pub are_texts_of_object_members_unicode : Members → Bool
+  are_texts_of_object_members_unicode no_members = true
+  are_texts_of_object_members_unicode (member key d ms) = are_texts_of_value_unicode d && are_texts_of_object_members_unicode ms

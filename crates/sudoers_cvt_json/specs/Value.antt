@@ -21,7 +21,7 @@ use Rattle.sudoers_grammar.specs.declared.node.Tag.{Tag}
 use Rattle.sudoers_grammar.specs.Node as node
 use Rattle.sudoers_grammar.specs.Kind.{alias_line_keyword}
 use Rattle.sudoers_cvt_spell.specs.Members.{printed_member}
-use Rattle.sudoers_cvt_spell.specs.Commands.{printed_option, printed_tag_or_negated}
+use Rattle.sudoers_cvt_spell.specs.Commands.{printed_option, tag_keyword_or_negated}
 use Rattle.sudoers_cvt_spell.specs.Parameters.{printed_param, defaults_scope_mark}
 use Rattle.sudoers_cvt_rules.specs.Rules.{Rules}
 
@@ -56,7 +56,7 @@ abbrev pub option_array_value : List (OptionName × List ℕ) → Data
 option_array_value options = string_array_value (map (λ (o : OptionName × List ℕ). printed_option o.0 o.1) options)
 
 abbrev pub tag_array_value : List (Tag × Bool) → Data
-tag_array_value tags = string_array_value (map (λ (t : Tag × Bool). printed_tag_or_negated t.0 t.1) tags)
+tag_array_value tags = string_array_value (map (λ (t : Tag × Bool). tag_keyword_or_negated t.0 t.1) tags)
 
 abbrev pub command_object_value : CmdSpec → Data
 command_object_value c =

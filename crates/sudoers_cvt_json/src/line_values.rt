@@ -7,12 +7,13 @@ ghost use Rattle.serde_json.specs.View.{view};
 ghost use Rattle.sudoers_line_rows.specs.View.{alias_definition_of_view, members_of_view, parameters_of_view, runas_of_view, scope_of_view};
 ghost use Rattle.sudoers_grammar.specs.declared.node.Kind.TheVariants.{Runas};
 ghost use Rattle.sudoers_cvt_json.specs.Value.{member_array_value, runas_part_array_or_null, runas_object_or_null, alias_object_value, scope_object_or_null, defaults_object_value};
-ghost use Rattle.sudoers_cvt_json.specs.Unicode.{is_unicode};
+ghost use Rattle.sudoers_cvt_json.specs.Unicode.{are_texts_of_value_unicode};
 ghost use Rattle.sudoers_cvt_json.specs.internal.Built.{IsJsonFault, command_value_of_view};
 
-use crate::text_lists::{make_string_array, make_string_value};
-use crate::texts::{
-    make_member_text, make_member_texts, make_option_texts, make_param_texts, make_tag_texts,
+use crate::json_string_values::{make_string_array, make_string_value};
+use crate::printed_bytes::{
+    make_printed_bytes_of_member, make_printed_bytes_of_members, make_printed_bytes_of_options,
+    make_printed_bytes_of_parameters, make_printed_bytes_of_tags,
 };
 use serde_json::{Value, json};
 use std::alloc::{AllocError, Global};
@@ -30,10 +31,10 @@ pub fn make_members_value(
     members: &RowsOfTable<'_, MemberRow>,
 ) -> Result<Value, CvtFault>
     ensures value { IfOk result (λ value. view value ≡ member_array_value first kind (members_of_view members.now)) }
-    ensures unicode { OnOk result (is_unicode (member_array_value first kind (members_of_view members.now)) ≡ true) }
-    ensures fault { IfErr result (IsJsonFault (is_unicode (member_array_value first kind (members_of_view members.now)))) }
+    ensures unicode { OnOk result (are_texts_of_value_unicode (member_array_value first kind (members_of_view members.now)) ≡ true) }
+    ensures fault { IfErr result (IsJsonFault (are_texts_of_value_unicode (member_array_value first kind (members_of_view members.now)))) }
 {
-    let texts = make_member_texts(alloc, first, kind, members)?;
+    let texts = make_printed_bytes_of_members(alloc, first, kind, members)?;
     make_string_array(alloc, texts.as_slice())
 }
 
@@ -43,8 +44,8 @@ fn make_runas_part_value(
     members: &RowsOfTable<'_, MemberRow>,
 ) -> Result<Value, CvtFault>
     ensures value { IfOk result (λ value. view value ≡ runas_part_array_or_null (members_of_view members.now)) }
-    ensures unicode { OnOk result (is_unicode (runas_part_array_or_null (members_of_view members.now)) ≡ true) }
-    ensures fault { IfErr result (IsJsonFault (is_unicode (runas_part_array_or_null (members_of_view members.now)))) }
+    ensures unicode { OnOk result (are_texts_of_value_unicode (runas_part_array_or_null (members_of_view members.now)) ≡ true) }
+    ensures fault { IfErr result (IsJsonFault (are_texts_of_value_unicode (runas_part_array_or_null (members_of_view members.now)))) }
 {
     if members.rows.is_empty() {
         return Ok(Value::Null);
@@ -55,8 +56,8 @@ fn make_runas_part_value(
 /// Returns a Runas_Spec as a value, or null if there is none.
 fn make_runas_value(alloc: Global, runas: &Option<RunasSpec<'_>>) -> Result<Value, CvtFault>
     ensures value { IfOk result (λ value. view value ≡ runas_object_or_null (option_map runas_of_view runas.now)) }
-    ensures unicode { OnOk result (is_unicode (runas_object_or_null (option_map runas_of_view runas.now)) ≡ true) }
-    ensures fault { IfErr result (IsJsonFault (is_unicode (runas_object_or_null (option_map runas_of_view runas.now)))) }
+    ensures unicode { OnOk result (are_texts_of_value_unicode (runas_object_or_null (option_map runas_of_view runas.now)) ≡ true) }
+    ensures fault { IfErr result (IsJsonFault (are_texts_of_value_unicode (runas_object_or_null (option_map runas_of_view runas.now)))) }
 {
     let Some(runas) = runas else {
         return Ok(Value::Null);
@@ -73,21 +74,21 @@ pub fn make_command_value(
     member: &Member<'_>,
 ) -> Result<Value, CvtFault>
     ensures value { IfOk result (λ value. view value ≡ command_value_of_view head.now member.now) }
-    ensures unicode { OnOk result (is_unicode (command_value_of_view head.now member.now) ≡ true) }
-    ensures fault { IfErr result (IsJsonFault (is_unicode (command_value_of_view head.now member.now))) }
+    ensures unicode { OnOk result (are_texts_of_value_unicode (command_value_of_view head.now member.now) ≡ true) }
+    ensures fault { IfErr result (IsJsonFault (are_texts_of_value_unicode (command_value_of_view head.now member.now))) }
 {
-    let printed = make_member_text(alloc, false, Kind::Cmnd, member)?;
+    let printed = make_printed_bytes_of_member(alloc, false, Kind::Cmnd, member)?;
     let command = make_string_value(alloc, printed.as_slice())?;
-    let set = make_option_texts(alloc, &head.options)?;
+    let set = make_printed_bytes_of_options(alloc, &head.options)?;
     let options = make_string_array(alloc, set.as_slice())?;
     let runas = make_runas_value(alloc, &head.runas)?;
-    let said = make_tag_texts(alloc, &head.tags)?;
+    let said = make_printed_bytes_of_tags(alloc, &head.tags)?;
     let tags = make_string_array(alloc, said.as_slice())?;
-    Ok(make_command_object(alloc, command, options, runas, tags)?)
+    Ok(make_object_of_command_parts(alloc, command, options, runas, tags)?)
 }
 
 /// Returns the object of a command.
-fn make_command_object(
+fn make_object_of_command_parts(
     alloc: Global,
     command: Value,
     options: Value,
@@ -103,17 +104,17 @@ fn make_command_object(
 /// Returns a definition of an alias as a value.
 pub fn make_alias_value(alloc: Global, kind: Kind, def: &Def<'_>) -> Result<Value, CvtFault>
     ensures value { IfOk result (λ value. view value ≡ alias_object_value kind (alias_definition_of_view def.now)) }
-    ensures unicode { OnOk result (is_unicode (alias_object_value kind (alias_definition_of_view def.now)) ≡ true) }
-    ensures fault { IfErr result (IsJsonFault (is_unicode (alias_object_value kind (alias_definition_of_view def.now)))) }
+    ensures unicode { OnOk result (are_texts_of_value_unicode (alias_object_value kind (alias_definition_of_view def.now)) ≡ true) }
+    ensures fault { IfErr result (IsJsonFault (are_texts_of_value_unicode (alias_object_value kind (alias_definition_of_view def.now)))) }
 {
     let word = make_string_value(alloc, alias_keyword_of_kind(kind))?;
     let members = make_members_value(alloc, false, kind, &def.members)?;
     let name = make_string_value(alloc, def.name)?;
-    Ok(make_alias_object(alloc, word, members, name)?)
+    Ok(make_object_of_alias_parts(alloc, word, members, name)?)
 }
 
 /// Returns the object of a definition.
-fn make_alias_object(
+fn make_object_of_alias_parts(
     alloc: Global,
     kind: Value,
     members: Value,
@@ -128,8 +129,8 @@ fn make_alias_object(
 /// Returns the scope of a Defaults line as a value, or null if there is none.
 fn make_scope_value(alloc: Global, scope: &Option<Scope<'_>>) -> Result<Value, CvtFault>
     ensures value { IfOk result (λ value. view value ≡ scope_object_or_null (option_map scope_of_view scope.now)) }
-    ensures unicode { OnOk result (is_unicode (scope_object_or_null (option_map scope_of_view scope.now)) ≡ true) }
-    ensures fault { IfErr result (IsJsonFault (is_unicode (scope_object_or_null (option_map scope_of_view scope.now)))) }
+    ensures unicode { OnOk result (are_texts_of_value_unicode (scope_object_or_null (option_map scope_of_view scope.now)) ≡ true) }
+    ensures fault { IfErr result (IsJsonFault (are_texts_of_value_unicode (scope_object_or_null (option_map scope_of_view scope.now)))) }
 {
     let Some(scope) = scope else {
         return Ok(Value::Null);
@@ -146,10 +147,10 @@ pub fn make_defaults_value(
     params: &RowsOfTable<'_, ParamRow>,
 ) -> Result<Value, CvtFault>
     ensures value { IfOk result (λ value. view value ≡ defaults_object_value (option_map scope_of_view scope.now) (parameters_of_view params.now)) }
-    ensures unicode { OnOk result (is_unicode (defaults_object_value (option_map scope_of_view scope.now) (parameters_of_view params.now)) ≡ true) }
-    ensures fault { IfErr result (IsJsonFault (is_unicode (defaults_object_value (option_map scope_of_view scope.now) (parameters_of_view params.now)))) }
+    ensures unicode { OnOk result (are_texts_of_value_unicode (defaults_object_value (option_map scope_of_view scope.now) (parameters_of_view params.now)) ≡ true) }
+    ensures fault { IfErr result (IsJsonFault (are_texts_of_value_unicode (defaults_object_value (option_map scope_of_view scope.now) (parameters_of_view params.now)))) }
 {
-    let texts = make_param_texts(alloc, params)?;
+    let texts = make_printed_bytes_of_parameters(alloc, params)?;
     let parameters = make_string_array(alloc, texts.as_slice())?;
     let scope = make_scope_value(alloc, scope)?;
     Ok(json!(in alloc; {"parameters": parameters, "scope": scope})?)

@@ -3,9 +3,9 @@
 ghost use Rattle.std.specs.Prelude.{◌≡◌, ◌⊎◌, false, true, IfOk, OnOk, IfErr};
 ghost use Rattle.sudoers_cvt_rules.specs.declared.fault.CvtFault.TheVariants.{NotUtf8, NoMemory};
 ghost use Rattle.sudoers_cvt_json.specs.Value.{rules_object_value, json_text_of_rules};
-ghost use Rattle.sudoers_cvt_json.specs.Unicode.{is_unicode};
+ghost use Rattle.sudoers_cvt_json.specs.Unicode.{are_texts_of_value_unicode};
 
-use crate::rule_entries::append_rule_array;
+use crate::rule_entries::append_rules_and_array_end;
 use std::alloc::Global;
 use sudoers_cvt_rules::{CvtFault, Rules};
 
@@ -16,15 +16,15 @@ use sudoers_cvt_rules::{CvtFault, Rules};
 /// `NotUtf8`: one of the texts is no UTF-8. `NoMemory`: memory ran out.
 pub fn json(alloc: Global, rules: &Rules<'_>) -> Result<Vec<u8>, CvtFault>
     ensures text { IfOk result (λ text. text.items ≡ json_text_of_rules rules.now) }
-    ensures unicode { OnOk result (is_unicode (rules_object_value rules.now) ≡ true) }
-    ensures fault { IfErr result (λ fault. (fault ≡ NoMemory) ⊎ ((fault ≡ NotUtf8) × (is_unicode (rules_object_value rules.now) ≡ false))) }
+    ensures unicode { OnOk result (are_texts_of_value_unicode (rules_object_value rules.now) ≡ true) }
+    ensures fault { IfErr result (λ fault. (fault ≡ NoMemory) ⊎ ((fault ≡ NotUtf8) × (are_texts_of_value_unicode (rules_object_value rules.now) ≡ false))) }
 {
     let mut text = Vec::from_slice(alloc, b"{\"aliases\":[")?;
-    append_rule_array(alloc, &mut text, rules.alias_definitions())?;
+    append_rules_and_array_end(alloc, &mut text, rules.alias_definitions())?;
     text.extend_from_slice(b",\"defaults\":[")?;
-    append_rule_array(alloc, &mut text, rules.defaults())?;
+    append_rules_and_array_end(alloc, &mut text, rules.defaults())?;
     text.extend_from_slice(b",\"specs\":[")?;
-    append_rule_array(alloc, &mut text, rules.user_specs())?;
+    append_rules_and_array_end(alloc, &mut text, rules.user_specs())?;
     text.extend_from_slice(b"}\n")?;
     Ok(text)
 }

@@ -5,9 +5,9 @@ use Rattle.sudoers_cvt_rewrite.proofs.Common.{false, filter, get_or, if◌then�
 use Rattle.sudoers_cvt_rewrite.proofs.Common.{length, length-map, map, marked_definitions_member_count, member_in_tables, refl, rules_with_used_definitions, sym}
 use Rattle.sudoers_cvt_rewrite.proofs.Common.{true, ℕ, ◌+◌, ◌<◌, ◌∙◌, ◌∷◌, ◌≡◌}
 use Rattle.sudoers_grammar.specs.Node as node
-use Rattle.sudoers_match_list.specs.declared.definition_rows.DefinitionRow.{DefinitionRow}
+use Rattle.sudoers_match_list.specs.declared.definition_rows.DefinitionKindAndMembers.{DefinitionKindAndMembers}
 
-pub marked_rows_count_members_of_filtered : (t : Tables) (p : PlacedDefinition → Bool) (rows : List DefinitionRow) (ds : List PlacedDefinition) → map (kind_and_members_of_row t) rows ≡ map kind_and_members_of_definition ds
+pub marked_rows_count_members_of_filtered : (t : Tables) (p : PlacedDefinition → Bool) (rows : List DefinitionKindAndMembers) (ds : List PlacedDefinition) → map (kind_and_members_of_row t) rows ≡ map kind_and_members_of_definition ds
     → marked_definitions_member_count (map p ds) rows ≡ alias_lines_member_count (map alias_node_of_definition (filter p ds))
 marked_rows_count_members_of_filtered t p [] [] e = refl
 marked_rows_count_members_of_filtered t p [] (d ∷ ds) e = absurd cc
@@ -23,7 +23,7 @@ marked_rows_count_members_of_filtered t p (row ∷ rows) (d ∷ ds) e =
     by false size rest = omega (arith, rest)
 
 -- one definition more
-module _ (marks : List Bool) (rows : List DefinitionRow) (i : ℕ) (m : Bool) (row : DefinitionRow) (h : i < length rows) (same : length marks ≡ length rows) where
+module _ (marks : List Bool) (rows : List DefinitionKindAndMembers) (i : ℕ) (m : Bool) (row : DefinitionKindAndMembers) (h : i < length rows) (same : length marks ≡ length rows) where
   next_marked : marked_definitions_member_count (drop i marks) (drop i rows) ≡ marked_definitions_member_count (get_or marks i m ∷ drop (i + 1) marks) (get_or rows i row ∷ drop (i + 1) rows)
   next_marked = ap₂ marked_definitions_member_count (drop_more marks i m (omega (arith, h, same))) (drop_more rows i row h)
 
@@ -41,7 +41,7 @@ module _ (marks : List Bool) (rows : List DefinitionRow) (i : ℕ) (m : Bool) (r
 
 -- ---- the marks of lines that define the same
 
-module _ (t : Tables) (rows : List DefinitionRow) (lines new : List Line) (marks : List Bool) (are : map (kind_and_members_of_row t) rows ≡ map kind_and_members_of_definition (definitions_of_lines lines))
+module _ (t : Tables) (rows : List DefinitionKindAndMembers) (lines new : List Line) (marks : List Bool) (are : map (kind_and_members_of_row t) rows ≡ map kind_and_members_of_definition (definitions_of_lines lines))
     (same : definitions_of_lines new ≡ definitions_of_lines lines) (marked : marks ≡ map (is_used new) (definitions_of_lines new)) where
   pub counted_is : marked_definitions_member_count marks rows ≡ alias_lines_member_count (rules_with_used_definitions new).defs
   counted_is = ap (λ ms. marked_definitions_member_count ms rows) marked ∙ marked_rows_count_members_of_filtered t (is_used new) rows (definitions_of_lines new) (are ∙ ap (map kind_and_members_of_definition) (sym same))

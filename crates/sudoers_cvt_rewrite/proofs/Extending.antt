@@ -1,7 +1,7 @@
 -- Tables to which lists are added: what rows say stays.
 use Rattle.sudoers_cvt_rewrite.proofs.Common.{AreTablesAlikeButLists, IsTableExtension, List, MemberRow, None, Option, RowRange, Some, Tables, [], ap, ap₂, args_in_tables, atom_in_tables, digest_in_tables}
-use Rattle.sudoers_cvt_rewrite.proofs.Common.{digests_in_tables, map, member_in_tables, option_in_tables, option_map, options_in_tables, parameter_in_tables, parameters_in_tables, refl, setting_in_tables}
-use Rattle.sudoers_cvt_rewrite.proofs.Common.{slice_range, tag_in_tables, tags_in_tables, text_in_tables, values_of_row_range, ◌∙◌, ◌∷◌, ◌≡◌}
+use Rattle.sudoers_cvt_rewrite.proofs.Common.{digests_of_range_in_tables, map, member_in_tables, option_in_tables, option_map, options_of_range_in_tables, parameter_in_tables, parameters_of_range_in_tables, refl, setting_in_tables}
+use Rattle.sudoers_cvt_rewrite.proofs.Common.{slice_range, tag_in_tables, tags_of_range_in_tables, text_in_tables, values_of_row_range, ◌∙◌, ◌∷◌, ◌≡◌}
 use Rattle.sudoers_grammar.specs.declared.node.Args.TheVariants as args
 use Rattle.sudoers_grammar.specs.declared.node.Atom.TheVariants as atom
 use Rattle.sudoers_line_rows.specs.declared.rows.ByteRange.{ByteRange}
@@ -89,7 +89,7 @@ module _ (t u : Tables) (like : AreTablesAlikeButLists t u) where
   digest_like : (d : DigestRow) → digest_in_tables u d ≡ digest_in_tables t d
   digest_like d i = record { kind = d.kind; text = text_like d.text i }
 
-  digests_like : (r : RowRange) → digests_in_tables u r ≡ digests_in_tables t r
+  digests_like : (r : RowRange) → digests_of_range_in_tables u r ≡ digests_of_range_in_tables t r
   digests_like r = equal_rows_have_equal_range_values t.digests.items u.digests.items (digest_in_tables t) (digest_in_tables u) like.digests digest_like r
 
   pub member_like : (m : MemberRow) → member_in_tables u m ≡ member_in_tables t m
@@ -101,10 +101,10 @@ module _ (t u : Tables) (like : AreTablesAlikeButLists t u) where
   option_like : (o : OptionRow) → option_in_tables u o ≡ option_in_tables t o
   option_like o i = (o.name, text_like o.value i)
 
-  pub options_like : (r : RowRange) → options_in_tables u r ≡ options_in_tables t r
+  pub options_like : (r : RowRange) → options_of_range_in_tables u r ≡ options_of_range_in_tables t r
   options_like r = equal_rows_have_equal_range_values t.options.items u.options.items (option_in_tables t) (option_in_tables u) like.options option_like r
 
-  pub tags_like : (r : RowRange) → tags_in_tables u r ≡ tags_in_tables t r
+  pub tags_like : (r : RowRange) → tags_of_range_in_tables u r ≡ tags_of_range_in_tables t r
   tags_like r = equal_rows_have_equal_range_values t.tags.items u.tags.items (tag_in_tables t) (tag_in_tables u) like.tags (λ g. refl) r
 
   setting_like : (s : SettingRow) → setting_in_tables u s ≡ setting_in_tables t s
@@ -113,5 +113,5 @@ module _ (t u : Tables) (like : AreTablesAlikeButLists t u) where
   param_like : (p : ParamRow) → parameter_in_tables u p ≡ parameter_in_tables t p
   param_like p i = record { negated = p.negated; name = text_like p.name i; setting = equal_functions_map_options_alike (setting_in_tables u) (setting_in_tables t) setting_like p.setting i }
 
-  pub params_like : (r : RowRange) → parameters_in_tables u r ≡ parameters_in_tables t r
+  pub params_like : (r : RowRange) → parameters_of_range_in_tables u r ≡ parameters_of_range_in_tables t r
   params_like r = equal_rows_have_equal_range_values t.params.items u.params.items (parameter_in_tables t) (parameter_in_tables u) like.params param_like r

@@ -1,19 +1,19 @@
 -- Host groups that a filter leaves.
-use Rattle.sudoers_cvt_rewrite.proofs.Common.{Bool, Filter, HostGroup, Line, List, None, Option, Some, ap, at_drop_more, cond, drop, false, get_or, host_group_left_by_filter, host_groups_left_by_filter}
+use Rattle.sudoers_cvt_rewrite.proofs.Common.{Bool, Filter, HostGroup, Line, List, None, Option, Some, ap, at_drop_more, cond, drop, false, get_or, host_group_pruned_if_wanted, host_groups_left_by_filter}
 use Rattle.sudoers_cvt_rewrite.proofs.Common.{is_host_list_in_filter, length, map, refl, true, ℕ, ◌+◌, ◌<◌, ◌∙◌, ◌∷◌, ◌≡◌}
 
 -- what is left of one host group
 abbrev pub host_group_left_if_in_filter : List Line → Filter → Bool → HostGroup → Option HostGroup
-host_group_left_if_in_filter lines f prune g = cond (is_host_list_in_filter lines f g.hosts) (Some (host_group_left_by_filter lines f prune g)) None
+host_group_left_if_in_filter lines f prune g = cond (is_host_list_in_filter lines f g.hosts) (Some (host_group_pruned_if_wanted lines f prune g)) None
 
 module _ (lines : List Line) (f : Filter) (prune : Bool) where
-  stays_by : (b : Bool) (g s : HostGroup) (gs : List HostGroup) → Some s ≡ cond b (Some (host_group_left_by_filter lines f prune g)) None
-      → map (host_group_left_by_filter lines f prune) (cond b (g ∷ gs) gs) ≡ s ∷ map (host_group_left_by_filter lines f prune) gs
-  stays_by true g s gs e = let same : host_group_left_by_filter lines f prune g ≡ s = cc in ap (λ x. x ∷ map (host_group_left_by_filter lines f prune) gs) same
+  stays_by : (b : Bool) (g s : HostGroup) (gs : List HostGroup) → Some s ≡ cond b (Some (host_group_pruned_if_wanted lines f prune g)) None
+      → map (host_group_pruned_if_wanted lines f prune) (cond b (g ∷ gs) gs) ≡ s ∷ map (host_group_pruned_if_wanted lines f prune) gs
+  stays_by true g s gs e = let same : host_group_pruned_if_wanted lines f prune g ≡ s = cc in ap (λ x. x ∷ map (host_group_pruned_if_wanted lines f prune) gs) same
   stays_by false g s gs e = absurd cc
 
-  falls_by : (b : Bool) (g : HostGroup) (gs : List HostGroup) → None ≡ cond b (Some (host_group_left_by_filter lines f prune g)) None
-      → map (host_group_left_by_filter lines f prune) (cond b (g ∷ gs) gs) ≡ map (host_group_left_by_filter lines f prune) gs
+  falls_by : (b : Bool) (g : HostGroup) (gs : List HostGroup) → None ≡ cond b (Some (host_group_pruned_if_wanted lines f prune g)) None
+      → map (host_group_pruned_if_wanted lines f prune) (cond b (g ∷ gs) gs) ≡ map (host_group_pruned_if_wanted lines f prune) gs
   falls_by true g gs e = absurd cc
   falls_by false g gs e = refl
 

@@ -1,7 +1,7 @@
 -- Lines that are filtered or expanded define what they defined.
 use Rattle.sudoers_cvt_rewrite.proofs.Common.{Bool, Filter, HostGroup, Line, List, Member, Node, None, Option, PolicyChanges, Some, [], ap₂, definitions_from_line_number, definitions_in_line, definitions_of_lines}
-use Rattle.sudoers_cvt_rewrite.proofs.Common.{false, filtered_node, host_groups_left_by_filter, if◌then◌else◌, is_scope_in_filter, is_user_list_in_filter, map, node_expanded_if_wanted, node_filtered_if_any, refl}
-use Rattle.sudoers_cvt_rewrite.proofs.Common.{rewritten_lines_of_policy, rewritten_node, spec_left_by_filter, true, ℕ, ◌++◌, ◌+◌, ◌∙◌, ◌∷◌, ◌≡◌}
+use Rattle.sudoers_cvt_rewrite.proofs.Common.{false, node_or_blank_left_by_filter, host_groups_left_by_filter, if◌then◌else◌, is_scope_in_filter, is_user_list_in_filter, map, node_expanded_if_wanted, node_filtered_if_any, refl}
+use Rattle.sudoers_cvt_rewrite.proofs.Common.{rewritten_lines_of_policy, rewritten_node, spec_or_blank_of_left_groups, true, ℕ, ◌++◌, ◌+◌, ◌∙◌, ◌∷◌, ◌≡◌}
 use Rattle.sudoers_grammar.specs.Node as node
 
 module _ (lines : List Line) where
@@ -15,7 +15,7 @@ module _ (lines : List Line) where
   expanded_defines true k (node.Include dir path) = refl
 
   module _ (f : Filter) (prune : Bool) (k : ℕ) where
-    spec_defines : (b : Bool) (users : List Member) (groups : List HostGroup) → definitions_in_line k (if b then spec_left_by_filter lines f prune users groups else node.Blank) ≡ []
+    spec_defines : (b : Bool) (users : List Member) (groups : List HostGroup) → definitions_in_line k (if b then spec_or_blank_of_left_groups lines f prune users groups else node.Blank) ≡ []
     spec_defines true users [] = refl
     spec_defines true users (g ∷ gs) = refl
     spec_defines false users groups = refl
@@ -24,7 +24,7 @@ module _ (lines : List Line) where
     scope_defines true n e = e
     scope_defines false n e = refl
 
-    filter_defines : (n : Node) → definitions_in_line k (filtered_node lines f prune n) ≡ definitions_in_line k n
+    filter_defines : (n : Node) → definitions_in_line k (node_or_blank_left_by_filter lines f prune n) ≡ definitions_in_line k n
     filter_defines (node.Defaults scope params) = scope_defines (is_scope_in_filter lines f scope) (node.Defaults scope params) refl
     filter_defines (node.Spec users groups) = spec_defines (is_user_list_in_filter lines f users) users (host_groups_left_by_filter lines f prune groups)
     filter_defines (node.Alias j defs) = refl

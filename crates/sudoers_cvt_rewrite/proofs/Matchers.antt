@@ -1,8 +1,8 @@
 -- Verdicts for each value of a filter.
 use Rattle.sudoers_cvt_rewrite.proofs.Common.{All, AreValidVerdictCaches, Atom, Bool, Cmnd, Filter, Host, IsFreshVerdictCache, IsValidVerdictCache, Kind, Line, List, ListHasElement, Member, Runas, Some, User, []}
 use Rattle.sudoers_cvt_rewrite.proofs.Common.{alias_names_among_members, alias_names_of_atom, ap, append-nil, append_assoc, arith, cond, drop, drop_more, false, filter, get-set, get_or, get_or_from_slice_get, inl}
-use Rattle.sudoers_cvt_rewrite.proofs.Common.{inr, is_filter_without_users, is_host_list_hit_wanted, is_list_without_items, is_member_kept_by_filter, is_user_list_hit_wanted, length, list_any, map, map_push}
-use Rattle.sudoers_cvt_rewrite.proofs.Common.{members_left_by_filter, refl, slice_get, slice_get_within, subst, suc, sym, true, zero, ℕ, ◌++◌, ◌+◌, ◌<◌, ◌||◌, ◌∙◌, ◌∷◌, ◌≡◌}
+use Rattle.sudoers_cvt_rewrite.proofs.Common.{inr, is_filter_without_users, is_filter_host_matched_or_allowed, is_list_without_items, is_member_kept_by_filter, is_filter_user_matched_or_allowed, length, list_any, map, map_push}
+use Rattle.sudoers_cvt_rewrite.proofs.Common.{members_pruned_if_wanted, refl, slice_get, slice_get_within, subst, suc, sym, true, zero, ℕ, ◌++◌, ◌+◌, ◌<◌, ◌||◌, ◌∙◌, ◌∷◌, ◌≡◌}
 use Rattle.std.proofs.Common.{set}
 use Rattle.std.proofs.lemmas.List.{length-set}
 use Rattle.sudoers_check.proofs.Chains.{chain_from_some_is_chain_from_superset}
@@ -95,13 +95,13 @@ filter_by_all_or_test_is_conditional true p xs = sym (filter_by_true_keeps_list 
 filter_by_all_or_test_is_conditional false p xs = refl
 
 module _ (lines : List Line) (f : Filter) where
-  pub pruned_is : (k : Kind) (ms : List Member) → filter (is_member_kept_by_filter k lines f) ms ≡ members_left_by_filter k lines f true ms
-  pruned_is User ms = filter_by_all_or_test_is_conditional (is_filter_without_users f) (λ (m : Member). is_user_list_hit_wanted false lines f (m ∷ [])) ms
-  pruned_is Host ms = filter_by_all_or_test_is_conditional (is_list_without_items f.hosts) (λ (m : Member). is_host_list_hit_wanted false lines f (m ∷ [])) ms
+  pub pruned_is : (k : Kind) (ms : List Member) → filter (is_member_kept_by_filter k lines f) ms ≡ members_pruned_if_wanted k lines f true ms
+  pruned_is User ms = filter_by_all_or_test_is_conditional (is_filter_without_users f) (λ (m : Member). is_filter_user_matched_or_allowed false lines f (m ∷ [])) ms
+  pruned_is Host ms = filter_by_all_or_test_is_conditional (is_list_without_items f.hosts) (λ (m : Member). is_filter_host_matched_or_allowed false lines f (m ∷ [])) ms
   pruned_is Runas ms = sym (filter_by_true_keeps_list ms)
   pruned_is Cmnd ms = sym (filter_by_true_keeps_list ms)
 
-  pub whole_is : (k : Kind) (ms : List Member) → ms ≡ members_left_by_filter k lines f false ms
+  pub whole_is : (k : Kind) (ms : List Member) → ms ≡ members_pruned_if_wanted k lines f false ms
   whole_is User ms = refl
   whole_is Host ms = refl
   whole_is Runas ms = refl

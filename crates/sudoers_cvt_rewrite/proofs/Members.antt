@@ -5,7 +5,7 @@ use Rattle.sudoers_grammar.specs.declared.node.Atom.TheVariants as atom
 use Rattle.sudoers_grammar.specs.Node as node
 use Rattle.sudoers_grammar.specs.Piece.{TokenWithBytes}
 use Rattle.sudoers_grammar.specs.Line.{LineReadsAsNode}
-use Rattle.sudoers_grammar.specs.Grammar.{Separated, Many, MarkThenRule, IsMember, IsCommand, IsDef, IsList}
+use Rattle.sudoers_grammar.specs.Grammar.{Separated, Many, MarkThenRule, IsMember, IsCommand, IsDef, IsAliasMemberList}
 use Rattle.sudoers_tree.specs.Policy.{AreValidWalkLines, IsCorrectlyParsed}
 use Rattle.sudoers_tree.proofs.AtPlaces.{place_of_alias_holds_its_definition}
 use Rattle.sudoers_cvt_rewrite.proofs.Lists.{AllAliasesHaveMembers}
@@ -15,7 +15,7 @@ separated_list_is_not_empty : {X : Type 0} (b : ℕ) (P : List TokenWithBytes �
 separated_list_is_not_empty b P ts [] rest s = absurd s
 separated_list_is_not_empty b P ts (x ∷ xs) rest s = omega arith
 
-member_list_is_not_empty : (k : Kind) (ts : List TokenWithBytes) (ms : List Member) (rest : List TokenWithBytes) → IsList k ts ms rest → 1 ≤ length ms
+member_list_is_not_empty : (k : Kind) (ts : List TokenWithBytes) (ms : List Member) (rest : List TokenWithBytes) → IsAliasMemberList k ts ms rest → 1 ≤ length ms
 member_list_is_not_empty User ts ms rest s = separated_list_is_not_empty 44 (IsMember User) ts ms rest s
 member_list_is_not_empty Runas ts ms rest s = separated_list_is_not_empty 44 (IsMember Runas) ts ms rest s
 member_list_is_not_empty Host ts ms rest s = separated_list_is_not_empty 44 (IsMember Host) ts ms rest s

@@ -1,27 +1,27 @@
 -- Steps of loops that write rows.
-use Rattle.sudoers_cvt_rewrite.proofs.Common.{AreTablesAlikeButLists, Bool, CmdSpec, Cmnd, CommandRow, CvtFault, HostGroup, IsRewriteRefusal, Line, List, MemberRow, Option, Tables, [], ap}
-use Rattle.sudoers_cvt_rewrite.proofs.Common.{arith, at_drop_all, at_drop_more, command_expanded_if, command_in_tables, commands_for_each_member, commands_member_count, drop, expanded_member_limit, get_or}
-use Rattle.sudoers_cvt_rewrite.proofs.Common.{host_group_member_count, host_groups_member_count, inl, inr, length, list_expanded_if, map, member_in_tables, optional_runas_in_tables, options_in_tables}
-use Rattle.sudoers_cvt_rewrite.proofs.Common.{refl, runas_member_count, runas_spec_expanded_if, sym, tags_in_tables, true, ℕ, ◌++◌, ◌+◌, ◌<◌, ◌∙◌, ◌∷◌, ◌≡◌, ◌≤◌}
+use Rattle.sudoers_cvt_rewrite.proofs.Common.{AreTablesAlikeButLists, Bool, CmdSpec, Cmnd, CommandRow, CvtFault, HostGroup, IsTooManyMembersOrNoMemoryFault, Line, List, MemberRow, Option, Tables, [], ap}
+use Rattle.sudoers_cvt_rewrite.proofs.Common.{arith, at_drop_all, at_drop_more, commands_of_command_expanded_if, command_in_tables, commands_for_each_member, commands_and_effective_runas_member_count, drop, expanded_member_limit, get_or}
+use Rattle.sudoers_cvt_rewrite.proofs.Common.{host_group_member_count, host_groups_member_count, inl, inr, length, list_expanded_if, map, member_in_tables, optional_runas_in_tables, options_of_range_in_tables}
+use Rattle.sudoers_cvt_rewrite.proofs.Common.{refl, runas_member_count_or_inherited, runas_spec_expanded_if, sym, tags_of_range_in_tables, true, ℕ, ◌++◌, ◌+◌, ◌<◌, ◌∙◌, ◌∷◌, ◌≡◌, ◌≤◌}
 use Rattle.std.specs.Option.{option_map}
 use Rattle.sudoers_line_rows.specs.declared.rows.RunasRow.{RunasRow}
 use Rattle.sudoers_cvt_rewrite.proofs.Extending.{members_like, options_like, tags_like}
 
 -- ---- counts
 
-pub refusal_depends_on_count_if_expanding : (expand : Bool) (n m : ℕ) (fault : CvtFault) → IsRewriteRefusal expand n fault → (expand ≡ true → n ≡ m) → IsRewriteRefusal expand m fault
+pub refusal_depends_on_count_if_expanding : (expand : Bool) (n m : ℕ) (fault : CvtFault) → IsTooManyMembersOrNoMemoryFault expand n fault → (expand ≡ true → n ≡ m) → IsTooManyMembersOrNoMemoryFault expand m fault
 refusal_depends_on_count_if_expanding expand n m fault (inl e) same = inl e
 refusal_depends_on_count_if_expanding expand n m fault (inr (e, is, less)) same = let s = same is in inr (e, is, omega arith)
 
 module _ (t : Tables) (row : CommandRow) (ms : List MemberRow) (more : List CmdSpec) where
   abbrev runas : ℕ → ℕ
-  runas before = runas_member_count before (optional_runas_in_tables t row.runas)
+  runas before = runas_member_count_or_inherited before (optional_runas_in_tables t row.runas)
 
   abbrev left : ℕ → ℕ → ℕ
-  left before i = commands_member_count before (commands_for_each_member t row (drop i ms) ++ more)
+  left before i = commands_and_effective_runas_member_count before (commands_for_each_member t row (drop i ms) ++ more)
 
   one_left : (i : ℕ) (d : MemberRow) (before : ℕ) → i < length ms → left before i ≡ 1 + runas before + left (runas before) (i + 1)
-  one_left i d before h = at_drop_more (λ xs. commands_member_count before (commands_for_each_member t row xs ++ more)) ms i d h
+  one_left i d before h = at_drop_more (λ xs. commands_and_effective_runas_member_count before (commands_for_each_member t row xs ++ more)) ms i d h
 
   pub one_counted : (i : ℕ) (d : MemberRow) (count before total new after : ℕ) → i < length ms → count + left before i ≡ total
       → after ≡ runas before → new ≡ count + (1 + runas before) → new + left after (i + 1) ≡ total
@@ -36,9 +36,9 @@ module _ (t : Tables) (row : CommandRow) (ms : List MemberRow) (more : List CmdS
       let one = one_left i d before h in
       omega (arith, one, is, less)
 
-  pub all_counted : (i count before total : ℕ) → length ms ≤ i → count + left before i ≡ total → count + commands_member_count before more ≡ total
+  pub all_counted : (i count before total : ℕ) → length ms ≤ i → count + left before i ≡ total → count + commands_and_effective_runas_member_count before more ≡ total
   all_counted i count before total h is =
-      let done : left before i ≡ commands_member_count before more = at_drop_all (λ xs. commands_member_count before (commands_for_each_member t row xs ++ more)) ms i h in
+      let done : left before i ≡ commands_and_effective_runas_member_count before more = at_drop_all (λ xs. commands_and_effective_runas_member_count before (commands_for_each_member t row xs ++ more)) ms i h in
       omega (arith, done, is)
 
 -- ---- a command with another Runas_Spec
@@ -46,10 +46,10 @@ module _ (t : Tables) (row : CommandRow) (ms : List MemberRow) (more : List CmdS
 pub commands_per_member_are_expanded_command : (base u : Tables) → AreTablesAlikeButLists base u → (expand : Bool) (lines : List Line) (row : CommandRow) (runas : Option RunasRow) (ms : List MemberRow)
     → optional_runas_in_tables u runas ≡ option_map (runas_spec_expanded_if expand lines) (optional_runas_in_tables base row.runas)
     → map (member_in_tables base) ms ≡ list_expanded_if expand Cmnd lines (member_in_tables base row.member ∷ [])
-    → commands_for_each_member u (record { runas = runas; options = row.options; tags = row.tags; member = row.member }) ms ≡ command_expanded_if expand lines (command_in_tables base row)
+    → commands_for_each_member u (record { runas = runas; options = row.options; tags = row.tags; member = row.member }) ms ≡ commands_of_command_expanded_if expand lines (command_in_tables base row)
 commands_per_member_are_expanded_command base u like expand lines row runas ms e f =
-    let options : options_in_tables u row.options ≡ options_in_tables base row.options = options_like base u like row.options in
-    let tags : tags_in_tables u row.tags ≡ tags_in_tables base row.tags = tags_like base u like row.tags in
+    let options : options_of_range_in_tables u row.options ≡ options_of_range_in_tables base row.options = options_like base u like row.options in
+    let tags : tags_of_range_in_tables u row.tags ≡ tags_of_range_in_tables base row.tags = tags_like base u like row.tags in
     let members : map (member_in_tables u) ms ≡ list_expanded_if expand Cmnd lines (member_in_tables base row.member ∷ []) = members_like base u like ms ∙ f in
     λ i. map (λ m. record { runas = e i; options = options i; tags = tags i; member = m }) (members i)
 

@@ -1,5 +1,5 @@
 -- Where no reachable alias is cyclic, no list that a filter asks for leads to a cyclic alias.
-use Rattle.sudoers_cvt_rewrite.proofs.Common.{FilterListsLeadToNoCycle, HasReachableCycle, Host, HostGroupRow, Line, LineRow, List, ListHasElement, Node, Tables, [], arith, get_or, host_group_in_tables, inl, inr}
+use Rattle.sudoers_cvt_rewrite.proofs.Common.{FilterListsLeadToNoCycle, HasCyclicAliasReachedFromSpecOrDefaults, Host, HostGroupRow, Line, LineRow, List, ListHasElement, Node, Tables, [], arith, get_or, host_group_in_tables, inl, inr}
 use Rattle.sudoers_cvt_rewrite.proofs.Common.{length, line_of_row, map, node_in_tables, refl, subst, suc, zero, ℕ, ◌<◌, ◌∷◌, ◌≡◌}
 use Rattle.sudoers_grammar.specs.Node as node
 use Rattle.sudoers_match.specs.internal.Straight.{HostGroupsLeadToNoCycle, LeadsToNoCyclicAlias}
@@ -11,7 +11,7 @@ row_value_is_among_mapped_rows f [] n d h = absurd (omega arith)
 row_value_is_among_mapped_rows f (x ∷ rows) zero d h = inl refl
 row_value_is_among_mapped_rows f (x ∷ rows) (suc n) d h = inr (row_value_is_among_mapped_rows f rows n d (omega arith))
 
-filter_lists_of_acyclic_line_are_acyclic : (lines : List Line) → (HasReachableCycle lines → ⊥) → (line : Line) → ListHasElement lines line → (n : Node) → line.node ≡ n → FilterListsLeadToNoCycle lines n
+filter_lists_of_acyclic_line_are_acyclic : (lines : List Line) → (HasCyclicAliasReachedFromSpecOrDefaults lines → ⊥) → (line : Line) → ListHasElement lines line → (n : Node) → line.node ≡ n → FilterListsLeadToNoCycle lines n
 filter_lists_of_acyclic_line_are_acyclic lines straight line stands (node.Spec users groups) e =
     (users_straight lines straight line stands users groups e, groups_straight lines straight line stands users groups e)
 filter_lists_of_acyclic_line_are_acyclic lines straight line stands (node.Defaults scope params) e = scope_straight lines straight line stands scope params e
@@ -22,7 +22,7 @@ filter_lists_of_acyclic_line_are_acyclic lines straight line stands (node.Includ
 
 -- The lists of a row lead to no cyclic alias.
 pub filter_lists_of_acyclic_row_are_acyclic : (base : Tables) (rows : List LineRow) (lines : List Line) (i : ℕ) (d : LineRow) → i < length rows → map (line_of_row base) rows ≡ lines
-    → (HasReachableCycle lines → ⊥) → FilterListsLeadToNoCycle lines (node_in_tables base (get_or rows i d).node)
+    → (HasCyclicAliasReachedFromSpecOrDefaults lines → ⊥) → FilterListsLeadToNoCycle lines (node_in_tables base (get_or rows i d).node)
 filter_lists_of_acyclic_row_are_acyclic base rows lines i d h same straight =
     let line = line_of_row base (get_or rows i d) in
     filter_lists_of_acyclic_line_are_acyclic lines straight line (subst (λ ls. ListHasElement ls line) same (row_value_is_among_mapped_rows (line_of_row base) rows i d h)) line.node refl

@@ -1,13 +1,13 @@
 -- Whole lines that are written anew.
-use Rattle.sudoers_cvt_rewrite.proofs.Common.{Bool, CmdSpec, Cmnd, CvtFault, Host, HostGroup, IsRewriteRefusal, Kind, Line, LineRow, List, Member, Node, None, Option, PolicyChanges, Runas, Scope, Some, Tables, User}
-use Rattle.sudoers_cvt_rewrite.proofs.Common.{[], ap, ap₂, arith, at_drop_all, at_drop_more, command_expanded_if, drop, expanded_member_limit, false, flat_map, get_or, host_group_expanded_if, inl, inr, length}
-use Rattle.sudoers_cvt_rewrite.proofs.Common.{line_node_expanded_if, line_of_row, lines_member_count, lines_with_nodes_mapped, map, member_count_of_rules, node_expanded_if_wanted, node_filtered_if_any}
-use Rattle.sudoers_cvt_rewrite.proofs.Common.{node_in_tables, node_member_count, refl, rewritten_lines_of_policy, runas_spec_expanded_if, scope_expanded_if, scope_list_expanded_if, sym, text_in_tables, true, ℕ, ◌++◌}
+use Rattle.sudoers_cvt_rewrite.proofs.Common.{Bool, CmdSpec, Cmnd, CvtFault, Host, HostGroup, IsTooManyMembersOrNoMemoryFault, Kind, Line, LineRow, List, Member, Node, None, Option, PolicyChanges, Runas, Scope, Some, Tables, User}
+use Rattle.sudoers_cvt_rewrite.proofs.Common.{[], ap, ap₂, arith, at_drop_all, at_drop_more, commands_of_command_expanded_if, drop, expanded_member_limit, false, flat_map, get_or, host_group_expanded_if, inl, inr, length}
+use Rattle.sudoers_cvt_rewrite.proofs.Common.{line_node_expanded_if, line_of_row, specs_and_defaults_member_count, textless_lines_with_nodes_mapped, map, member_count_of_rules, node_expanded_if_wanted, node_filtered_if_any}
+use Rattle.sudoers_cvt_rewrite.proofs.Common.{node_in_tables, spec_or_defaults_member_count, refl, rewritten_lines_of_policy, runas_spec_expanded_if, scope_expanded_if, scope_list_expanded_if, sym, text_in_tables, true, ℕ, ◌++◌}
 use Rattle.sudoers_cvt_rewrite.proofs.Common.{◌+◌, ◌<◌, ◌∙◌, ◌∷◌, ◌≡◌, ◌≤◌, ◌⊎◌}
 use Rattle.std.specs.Option.{option_map}
 use Rattle.sudoers_grammar.specs.Node as node
 use Rattle.sudoers_cvt_rules.specs.declared.fault.CvtFault.TheVariants.{Cycle, TooLarge, NoMemory}
-use Rattle.sudoers_cvt_rewrite.specs.Expand.{expanded_node, expanded_scope, expanded_scope_list, command_with_member}
+use Rattle.sudoers_cvt_rewrite.specs.Expand.{expanded_node, expanded_scope, expanded_scope_list, command_with_runas_and_member}
 use Rattle.sudoers_cvt_rewrite.proofs.Extending.{equal_functions_map_lists_alike, equal_functions_map_options_alike}
 
 module _ (lines : List Line) where
@@ -40,12 +40,12 @@ module _ (lines : List Line) where
   option_plain f plain None = refl
   option_plain f plain (Some x) = ap Some (plain x)
 
-  command_plain : (c : CmdSpec) → command_expanded_if false lines c ≡ c ∷ []
-  command_plain c = ap (λ r. command_with_member r c c.member ∷ []) (option_plain (runas_spec_expanded_if false lines) (λ r. refl) c.runas)
+  command_plain : (c : CmdSpec) → commands_of_command_expanded_if false lines c ≡ c ∷ []
+  command_plain c = ap (λ r. command_with_runas_and_member r c c.member ∷ []) (option_plain (runas_spec_expanded_if false lines) (λ r. refl) c.runas)
 
-  commands_plain : (cs : List CmdSpec) → flat_map (command_expanded_if false lines) cs ≡ cs
+  commands_plain : (cs : List CmdSpec) → flat_map (commands_of_command_expanded_if false lines) cs ≡ cs
   commands_plain [] = refl
-  commands_plain (c ∷ cs) = ap (λ xs. xs ++ flat_map (command_expanded_if false lines) cs) (command_plain c) ∙ ap (λ xs. c ∷ xs) (commands_plain cs)
+  commands_plain (c ∷ cs) = ap (λ xs. xs ++ flat_map (commands_of_command_expanded_if false lines) cs) (command_plain c) ∙ ap (λ xs. c ∷ xs) (commands_plain cs)
 
   group_plain : (g : HostGroup) → host_group_expanded_if false lines g ≡ g
   group_plain g i = record { hosts = g.hosts; commands = commands_plain g.commands i }
@@ -73,27 +73,27 @@ module _ (lines : List Line) where
   node_is false n = node_plain n
 
 -- Each line is one that is filtered, and then expanded.
-mapped_nodes_are_rewritten_lines : (lines : List Line) (c : PolicyChanges) → lines_with_nodes_mapped (λ n. line_node_expanded_if c.expand lines (node_filtered_if_any lines c.filter c.prune n)) lines ≡ rewritten_lines_of_policy c lines
+mapped_nodes_are_rewritten_lines : (lines : List Line) (c : PolicyChanges) → textless_lines_with_nodes_mapped (λ n. line_node_expanded_if c.expand lines (node_filtered_if_any lines c.filter c.prune n)) lines ≡ rewritten_lines_of_policy c lines
 mapped_nodes_are_rewritten_lines lines c =
     equal_functions_map_lists_alike (λ (line : Line). record { text = []; node = line_node_expanded_if c.expand lines (node_filtered_if_any lines c.filter c.prune line.node) })
     (λ (line : Line). record { text = []; node = node_expanded_if_wanted c.expand lines (node_filtered_if_any lines c.filter c.prune line.node) })
     (λ line i. record { text = []; node = node_is lines c.expand (node_filtered_if_any lines c.filter c.prune line.node) i }) lines
 
 pub mapped_nodes_of_equal_lines_are_rewritten : (lines others : List Line) (c : PolicyChanges) (expand : Bool) → others ≡ lines → expand ≡ c.expand
-    → lines_with_nodes_mapped (λ n. line_node_expanded_if expand others (node_filtered_if_any others c.filter c.prune n)) others ≡ rewritten_lines_of_policy c lines
+    → textless_lines_with_nodes_mapped (λ n. line_node_expanded_if expand others (node_filtered_if_any others c.filter c.prune n)) others ≡ rewritten_lines_of_policy c lines
 mapped_nodes_of_equal_lines_are_rewritten lines others c expand e f =
-    ap (λ ls. lines_with_nodes_mapped (λ n. line_node_expanded_if expand ls (node_filtered_if_any ls c.filter c.prune n)) ls) e
-    ∙ ap (λ b. lines_with_nodes_mapped (λ n. line_node_expanded_if b lines (node_filtered_if_any lines c.filter c.prune n)) lines) f
+    ap (λ ls. textless_lines_with_nodes_mapped (λ n. line_node_expanded_if expand ls (node_filtered_if_any ls c.filter c.prune n)) ls) e
+    ∙ ap (λ b. textless_lines_with_nodes_mapped (λ n. line_node_expanded_if b lines (node_filtered_if_any lines c.filter c.prune n)) lines) f
     ∙ mapped_nodes_are_rewritten_lines lines c
 
 -- ---- refusals
 
-pub refusal_grows_with_count_if_expanding : (expand : Bool) (n m : ℕ) (fault : CvtFault) → IsRewriteRefusal expand n fault → (expand ≡ true → n ≤ m) → IsRewriteRefusal expand m fault
+pub refusal_grows_with_count_if_expanding : (expand : Bool) (n m : ℕ) (fault : CvtFault) → IsTooManyMembersOrNoMemoryFault expand n fault → (expand ≡ true → n ≤ m) → IsTooManyMembersOrNoMemoryFault expand m fault
 refusal_grows_with_count_if_expanding expand n m fault (inl e) le = inl e
 refusal_grows_with_count_if_expanding expand n m fault (inr (e, is, less)) le = let more = le is in inr (e, is, omega arith)
 
 -- The rules have the members of the lines, and those of definitions.
-pub line_members_are_counted_in_rules : (lines : List Line) → lines_member_count lines ≤ member_count_of_rules lines
+pub line_members_are_counted_in_rules : (lines : List Line) → specs_and_defaults_member_count lines ≤ member_count_of_rules lines
 line_members_are_counted_in_rules lines = omega arith
 
 -- a fault of changing a policy, of which `round` says whether a reachable alias is cyclic, and whose new rules have so many members
@@ -105,7 +105,7 @@ IsPolicyRewriteFault expand round count fault = (fault ≡ NoMemory) ⊎ (((faul
 
 module _ (base : Tables) (written : Node → Node) (rows : List LineRow) where
   abbrev pub lines_left : List LineRow → List Line
-  lines_left rs = lines_with_nodes_mapped written (map (line_of_row base) rs)
+  lines_left rs = textless_lines_with_nodes_mapped written (map (line_of_row base) rs)
 
   pub line_next : (u : Tables) (i : ℕ) (d : LineRow) (v : LineRow) → i < length rows → text_in_tables u v.text ≡ []
       → node_in_tables u v.node ≡ written (node_in_tables base (get_or rows i d).node)
@@ -113,32 +113,32 @@ module _ (base : Tables) (written : Node → Node) (rows : List LineRow) where
   line_next u i d v h e f = at_drop_more lines_left rows i d h ∙ (λ j. record { text = sym e j; node = sym f j } ∷ lines_left (drop (i + 1) rows))
 
   line_at : (i : ℕ) (d : LineRow) → i < length rows
-      → lines_member_count (lines_left (drop i rows)) ≡ node_member_count (written (node_in_tables base (get_or rows i d).node)) + lines_member_count (lines_left (drop (i + 1) rows))
-  line_at i d h = at_drop_more (λ rs. lines_member_count (lines_left rs)) rows i d h
+      → specs_and_defaults_member_count (lines_left (drop i rows)) ≡ spec_or_defaults_member_count (written (node_in_tables base (get_or rows i d).node)) + specs_and_defaults_member_count (lines_left (drop (i + 1) rows))
+  line_at i d h = at_drop_more (λ rs. specs_and_defaults_member_count (lines_left rs)) rows i d h
 
   pub line_counted : (i : ℕ) (d : LineRow) (count new total : ℕ) → i < length rows
-      → new ≡ count + node_member_count (written (node_in_tables base (get_or rows i d).node))
-      → count + lines_member_count (lines_left (drop i rows)) ≡ total → new + lines_member_count (lines_left (drop (i + 1) rows)) ≡ total
+      → new ≡ count + spec_or_defaults_member_count (written (node_in_tables base (get_or rows i d).node))
+      → count + specs_and_defaults_member_count (lines_left (drop i rows)) ≡ total → new + specs_and_defaults_member_count (lines_left (drop (i + 1) rows)) ≡ total
   line_counted i d count new total h e is = let at = line_at i d h in omega (arith, at, e, is)
 
   pub line_within : (i : ℕ) (d : LineRow) (count total : ℕ) → i < length rows
-      → count + lines_member_count (lines_left (drop i rows)) ≡ total → count + node_member_count (written (node_in_tables base (get_or rows i d).node)) ≤ total
+      → count + specs_and_defaults_member_count (lines_left (drop i rows)) ≡ total → count + spec_or_defaults_member_count (written (node_in_tables base (get_or rows i d).node)) ≤ total
   line_within i d count total h is = let at = line_at i d h in omega (arith, at, is)
 
   pub counted_whole : (i count : ℕ) (new : List Line) → length rows ≤ i → new ≡ lines_left rows
-      → count + lines_member_count (lines_left (drop i rows)) ≡ lines_member_count (lines_left rows) → count ≡ lines_member_count new
+      → count + specs_and_defaults_member_count (lines_left (drop i rows)) ≡ specs_and_defaults_member_count (lines_left rows) → count ≡ specs_and_defaults_member_count new
   counted_whole i count new h e is =
-      let done : lines_member_count (lines_left (drop i rows)) ≡ 0 = at_drop_all (λ rs. lines_member_count (lines_left rs)) rows i h in
-      let same : lines_member_count new ≡ lines_member_count (lines_left rows) = ap lines_member_count e in
+      let done : specs_and_defaults_member_count (lines_left (drop i rows)) ≡ 0 = at_drop_all (λ rs. specs_and_defaults_member_count (lines_left rs)) rows i h in
+      let same : specs_and_defaults_member_count new ≡ specs_and_defaults_member_count (lines_left rows) = ap specs_and_defaults_member_count e in
       omega (arith, done, same, is)
 
   pub refused_whole : (expand : Bool) (i : ℕ) (d : LineRow) (count : ℕ) (lines : List Line) (fault : CvtFault) → map (line_of_row base) rows ≡ lines → i < length rows
-      → IsRewriteRefusal expand (count + node_member_count (written (node_in_tables base (get_or rows i d).node))) fault
-      → (expand ≡ true → count + lines_member_count (lines_left (drop i rows)) ≡ lines_member_count (lines_left rows))
-      → IsRewriteRefusal expand (lines_member_count (lines_with_nodes_mapped written lines)) fault
+      → IsTooManyMembersOrNoMemoryFault expand (count + spec_or_defaults_member_count (written (node_in_tables base (get_or rows i d).node))) fault
+      → (expand ≡ true → count + specs_and_defaults_member_count (lines_left (drop i rows)) ≡ specs_and_defaults_member_count (lines_left rows))
+      → IsTooManyMembersOrNoMemoryFault expand (specs_and_defaults_member_count (textless_lines_with_nodes_mapped written lines)) fault
   refused_whole expand i d count lines fault same h refused is =
-      refusal_grows_with_count_if_expanding expand (count + node_member_count (written (node_in_tables base (get_or rows i d).node))) (lines_member_count (lines_with_nodes_mapped written lines)) fault refused
+      refusal_grows_with_count_if_expanding expand (count + spec_or_defaults_member_count (written (node_in_tables base (get_or rows i d).node))) (specs_and_defaults_member_count (textless_lines_with_nodes_mapped written lines)) fault refused
       (λ e.
-      let within = line_within i d count (lines_member_count (lines_left rows)) h (is e) in
-      let all : lines_member_count (lines_left rows) ≡ lines_member_count (lines_with_nodes_mapped written lines) = ap (λ ls. lines_member_count (lines_with_nodes_mapped written ls)) same in
+      let within = line_within i d count (specs_and_defaults_member_count (lines_left rows)) h (is e) in
+      let all : specs_and_defaults_member_count (lines_left rows) ≡ specs_and_defaults_member_count (textless_lines_with_nodes_mapped written lines) = ap (λ ls. specs_and_defaults_member_count (textless_lines_with_nodes_mapped written ls)) same in
       omega (arith, within, all))

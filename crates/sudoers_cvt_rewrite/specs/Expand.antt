@@ -13,15 +13,15 @@ abbrev pub expanded_runas_spec : List Line → RunasSpec → RunasSpec
 expanded_runas_spec lines r = record { users = fully_expanded_list Runas lines r.users; groups = fully_expanded_list Runas lines r.groups }
 
 -- the command with another member
-abbrev pub command_with_member : Option RunasSpec → CmdSpec → Member → CmdSpec
-command_with_member runas c m = record { runas = runas; options = c.options; tags = c.tags; member = m }
+abbrev pub command_with_runas_and_member : Option RunasSpec → CmdSpec → Member → CmdSpec
+command_with_runas_and_member runas c m = record { runas = runas; options = c.options; tags = c.tags; member = m }
 
 -- An alias becomes one command for each of its members, each with the same Runas_Spec, options and tags.
-abbrev pub expanded_command : List Line → CmdSpec → List CmdSpec
-expanded_command lines c = map (command_with_member (option_map (expanded_runas_spec lines) c.runas) c) (fully_expanded_list Cmnd lines (c.member ∷ []))
+abbrev pub commands_of_expanded_command : List Line → CmdSpec → List CmdSpec
+commands_of_expanded_command lines c = map (command_with_runas_and_member (option_map (expanded_runas_spec lines) c.runas) c) (fully_expanded_list Cmnd lines (c.member ∷ []))
 
 abbrev pub expanded_host_group : List Line → HostGroup → HostGroup
-expanded_host_group lines g = record { hosts = fully_expanded_list Host lines g.hosts; commands = flat_map (expanded_command lines) g.commands }
+expanded_host_group lines g = record { hosts = fully_expanded_list Host lines g.hosts; commands = flat_map (commands_of_expanded_command lines) g.commands }
 
 -- The list of a scope. Commands stay as they are written.
 abbrev pub expanded_scope_list : List Line → Kind → List Member → List Member

@@ -10,7 +10,7 @@ use Rattle.sudoers_grammar.specs.Node.{Member, HostGroup, Scope, Node}
 use Rattle.sudoers_grammar.specs.Node as node
 use Rattle.sudoers_tree.specs.Line.{Line}
 use Rattle.sudoers_match_member.specs.Hits.{is_name_equal_ignoring_case, has_dot}
-use Rattle.sudoers_match_member.specs.Folded.{case_folded_bytes}
+use Rattle.sudoers_match_member.specs.Folded.{bytes_case_folded_if_wanted}
 use Rattle.sudoers_match_member.specs.Wildcard.{is_pattern_match}
 use Rattle.sudoers_match_member.specs.declared.wildcards.GlobMode.TheVariants as mode
 use Rattle.sudoers_cvt_rewrite.specs.declared.filter.Filter.{Filter}
@@ -21,31 +21,31 @@ use Rattle.sudoers_match_list.specs.Flattened.{fully_expanded_list}
 -- ---- what matches a value
 
 -- A user of this name, whose number and groups are not known.
-abbrev pub is_atom_of_named_user : List ℕ → Atom → Bool
-is_atom_of_named_user name atom.All = true
-is_atom_of_named_user name (atom.Alias other) = is_name_equal_ignoring_case other name
-is_atom_of_named_user name (atom.Name other) = is_name_equal_ignoring_case other name
-is_atom_of_named_user name a = false
+abbrev pub is_atom_matching_user_name : List ℕ → Atom → Bool
+is_atom_matching_user_name name atom.All = true
+is_atom_matching_user_name name (atom.Alias other) = is_name_equal_ignoring_case other name
+is_atom_matching_user_name name (atom.Name other) = is_name_equal_ignoring_case other name
+is_atom_matching_user_name name a = false
 
 -- A user in the group of this name, whose own name and number are not known.
-abbrev pub is_atom_of_group_user : List ℕ → Atom → Bool
-is_atom_of_group_user name atom.All = true
-is_atom_of_group_user name (atom.Group other) = is_name_equal_ignoring_case other name
-is_atom_of_group_user name a = false
+abbrev pub is_atom_matching_group_name : List ℕ → Atom → Bool
+is_atom_matching_group_name name atom.All = true
+is_atom_matching_group_name name (atom.Group other) = is_name_equal_ignoring_case other name
+is_atom_matching_group_name name a = false
 
 -- the name of a host up to its first dot
 abbrev pub host_name_before_dot : List ℕ → List ℕ
 host_name_before_dot name = take_while (λ b. not (b == 46)) name
 
 abbrev pub is_host_pattern_match : List ℕ → List ℕ → Bool
-is_host_pattern_match name pattern = is_pattern_match mode.Args (case_folded_bytes true pattern) (case_folded_bytes true (if has_dot pattern then name else host_name_before_dot name))
+is_host_pattern_match name pattern = is_pattern_match mode.Args (bytes_case_folded_if_wanted true pattern) (bytes_case_folded_if_wanted true (if has_dot pattern then name else host_name_before_dot name))
 
 -- A host of this name, whose addresses are not known.
-abbrev pub is_atom_of_named_host : List ℕ → Atom → Bool
-is_atom_of_named_host name atom.All = true
-is_atom_of_named_host name (atom.Alias pattern) = is_host_pattern_match name pattern
-is_atom_of_named_host name (atom.Host pattern) = is_host_pattern_match name pattern
-is_atom_of_named_host name a = false
+abbrev pub is_atom_matching_host_name : List ℕ → Atom → Bool
+is_atom_matching_host_name name atom.All = true
+is_atom_matching_host_name name (atom.Alias pattern) = is_host_pattern_match name pattern
+is_atom_matching_host_name name (atom.Host pattern) = is_host_pattern_match name pattern
+is_atom_matching_host_name name a = false
 
 -- ---- lists
 
@@ -74,20 +74,20 @@ is_filter_without_users f = is_list_without_items f.users && is_list_without_ite
 
 -- The list of users allows a user or a group of the filter, or the filter has none.
 abbrev pub is_user_list_in_filter : List Line → Filter → List Member → Bool
-is_user_list_in_filter lines f ms = is_filter_without_users f || (is_any_value_allowed lines User is_atom_of_named_user f.users ms || is_any_value_allowed lines User is_atom_of_group_user f.groups ms)
+is_user_list_in_filter lines f ms = is_filter_without_users f || (is_any_value_allowed lines User is_atom_matching_user_name f.users ms || is_any_value_allowed lines User is_atom_matching_group_name f.groups ms)
 
 -- The list of hosts allows a host of the filter, or the filter has none.
 abbrev pub is_host_list_in_filter : List Line → Filter → List Member → Bool
-is_host_list_in_filter lines f ms = is_list_without_items f.hosts || is_any_value_allowed lines Host is_atom_of_named_host f.hosts ms
+is_host_list_in_filter lines f ms = is_list_without_items f.hosts || is_any_value_allowed lines Host is_atom_matching_host_name f.hosts ms
 
 -- the members of a list of users that match a user or a group of the filter, if it has any
 abbrev pub users_left_by_filter : List Line → Filter → List Member → List Member
 users_left_by_filter lines f ms =
     if is_filter_without_users f then ms
-    else filter (λ m. is_any_value_matched lines User is_atom_of_named_user f.users (m ∷ []) || is_any_value_matched lines User is_atom_of_group_user f.groups (m ∷ [])) ms
+    else filter (λ m. is_any_value_matched lines User is_atom_matching_user_name f.users (m ∷ []) || is_any_value_matched lines User is_atom_matching_group_name f.groups (m ∷ [])) ms
 
 abbrev pub hosts_left_by_filter : List Line → Filter → List Member → List Member
-hosts_left_by_filter lines f ms = if is_list_without_items f.hosts then ms else filter (λ m. is_any_value_matched lines Host is_atom_of_named_host f.hosts (m ∷ [])) ms
+hosts_left_by_filter lines f ms = if is_list_without_items f.hosts then ms else filter (λ m. is_any_value_matched lines Host is_atom_matching_host_name f.hosts (m ∷ [])) ms
 
 -- ---- lines
 
@@ -102,24 +102,24 @@ abbrev pub is_scope_in_filter : List Line → Filter → Option Scope → Bool
 is_scope_in_filter lines f None = true
 is_scope_in_filter lines f (Some s) = is_list_in_filter lines f s.kind s.members
 
-abbrev pub host_group_left_by_filter : List Line → Filter → Bool → HostGroup → HostGroup
-host_group_left_by_filter lines f prune g = record { hosts = if prune then hosts_left_by_filter lines f g.hosts else g.hosts; commands = g.commands }
+abbrev pub host_group_pruned_if_wanted : List Line → Filter → Bool → HostGroup → HostGroup
+host_group_pruned_if_wanted lines f prune g = record { hosts = if prune then hosts_left_by_filter lines f g.hosts else g.hosts; commands = g.commands }
 
 -- the host groups that match
 abbrev pub host_groups_left_by_filter : List Line → Filter → Bool → List HostGroup → List HostGroup
-host_groups_left_by_filter lines f prune gs = map (host_group_left_by_filter lines f prune) (filter (λ (g : HostGroup). is_host_list_in_filter lines f g.hosts) gs)
+host_groups_left_by_filter lines f prune gs = map (host_group_pruned_if_wanted lines f prune) (filter (λ (g : HostGroup). is_host_list_in_filter lines f g.hosts) gs)
 
 -- A user specification stays if its users match, and one of its host groups.
-abbrev pub spec_left_by_filter : List Line → Filter → Bool → List Member → List HostGroup → Node
-spec_left_by_filter lines f prune users [] = node.Blank
-spec_left_by_filter lines f prune users (g ∷ gs) = node.Spec (if prune then users_left_by_filter lines f users else users) (g ∷ gs)
+abbrev pub spec_or_blank_of_left_groups : List Line → Filter → Bool → List Member → List HostGroup → Node
+spec_or_blank_of_left_groups lines f prune users [] = node.Blank
+spec_or_blank_of_left_groups lines f prune users (g ∷ gs) = node.Spec (if prune then users_left_by_filter lines f users else users) (g ∷ gs)
 
 -- What is left of a line; a line that does not match says nothing. Definitions stay here.
-abbrev pub filtered_node : List Line → Filter → Bool → Node → Node
-filtered_node lines f prune (node.Spec users groups) =
-    if is_user_list_in_filter lines f users then spec_left_by_filter lines f prune users (host_groups_left_by_filter lines f prune groups) else node.Blank
-filtered_node lines f prune (node.Defaults scope params) = if is_scope_in_filter lines f scope then node.Defaults scope params else node.Blank
-filtered_node lines f prune (node.Alias k defs) = node.Alias k defs
-filtered_node lines f prune node.Blank = node.Blank
-filtered_node lines f prune node.Comment = node.Comment
-filtered_node lines f prune (node.Include dir path) = node.Include dir path
+abbrev pub node_or_blank_left_by_filter : List Line → Filter → Bool → Node → Node
+node_or_blank_left_by_filter lines f prune (node.Spec users groups) =
+    if is_user_list_in_filter lines f users then spec_or_blank_of_left_groups lines f prune users (host_groups_left_by_filter lines f prune groups) else node.Blank
+node_or_blank_left_by_filter lines f prune (node.Defaults scope params) = if is_scope_in_filter lines f scope then node.Defaults scope params else node.Blank
+node_or_blank_left_by_filter lines f prune (node.Alias k defs) = node.Alias k defs
+node_or_blank_left_by_filter lines f prune node.Blank = node.Blank
+node_or_blank_left_by_filter lines f prune node.Comment = node.Comment
+node_or_blank_left_by_filter lines f prune (node.Include dir path) = node.Include dir path

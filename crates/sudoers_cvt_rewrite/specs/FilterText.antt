@@ -32,13 +32,13 @@ filter_key_named word =
     else None
 
 -- A value has a byte.
-abbrev pub filter_pair_of_value : FilterKey → List ℕ → Result (FilterKey × List ℕ) FilterFault
-filter_pair_of_value key [] = Err Empty
-filter_pair_of_value key (b ∷ value) = Ok (key, b ∷ value)
+abbrev pub filter_pair_or_fault_of_empty_value : FilterKey → List ℕ → Result (FilterKey × List ℕ) FilterFault
+filter_pair_or_fault_of_empty_value key [] = Err Empty
+filter_pair_or_fault_of_empty_value key (b ∷ value) = Ok (key, b ∷ value)
 
 abbrev pub filter_pair_of_key : Option FilterKey → List ℕ → Result (FilterKey × List ℕ) FilterFault
 filter_pair_of_key None value = Err BadKey
-filter_pair_of_key (Some key) value = filter_pair_of_value key value
+filter_pair_of_key (Some key) value = filter_pair_or_fault_of_empty_value key value
 
 abbrev pub filter_pair_of_parts : Option (List ℕ × List ℕ) → Result (FilterKey × List ℕ) FilterFault
 filter_pair_of_parts None = Err BadKey
@@ -51,14 +51,14 @@ filter_pair_of_piece piece = filter_pair_of_parts (parts_around_first_byte 61 pi
 -- ---- the pairs
 
 -- The first fault counts.
-abbrev pub first_fault_or_pairs : Result (FilterKey × List ℕ) FilterFault → Result (List (FilterKey × List ℕ)) FilterFault → Result (List (FilterKey × List ℕ)) FilterFault
-first_fault_or_pairs (Err fault) pairs = Err fault
-first_fault_or_pairs (Ok pair) (Ok pairs) = Ok (pair ∷ pairs)
-first_fault_or_pairs (Ok pair) (Err fault) = Err fault
+abbrev pub pair_before_pairs_or_first_fault : Result (FilterKey × List ℕ) FilterFault → Result (List (FilterKey × List ℕ)) FilterFault → Result (List (FilterKey × List ℕ)) FilterFault
+pair_before_pairs_or_first_fault (Err fault) pairs = Err fault
+pair_before_pairs_or_first_fault (Ok pair) (Ok pairs) = Ok (pair ∷ pairs)
+pair_before_pairs_or_first_fault (Ok pair) (Err fault) = Err fault
 
 abbrev pub filter_pairs_of_pieces : List (List ℕ) → Result (List (FilterKey × List ℕ)) FilterFault
 filter_pairs_of_pieces [] = Ok []
-filter_pairs_of_pieces (piece ∷ pieces) = first_fault_or_pairs (filter_pair_of_piece piece) (filter_pairs_of_pieces pieces)
+filter_pairs_of_pieces (piece ∷ pieces) = pair_before_pairs_or_first_fault (filter_pair_of_piece piece) (filter_pairs_of_pieces pieces)
 
 -- ---- the filter
 

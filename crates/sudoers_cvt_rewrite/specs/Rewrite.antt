@@ -8,8 +8,8 @@ use Rattle.sudoers_check.specs.Led.{is_used, is_cyclic}
 use Rattle.sudoers_cvt_rules.specs.Rules.{Rules, rules_of_policy_lines, alias_node_of_one_definition}
 use Rattle.sudoers_cvt_rewrite.specs.Expand.{expanded_node}
 use Rattle.sudoers_cvt_rewrite.specs.declared.filter.Filter.{Filter}
-use Rattle.sudoers_cvt_rewrite.specs.Filter.{filtered_node}
-use Rattle.sudoers_cvt_rewrite.specs.Count.{lines_member_count, alias_lines_member_count}
+use Rattle.sudoers_cvt_rewrite.specs.Filter.{node_or_blank_left_by_filter}
+use Rattle.sudoers_cvt_rewrite.specs.Count.{specs_and_defaults_member_count, alias_lines_member_count}
 
 -- what is to be changed: the filter, if there is one; whether members that do not match it fall; whether aliases are replaced
 pub record PolicyChanges : Type 0 where
@@ -19,7 +19,7 @@ pub record PolicyChanges : Type 0 where
 
 abbrev pub node_filtered_if_any : List Line → Option Filter → Bool → Node → Node
 node_filtered_if_any lines None prune n = n
-node_filtered_if_any lines (Some f) prune n = filtered_node lines f prune n
+node_filtered_if_any lines (Some f) prune n = node_or_blank_left_by_filter lines f prune n
 
 abbrev pub node_expanded_if_wanted : Bool → List Line → Node → Node
 node_expanded_if_wanted true lines n = expanded_node lines n
@@ -50,4 +50,4 @@ rules_with_used_definitions lines = record { defaults = (rules_of_policy_lines l
 
 -- how many members the rules have
 abbrev pub member_count_of_rules : List Line → ℕ
-member_count_of_rules lines = lines_member_count lines + alias_lines_member_count (rules_with_used_definitions lines).defs
+member_count_of_rules lines = specs_and_defaults_member_count lines + alias_lines_member_count (rules_with_used_definitions lines).defs

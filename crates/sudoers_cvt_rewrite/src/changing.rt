@@ -81,7 +81,7 @@ pub fn rewrite_policy_lines(
         × (expanded_member_limit < member_count_of_rules (rewritten_lines_of_policy (changes_of_view changes.now) policy.now.walk.lines))))) }
 {
     match AcyclicWalk::new(alloc, policy.walk()) {
-        Ok(policy) => rewrite_acyclic_policy(alloc, &policy, changes),
+        Ok(policy) => rewrite_lines_of_acyclic_policy(alloc, &policy, changes),
         Err(AskFault::Cycle) => Err(CvtFault::Cycle),
         Err(_) => Err(CvtFault::NoMemory),
     }
@@ -92,7 +92,7 @@ pub fn rewrite_policy_lines(
 /// # Errors
 ///
 /// `TooLarge` and `NoMemory`, as of [`rewrite_policy_lines`].
-pub fn rewrite_acyclic_policy(
+pub fn rewrite_lines_of_acyclic_policy(
     alloc: Global,
     policy: &AcyclicWalk<'_>,
     changes: &RewriteChanges<'_>,

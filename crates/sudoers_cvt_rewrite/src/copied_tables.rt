@@ -2,7 +2,7 @@
 
 ghost use Rattle.std.specs.Prelude.{◌≡◌, List, map, IfOk};
 ghost use Rattle.sudoers_grammar.specs.Node.{CmdSpec, Def, HostGroup};
-ghost use Rattle.sudoers_line_rows.specs.Tables.{command_in_tables, commands_in_tables, alias_definition_in_tables, alias_definitions_in_tables, host_group_in_tables, host_groups_in_tables, member_in_tables, members_in_tables};
+ghost use Rattle.sudoers_line_rows.specs.Tables.{command_in_tables, commands_of_range_in_tables, alias_definition_in_tables, alias_definitions_of_range_in_tables, host_group_in_tables, host_groups_of_range_in_tables, member_in_tables, members_of_range_in_tables};
 ghost use Rattle.sudoers_cvt_rewrite.specs.internal.Extended.{AreTablesAlikeButLists, IsTableExtension, RowKeepsMeaning};
 ghost use Rattle.sudoers_cvt_rewrite.specs.internal.Written.{RowsKeepMeaning};
 
@@ -34,7 +34,7 @@ pub fn copy_tables_without_lists(alloc: Global, from: &Tables) -> Result<Tables,
 
 /// Appends members, and returns where they stand.
 pub fn append_member_rows(tables: &mut Tables, rows: &[MemberRow]) -> Result<RowRange, AllocError>
-    ensures stays { IfOk result (λ range. RowKeepsMeaning members_in_tables tables.new range (map (member_in_tables tables.old) rows.now)) }
+    ensures stays { IfOk result (λ range. RowKeepsMeaning members_of_range_in_tables tables.new range (map (member_in_tables tables.old) rows.now)) }
     ensures extended { IsTableExtension tables.old tables.new }
 {
     append_table_rows(&mut tables.members, rows)
@@ -42,7 +42,7 @@ pub fn append_member_rows(tables: &mut Tables, rows: &[MemberRow]) -> Result<Row
 
 /// Appends commands, and returns where they stand.
 pub fn append_command_rows(tables: &mut Tables, rows: &[CommandRow]) -> Result<RowRange, AllocError>
-    ensures stays { IfOk result (λ range. (commands : List CmdSpec) → RowsKeepMeaning command_in_tables tables.old rows.now commands → RowKeepsMeaning commands_in_tables tables.new range commands) }
+    ensures stays { IfOk result (λ range. (commands : List CmdSpec) → RowsKeepMeaning command_in_tables tables.old rows.now commands → RowKeepsMeaning commands_of_range_in_tables tables.new range commands) }
     ensures extended { IsTableExtension tables.old tables.new }
 {
     append_table_rows(&mut tables.commands, rows)
@@ -53,7 +53,7 @@ pub fn append_host_group_rows(
     tables: &mut Tables,
     rows: &[HostGroupRow],
 ) -> Result<RowRange, AllocError>
-    ensures stays { IfOk result (λ range. (groups : List HostGroup) → RowsKeepMeaning host_group_in_tables tables.old rows.now groups → RowKeepsMeaning host_groups_in_tables tables.new range groups) }
+    ensures stays { IfOk result (λ range. (groups : List HostGroup) → RowsKeepMeaning host_group_in_tables tables.old rows.now groups → RowKeepsMeaning host_groups_of_range_in_tables tables.new range groups) }
     ensures extended { IsTableExtension tables.old tables.new }
 {
     append_table_rows(&mut tables.groups, rows)
@@ -64,7 +64,7 @@ pub fn append_definition_rows(
     tables: &mut Tables,
     rows: &[AliasDefinitionRow],
 ) -> Result<RowRange, AllocError>
-    ensures stays { IfOk result (λ range. (defs : List Def) → RowsKeepMeaning alias_definition_in_tables tables.old rows.now defs → RowKeepsMeaning alias_definitions_in_tables tables.new range defs) }
+    ensures stays { IfOk result (λ range. (defs : List Def) → RowsKeepMeaning alias_definition_in_tables tables.old rows.now defs → RowKeepsMeaning alias_definitions_of_range_in_tables tables.new range defs) }
     ensures extended { IsTableExtension tables.old tables.new }
 {
     append_table_rows(&mut tables.defs, rows)

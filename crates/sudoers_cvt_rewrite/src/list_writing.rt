@@ -2,11 +2,11 @@
 
 ghost use Rattle.std.specs.Prelude.{◌≡◌, ◌+◌, true, Some, length, map, IfOk, IfErr, OnOk};
 ghost use Rattle.std.specs.Option.{option_map};
-ghost use Rattle.sudoers_line_rows.specs.Tables.{member_in_tables, members_in_tables, optional_runas_in_tables, runas_in_tables, scope_in_tables};
-ghost use Rattle.sudoers_cvt_rewrite.specs.Count.{runas_member_count, scope_member_count};
+ghost use Rattle.sudoers_line_rows.specs.Tables.{member_in_tables, members_of_range_in_tables, optional_runas_in_tables, runas_in_tables, scope_in_tables};
+ghost use Rattle.sudoers_cvt_rewrite.specs.Count.{runas_member_count_or_inherited, scope_member_count};
 ghost use Rattle.sudoers_grammar.specs.declared.node.Kind.TheVariants.{Runas};
 ghost use Rattle.sudoers_cvt_rewrite.specs.internal.Extended.{AreTablesAlikeButLists, IsTableExtension, RowKeepsMeaning};
-ghost use Rattle.sudoers_cvt_rewrite.specs.internal.Written.{IsRewriteRefusal, list_expanded_if, optional_scope_of_row, runas_spec_expanded_if, scope_expanded_if};
+ghost use Rattle.sudoers_cvt_rewrite.specs.internal.Written.{IsTooManyMembersOrNoMemoryFault, list_expanded_if, optional_scope_of_row, runas_spec_expanded_if, scope_expanded_if};
 
 use crate::copied_tables::append_member_rows;
 use crate::member_tally::MemberTally;
@@ -17,7 +17,7 @@ use sudoers_match_list::{ExpansionSource, flatten_member_list};
 use sudoers_tree::Kind;
 
 /// Returns the list, its aliases replaced if that is wanted.
-pub fn expand_list_if_wanted(
+pub fn copy_member_rows_expanded_if_wanted(
     alloc: Global,
     source: &ExpansionSource<'_, '_>,
     kind: Kind,
@@ -25,7 +25,7 @@ pub fn expand_list_if_wanted(
 ) -> Result<Vec<MemberRow>, CvtFault>
     ensures rows { IfOk result (λ flat. map (member_in_tables source.now.lines.tables.now) flat.items
         ≡ list_expanded_if source.now.expand kind source.now.policy.now (map (member_in_tables source.now.lines.tables.now) rows.now)) }
-    ensures fault { IfErr result (IsRewriteRefusal source.now.expand
+    ensures fault { IfErr result (IsTooManyMembersOrNoMemoryFault source.now.expand
         (length (list_expanded_if source.now.expand kind source.now.policy.now (map (member_in_tables source.now.lines.tables.now) rows.now)))) }
 {
     if source.expand {
@@ -36,7 +36,7 @@ pub fn expand_list_if_wanted(
 }
 
 /// Writes a list, its aliases replaced if that is wanted, and counts it.
-pub fn write_counted_list(
+pub fn count_and_write_list_expanded_if_wanted(
     alloc: Global,
     source: &ExpansionSource<'_, '_>,
     tables: &mut Tables,
@@ -45,42 +45,42 @@ pub fn write_counted_list(
     rows: &[MemberRow],
 ) -> Result<RowRange, CvtFault>
     requires { AreTablesAlikeButLists source.now.lines.tables.now tables.old }
-    ensures stays { IfOk result (λ range. RowKeepsMeaning members_in_tables tables.new range
+    ensures stays { IfOk result (λ range. RowKeepsMeaning members_of_range_in_tables tables.new range
         (list_expanded_if source.now.expand kind source.now.policy.now (map (member_in_tables source.now.lines.tables.now) rows.now))) }
     ensures extended { OnOk result (IsTableExtension tables.old tables.new) }
     ensures counted { OnOk result (source.now.expand ≡ true → tally.new.count ≡ tally.old.count
         + length (list_expanded_if source.now.expand kind source.now.policy.now (map (member_in_tables source.now.lines.tables.now) rows.now))) }
-    ensures fault { IfErr result (IsRewriteRefusal source.now.expand (tally.old.count
+    ensures fault { IfErr result (IsTooManyMembersOrNoMemoryFault source.now.expand (tally.old.count
         + length (list_expanded_if source.now.expand kind source.now.policy.now (map (member_in_tables source.now.lines.tables.now) rows.now)))) }
 {
-    let flat = expand_list_if_wanted(alloc, source, kind, rows)?;
+    let flat = copy_member_rows_expanded_if_wanted(alloc, source, kind, rows)?;
     if source.expand {
-        tally.count_list_members(flat.len())?;
+        tally.count_list_of_length(flat.len())?;
     }
     Ok(append_member_rows(tables, flat.as_slice())?)
 }
 
 /// Writes a list that stands in a range, its aliases replaced if that is wanted. It is counted elsewhere.
-fn write_uncounted_list(
+fn write_runas_list_expanded_if_wanted(
     alloc: Global,
     source: &ExpansionSource<'_, '_>,
     tables: &mut Tables,
     range: RowRange,
 ) -> Result<RowRange, CvtFault>
     requires { AreTablesAlikeButLists source.now.lines.tables.now tables.old }
-    ensures stays { IfOk result (λ new. RowKeepsMeaning members_in_tables tables.new new
-        (list_expanded_if source.now.expand Runas source.now.policy.now (members_in_tables source.now.lines.tables.now range))) }
+    ensures stays { IfOk result (λ new. RowKeepsMeaning members_of_range_in_tables tables.new new
+        (list_expanded_if source.now.expand Runas source.now.policy.now (members_of_range_in_tables source.now.lines.tables.now range))) }
     ensures extended { OnOk result (IsTableExtension tables.old tables.new) }
-    ensures fault { IfErr result (IsRewriteRefusal source.now.expand
-        (length (list_expanded_if source.now.expand Runas source.now.policy.now (members_in_tables source.now.lines.tables.now range)))) }
+    ensures fault { IfErr result (IsTooManyMembersOrNoMemoryFault source.now.expand
+        (length (list_expanded_if source.now.expand Runas source.now.policy.now (members_of_range_in_tables source.now.lines.tables.now range)))) }
 {
     let rows = rows_in(source.lines.tables.members.as_slice(), range);
-    let flat = expand_list_if_wanted(alloc, source, Kind::Runas, rows)?;
+    let flat = copy_member_rows_expanded_if_wanted(alloc, source, Kind::Runas, rows)?;
     Ok(append_member_rows(tables, flat.as_slice())?)
 }
 
 /// Writes a Runas_Spec, its aliases replaced if that is wanted. It is counted with the commands of which it holds.
-fn write_rewritten_runas(
+fn write_runas_with_aliases_expanded_if_wanted(
     alloc: Global,
     source: &ExpansionSource<'_, '_>,
     tables: &mut Tables,
@@ -90,11 +90,11 @@ fn write_rewritten_runas(
     ensures stays { IfOk result (λ new. RowKeepsMeaning runas_in_tables tables.new new
         (runas_spec_expanded_if source.now.expand source.now.policy.now (runas_in_tables source.now.lines.tables.now row))) }
     ensures extended { OnOk result (IsTableExtension tables.old tables.new) }
-    ensures fault { IfErr result (IsRewriteRefusal source.now.expand
-        (runas_member_count 0 (Some (runas_spec_expanded_if source.now.expand source.now.policy.now (runas_in_tables source.now.lines.tables.now row))))) }
+    ensures fault { IfErr result (IsTooManyMembersOrNoMemoryFault source.now.expand
+        (runas_member_count_or_inherited 0 (Some (runas_spec_expanded_if source.now.expand source.now.policy.now (runas_in_tables source.now.lines.tables.now row))))) }
 {
-    let users = write_uncounted_list(alloc, source, tables, row.users)?;
-    let groups = write_uncounted_list(alloc, source, tables, row.groups)?;
+    let users = write_runas_list_expanded_if_wanted(alloc, source, tables, row.users)?;
+    let groups = write_runas_list_expanded_if_wanted(alloc, source, tables, row.groups)?;
     Ok(RunasRow { users, groups })
 }
 
@@ -109,17 +109,19 @@ pub fn write_optional_runas(
     ensures stays { IfOk result (λ new. RowKeepsMeaning optional_runas_in_tables tables.new new
         (option_map (runas_spec_expanded_if source.now.expand source.now.policy.now) (optional_runas_in_tables source.now.lines.tables.now row))) }
     ensures extended { OnOk result (IsTableExtension tables.old tables.new) }
-    ensures fault { IfErr result (IsRewriteRefusal source.now.expand (runas_member_count 0
+    ensures fault { IfErr result (IsTooManyMembersOrNoMemoryFault source.now.expand (runas_member_count_or_inherited 0
         (option_map (runas_spec_expanded_if source.now.expand source.now.policy.now) (optional_runas_in_tables source.now.lines.tables.now row)))) }
 {
     match row {
         None => Ok(None),
-        Some(row) => Ok(Some(write_rewritten_runas(alloc, source, tables, row)?)),
+        Some(row) => Ok(Some(write_runas_with_aliases_expanded_if_wanted(
+            alloc, source, tables, row,
+        )?)),
     }
 }
 
 /// Writes the scope of a Defaults line, its aliases replaced if that is wanted; a list of commands stays as it is.
-fn write_rewritten_scope(
+fn write_scope_with_aliases_expanded_if_wanted(
     alloc: Global,
     source: &ExpansionSource<'_, '_>,
     tables: &mut Tables,
@@ -132,14 +134,14 @@ fn write_rewritten_scope(
     ensures extended { OnOk result (IsTableExtension tables.old tables.new) }
     ensures counted { OnOk result (source.now.expand ≡ true → tally.new.count ≡ tally.old.count
         + scope_member_count (Some (scope_expanded_if source.now.expand source.now.policy.now (scope_in_tables source.now.lines.tables.now row)))) }
-    ensures fault { IfErr result (IsRewriteRefusal source.now.expand (tally.old.count
+    ensures fault { IfErr result (IsTooManyMembersOrNoMemoryFault source.now.expand (tally.old.count
         + scope_member_count (Some (scope_expanded_if source.now.expand source.now.policy.now (scope_in_tables source.now.lines.tables.now row))))) }
 {
     let rows = rows_in(source.lines.tables.members.as_slice(), row.members);
     let members = if row.kind == Kind::Cmnd {
         write_unchanged_list(source, tables, tally, rows)?
     } else {
-        write_counted_list(alloc, source, tables, tally, row.kind, rows)?
+        count_and_write_list_expanded_if_wanted(alloc, source, tables, tally, row.kind, rows)?
     };
     Ok(ScopeRow {
         kind: row.kind,
@@ -155,15 +157,15 @@ fn write_unchanged_list(
     rows: &[MemberRow],
 ) -> Result<RowRange, CvtFault>
     requires { AreTablesAlikeButLists source.now.lines.tables.now tables.old }
-    ensures stays { IfOk result (λ range. RowKeepsMeaning members_in_tables tables.new range (map (member_in_tables source.now.lines.tables.now) rows.now)) }
+    ensures stays { IfOk result (λ range. RowKeepsMeaning members_of_range_in_tables tables.new range (map (member_in_tables source.now.lines.tables.now) rows.now)) }
     ensures extended { OnOk result (IsTableExtension tables.old tables.new) }
     ensures counted { OnOk result (source.now.expand ≡ true → tally.new.count ≡ tally.old.count
         + length (map (member_in_tables source.now.lines.tables.now) rows.now)) }
-    ensures fault { IfErr result (IsRewriteRefusal source.now.expand (tally.old.count
+    ensures fault { IfErr result (IsTooManyMembersOrNoMemoryFault source.now.expand (tally.old.count
         + length (map (member_in_tables source.now.lines.tables.now) rows.now))) }
 {
     if source.expand {
-        tally.count_list_members(rows.len())?;
+        tally.count_list_of_length(rows.len())?;
     }
     Ok(append_member_rows(tables, rows)?)
 }
@@ -182,11 +184,13 @@ pub fn write_optional_scope(
     ensures extended { OnOk result (IsTableExtension tables.old tables.new) }
     ensures counted { OnOk result (source.now.expand ≡ true → tally.new.count ≡ tally.old.count + scope_member_count
         (option_map (scope_expanded_if source.now.expand source.now.policy.now) (option_map (scope_in_tables source.now.lines.tables.now) row))) }
-    ensures fault { IfErr result (IsRewriteRefusal source.now.expand (tally.old.count + scope_member_count
+    ensures fault { IfErr result (IsTooManyMembersOrNoMemoryFault source.now.expand (tally.old.count + scope_member_count
         (option_map (scope_expanded_if source.now.expand source.now.policy.now) (option_map (scope_in_tables source.now.lines.tables.now) row)))) }
 {
     match row {
         None => Ok(None),
-        Some(row) => Ok(Some(write_rewritten_scope(alloc, source, tables, tally, row)?)),
+        Some(row) => Ok(Some(write_scope_with_aliases_expanded_if_wanted(
+            alloc, source, tables, tally, row,
+        )?)),
     }
 }

@@ -7,12 +7,12 @@ ghost use Rattle.sudoers_line_rows.specs.View.{members_of_view};
 ghost use Rattle.sudoers_match_list.specs.Search.{IsValidVerdictCache};
 ghost use Rattle.sudoers_match.specs.internal.Straight.{LeadsToNoCyclicAlias};
 ghost use Rattle.sudoers_cvt_rewrite.specs.Filter.{last_hit_in_expanded_list, is_user_list_in_filter, is_host_list_in_filter};
-ghost use Rattle.sudoers_cvt_rewrite.specs.internal.Matcher.{AreValidVerdictCaches, IsFreshVerdictCache, is_any_value_hit_wanted, is_user_list_hit_wanted, is_host_list_hit_wanted, is_hit_wanted, IsValidFilterMatcher};
+ghost use Rattle.sudoers_cvt_rewrite.specs.internal.Matcher.{AreValidVerdictCaches, IsFreshVerdictCache, is_any_value_matched_or_allowed, is_filter_user_matched_or_allowed, is_filter_host_matched_or_allowed, is_hit_any_or_allowing, IsValidFilterMatcher};
 
 use crate::filter::Filter;
-use crate::filter_values::{GroupUserKind, NamedHostKind, NamedUserKind};
+use crate::filter_atom_matching::{GroupNameMatching, HostNameMatching, UserNameMatching};
 use std::alloc::{AllocError, Global};
-use sudoers_match_list::{AcyclicWalk, AliasVerdictCache, ListDecision, MemberHit, MemberKind};
+use sudoers_match_list::{AcyclicWalk, AliasVerdictCache, LastHitOrCycle, MemberHit, MemberKind};
 use sudoers_tree::{Kind, MemberRow, RowsOfTable};
 
 /// A filter, the policy whose lists it is asked of, and whether members that do not match it fall.
@@ -47,14 +47,14 @@ fn find_filter_hit<'a, K: MemberKind>(
     // laws
     policy.is_acyclic();
     match verdicts.find_last_hit::<K>(policy.definition_numbers(), kind, members, asked)? {
-        ListDecision::Latest(hit) => Ok(hit),
-        ListDecision::Cyclic => unreachable!(),
+        LastHitOrCycle::Latest(hit) => Ok(hit),
+        LastHitOrCycle::Cyclic => unreachable!(),
     }
 }
 
 /// Returns whether `hit` is wanted: one that allows, or any.
-fn is_wanted_hit(allowing: bool, hit: Option<MemberHit>) -> bool
-    ensures { result ≡ is_hit_wanted allowing hit }
+fn is_any_or_allowing_hit(allowing: bool, hit: Option<MemberHit>) -> bool
+    ensures { result ≡ is_hit_any_or_allowing allowing hit }
 {
     match hit {
         Some(hit) => hit.allow || !allowing,
@@ -63,7 +63,7 @@ fn is_wanted_hit(allowing: bool, hit: Option<MemberHit>) -> bool
 }
 
 /// Returns whether the list `members` says what is wanted of one of the values. The list leads to no cyclic alias.
-fn has_value_with_wanted_hit<'a, K: MemberKind>(
+fn has_value_matched_or_allowed<'a, K: MemberKind>(
     verdicts: &mut Vec<AliasVerdictCache<'a>>,
     policy: &AcyclicWalk<'a>,
     kind: Kind,
@@ -74,11 +74,11 @@ fn has_value_with_wanted_hit<'a, K: MemberKind>(
     requires verdicts { AreValidVerdictCaches kind policy.now K.test values.now verdicts.old.items }
     requires straight { LeadsToNoCyclicAlias kind policy.now (members_of_view members.now) }
     ensures kept { IfOk result (λ _. AreValidVerdictCaches kind policy.now K.test values.now verdicts.new.items) }
-    ensures says { IfOk result (λ says. says ≡ is_any_value_hit_wanted allowing policy.now kind K.test values.now (members_of_view members.now)) }
+    ensures says { IfOk result (λ says. says ≡ is_any_value_matched_or_allowed allowing policy.now kind K.test values.now (members_of_view members.now)) }
 {
     for (n, value) in values.iter().enumerate() {
         let hit = find_filter_hit::<K>(&mut verdicts[n], policy, kind, members, value)?;
-        if is_wanted_hit(allowing, hit) {
+        if is_any_or_allowing_hit(allowing, hit) {
             return Ok(true);
         }
     }
@@ -129,7 +129,7 @@ impl<'a> FilterMatcher<'a> {
     }
 
     /// Returns whether a list of users says what is wanted of a user or a group of the filter. It leads to no cyclic alias.
-    pub(crate) fn has_wanted_hit_of_users(
+    pub(crate) fn matches_or_allows_filter_users(
         &mut self,
         asked: &FilterContext<'a, '_>,
         members: &RowsOfTable<'_, MemberRow>,
@@ -138,11 +138,11 @@ impl<'a> FilterMatcher<'a> {
         requires matcher { IsValidFilterMatcher asked.now.policy.now asked.now.filter.now self.old }
         requires straight { LeadsToNoCyclicAlias OfUsers asked.now.policy.now (members_of_view members.now) }
         ensures kept { IfOk result (λ _. IsValidFilterMatcher asked.now.policy.now asked.now.filter.now self.new) }
-        ensures says { IfOk result (λ says. says ≡ is_user_list_hit_wanted allowing asked.now.policy.now asked.now.filter.now (members_of_view members.now)) }
+        ensures says { IfOk result (λ says. says ≡ is_filter_user_matched_or_allowed allowing asked.now.policy.now asked.now.filter.now (members_of_view members.now)) }
     {
         let policy = asked.policy;
         let users = asked.filter.users.as_slice();
-        if has_value_with_wanted_hit::<NamedUserKind>(
+        if has_value_matched_or_allowed::<UserNameMatching>(
             &mut self.users,
             policy,
             Kind::User,
@@ -153,7 +153,7 @@ impl<'a> FilterMatcher<'a> {
             return Ok(true);
         }
         let groups = asked.filter.groups.as_slice();
-        has_value_with_wanted_hit::<GroupUserKind>(
+        has_value_matched_or_allowed::<GroupNameMatching>(
             &mut self.groups,
             policy,
             Kind::User,
@@ -164,7 +164,7 @@ impl<'a> FilterMatcher<'a> {
     }
 
     /// Returns whether a list of hosts says what is wanted of a host of the filter. It leads to no cyclic alias.
-    pub(crate) fn has_wanted_hit_of_hosts(
+    pub(crate) fn matches_or_allows_filter_hosts(
         &mut self,
         asked: &FilterContext<'a, '_>,
         members: &RowsOfTable<'_, MemberRow>,
@@ -173,10 +173,10 @@ impl<'a> FilterMatcher<'a> {
         requires matcher { IsValidFilterMatcher asked.now.policy.now asked.now.filter.now self.old }
         requires straight { LeadsToNoCyclicAlias OfHosts asked.now.policy.now (members_of_view members.now) }
         ensures kept { IfOk result (λ _. IsValidFilterMatcher asked.now.policy.now asked.now.filter.now self.new) }
-        ensures says { IfOk result (λ says. says ≡ is_host_list_hit_wanted allowing asked.now.policy.now asked.now.filter.now (members_of_view members.now)) }
+        ensures says { IfOk result (λ says. says ≡ is_filter_host_matched_or_allowed allowing asked.now.policy.now asked.now.filter.now (members_of_view members.now)) }
     {
         let hosts = asked.filter.hosts.as_slice();
-        has_value_with_wanted_hit::<NamedHostKind>(
+        has_value_matched_or_allowed::<HostNameMatching>(
             &mut self.hosts,
             asked.policy,
             Kind::Host,
@@ -204,7 +204,7 @@ impl<'a> FilterMatcher<'a> {
         if asked.filter.has_no_user_or_group() {
             return Ok(true);
         }
-        self.has_wanted_hit_of_users(asked, members, true)
+        self.matches_or_allows_filter_users(asked, members, true)
     }
 
     /// Returns whether the list of hosts `members` matches the filter. It leads to no cyclic alias.
@@ -225,6 +225,6 @@ impl<'a> FilterMatcher<'a> {
         if asked.filter.has_no_filter_host() {
             return Ok(true);
         }
-        self.has_wanted_hit_of_hosts(asked, members, true)
+        self.matches_or_allows_filter_hosts(asked, members, true)
     }
 }

@@ -3,13 +3,13 @@
 ghost use Rattle.std.specs.Prelude.{◌≡◌, ◌+◌, ◌<◌, ◌≤◌, length, IfErr, OnOk};
 ghost use Rattle.sudoers_line_rows.specs.Tables.{optional_runas_in_tables};
 ghost use Rattle.sudoers_cvt_rules.specs.declared.fault.CvtFault.TheVariants.{TooLarge};
-ghost use Rattle.sudoers_cvt_rewrite.specs.Count.{runas_member_count};
+ghost use Rattle.sudoers_cvt_rewrite.specs.Count.{runas_member_count_or_inherited};
 ghost use Rattle.sudoers_match_list.specs.Flattened.{expanded_member_limit};
 ghost use Rattle.sudoers_cvt_rewrite.specs.internal.Marked.{marked_definitions_member_count};
 
 use sudoers_cvt_rules::CvtFault;
 use sudoers_line_rows::{RunasRow, Tables, rows_in};
-use sudoers_match_list::{DefinitionRow, MEMBER_LIMIT};
+use sudoers_match_list::{DefinitionKindAndMembers, MEMBER_LIMIT};
 
 /// How many members are written, and how many the Runas_Spec has that a next command inherits.
 #[derive(Drop)]
@@ -25,7 +25,7 @@ impl MemberTally {
     /// # Errors
     ///
     /// `TooLarge`: there are more than 65,536 then.
-    pub fn count_list_members(&mut self, length: usize) -> Result<(), CvtFault>
+    pub fn count_list_of_length(&mut self, length: usize) -> Result<(), CvtFault>
         ensures counted { OnOk result (self.new.count ≡ self.old.count + length) }
         ensures fault { IfErr result (λ fault. (fault ≡ TooLarge) × (expanded_member_limit < self.old.count + length)) }
     {
@@ -42,15 +42,15 @@ impl MemberTally {
     /// # Errors
     ///
     /// `TooLarge`: there are more than 65,536 then.
-    pub fn count_command_members(
+    pub fn count_command_and_runas_members(
         &mut self,
         tables: &Tables,
         runas: Option<RunasRow>,
     ) -> Result<(), CvtFault>
-        ensures inherited { OnOk result (self.new.inherited ≡ runas_member_count self.old.inherited (optional_runas_in_tables tables.now runas)) }
-        ensures counted { OnOk result (self.new.count ≡ self.old.count + (1 + runas_member_count self.old.inherited (optional_runas_in_tables tables.now runas))) }
+        ensures inherited { OnOk result (self.new.inherited ≡ runas_member_count_or_inherited self.old.inherited (optional_runas_in_tables tables.now runas)) }
+        ensures counted { OnOk result (self.new.count ≡ self.old.count + (1 + runas_member_count_or_inherited self.old.inherited (optional_runas_in_tables tables.now runas))) }
         ensures fault { IfErr result (λ fault. (fault ≡ TooLarge)
-            × (expanded_member_limit < self.old.count + (1 + runas_member_count self.old.inherited (optional_runas_in_tables tables.now runas)))) }
+            × (expanded_member_limit < self.old.count + (1 + runas_member_count_or_inherited self.old.inherited (optional_runas_in_tables tables.now runas)))) }
     {
         let length = match runas {
             None => self.inherited,
@@ -75,7 +75,7 @@ impl MemberTally {
     /// `TooLarge`: there are more than 65,536 then.
     pub fn count_marked_definitions(
         &mut self,
-        definitions: &[DefinitionRow<'_>],
+        definitions: &[DefinitionKindAndMembers<'_>],
         marks: &[bool],
     ) -> Result<(), CvtFault>
         requires { length marks.now ≡ length definitions.now }
@@ -84,7 +84,7 @@ impl MemberTally {
     {
         for (number, definition) in definitions.iter().enumerate() {
             if marks[number] {
-                self.count_list_members(definition.members.len())?;
+                self.count_list_of_length(definition.members.len())?;
             }
         }
         Ok(())

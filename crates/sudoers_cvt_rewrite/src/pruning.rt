@@ -6,7 +6,7 @@ ghost use Rattle.sudoers_line_rows.specs.Tables.{member_in_tables};
 ghost use Rattle.sudoers_line_rows.specs.View.{members_of_view};
 ghost use Rattle.sudoers_match.specs.internal.Straight.{LeadsToNoCyclicAlias};
 ghost use Rattle.sudoers_cvt_rewrite.specs.internal.Matcher.{IsValidFilterMatcher};
-ghost use Rattle.sudoers_cvt_rewrite.specs.internal.Pruned.{is_list_kept_by_filter, is_member_kept_by_filter};
+ghost use Rattle.sudoers_cvt_rewrite.specs.internal.Pruned.{is_list_matching_any_filter_value, is_member_kept_by_filter};
 
 use crate::matching::{FilterContext, FilterMatcher};
 use std::alloc::{AllocError, Global};
@@ -15,7 +15,7 @@ use sudoers_tree::{Kind, MemberRow, RowsOfTable};
 
 impl<'a> FilterMatcher<'a> {
     /// Returns whether a list of this kind names what the filter asks for. It leads to no cyclic alias.
-    fn keeps_members_for_filter(
+    fn matches_any_filter_value(
         &mut self,
         asked: &FilterContext<'a, '_>,
         kind: Kind,
@@ -24,14 +24,14 @@ impl<'a> FilterMatcher<'a> {
         requires matcher { IsValidFilterMatcher asked.now.policy.now asked.now.filter.now self.old }
         requires straight { LeadsToNoCyclicAlias kind asked.now.policy.now (members_of_view members.now) }
         ensures kept { IfOk result (λ _. IsValidFilterMatcher asked.now.policy.now asked.now.filter.now self.new) }
-        ensures keeps { IfOk result (λ keeps_it. keeps_it ≡ is_list_kept_by_filter kind asked.now.policy.now asked.now.filter.now (members_of_view members.now)) }
+        ensures keeps { IfOk result (λ keeps_it. keeps_it ≡ is_list_matching_any_filter_value kind asked.now.policy.now asked.now.filter.now (members_of_view members.now)) }
     {
         match kind {
             Kind::User if !asked.filter.has_no_user_or_group() => {
-                self.has_wanted_hit_of_users(asked, members, false)
+                self.matches_or_allows_filter_users(asked, members, false)
             }
             Kind::Host if !asked.filter.has_no_filter_host() => {
-                self.has_wanted_hit_of_hosts(asked, members, false)
+                self.matches_or_allows_filter_hosts(asked, members, false)
             }
             _ => Ok(true),
         }
@@ -60,7 +60,7 @@ impl<'a> FilterMatcher<'a> {
         let tables = members.tables;
         for row in members.rows {
             let rows = slice::from_ref(row);
-            if self.keeps_members_for_filter(asked, kind, &RowsOfTable { tables, rows })? {
+            if self.matches_any_filter_value(asked, kind, &RowsOfTable { tables, rows })? {
                 left.push(*row)?;
             }
         }

@@ -4,15 +4,15 @@ ghost use Rattle.std.specs.Prelude.{◌≡◌, true, IfOk, IfErr, IfSome};
 ghost use Rattle.sudoers_line_rows.specs.Tables.{node_in_tables};
 ghost use Rattle.sudoers_tree.specs.Line.{lines_of_rows};
 ghost use Rattle.sudoers_cvt_rewrite.specs.Changed.{changes_of_view};
-ghost use Rattle.sudoers_cvt_rewrite.specs.Count.{lines_member_count};
+ghost use Rattle.sudoers_cvt_rewrite.specs.Count.{specs_and_defaults_member_count};
 ghost use Rattle.sudoers_cvt_rewrite.specs.internal.Matcher.{IsValidFilterMatcher};
 ghost use Rattle.sudoers_cvt_rewrite.specs.Rewrite.{node_filtered_if_any};
 ghost use Rattle.sudoers_cvt_rewrite.specs.internal.Selected.{node_of_filtered_line, FilterListsLeadToNoCycle};
-ghost use Rattle.sudoers_cvt_rewrite.specs.internal.Written.{IsRewriteRefusal, line_node_expanded_if, lines_with_nodes_mapped};
+ghost use Rattle.sudoers_cvt_rewrite.specs.internal.Written.{IsTooManyMembersOrNoMemoryFault, line_node_expanded_if, textless_lines_with_nodes_mapped};
 
 use crate::changing::RewriteChanges;
 use crate::copied_tables::copy_tables_without_lists;
-use crate::filtering::write_filtered_line;
+use crate::filtered_line_writing::write_filtered_line;
 use crate::matching::{FilterContext, FilterMatcher};
 use crate::member_tally::MemberTally;
 use crate::selecting::{FilteredLine, select_filtered_node};
@@ -52,7 +52,7 @@ impl RewrittenLines {
 }
 
 /// Returns what is left of a line that says `row`: all of it if there is no filter.
-fn choose_filtered_line<'a>(
+fn select_line_by_optional_filter<'a>(
     alloc: Global,
     policy: &AcyclicWalk<'a>,
     changes: &RewriteChanges<'_>,
@@ -85,11 +85,11 @@ pub fn write_rewritten_lines(
     source: &ExpansionSource<'_, '_>,
     changes: &RewriteChanges<'_>,
 ) -> Result<(RewrittenLines, MemberTally), CvtFault>
-    ensures lines { IfOk result (λ new. new.0 ≡ lines_with_nodes_mapped (λ n. line_node_expanded_if source.now.expand source.now.policy.now
+    ensures lines { IfOk result (λ new. new.0 ≡ textless_lines_with_nodes_mapped (λ n. line_node_expanded_if source.now.expand source.now.policy.now
         (node_filtered_if_any source.now.policy.now (changes_of_view changes.now).filter changes.now.prune n)) source.now.policy.now) }
-    ensures counted { IfOk result (λ new. source.now.expand ≡ true → new.1.count ≡ lines_member_count new.0) }
-    ensures fault { IfErr result (IsRewriteRefusal source.now.expand
-        (lines_member_count (lines_with_nodes_mapped (λ n. line_node_expanded_if source.now.expand source.now.policy.now
+    ensures counted { IfOk result (λ new. source.now.expand ≡ true → new.1.count ≡ specs_and_defaults_member_count new.0) }
+    ensures fault { IfErr result (IsTooManyMembersOrNoMemoryFault source.now.expand
+        (specs_and_defaults_member_count (textless_lines_with_nodes_mapped (λ n. line_node_expanded_if source.now.expand source.now.policy.now
         (node_filtered_if_any source.now.policy.now (changes_of_view changes.now).filter changes.now.prune n)) source.now.policy.now))) }
 {
     let policy = source.policy;
@@ -104,7 +104,14 @@ pub fn write_rewritten_lines(
     };
     let mut rows = Vec::new(alloc);
     for row in source.lines.rows {
-        let choice = choose_filtered_line(alloc, policy, changes, &mut matcher, base, &row.node)?;
+        let choice = select_line_by_optional_filter(
+            alloc,
+            policy,
+            changes,
+            &mut matcher,
+            base,
+            &row.node,
+        )?;
         let node = write_filtered_line(alloc, source, &mut tables, &mut tally, &row.node, &choice)?;
         let text = ByteRange { from: 0, to: 0 };
         rows.push(LineRow {

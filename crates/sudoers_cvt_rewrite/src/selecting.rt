@@ -7,9 +7,9 @@ ghost use Rattle.sudoers_line_rows.specs.declared.rows.NodeRow.{NodeRow as RowOf
 ghost use Rattle.sudoers_line_rows.specs.Tables.{host_group_in_tables, member_in_tables, node_in_tables};
 ghost use Rattle.sudoers_line_rows.specs.View.{members_of_view};
 ghost use Rattle.sudoers_match.specs.internal.Straight.{HostGroupsLeadToNoCycle, LeadsToNoCyclicAlias, ScopeLeadsToNoCycle};
-ghost use Rattle.sudoers_cvt_rewrite.specs.Filter.{filtered_node, host_group_left_by_filter, host_groups_left_by_filter, is_list_in_filter, is_host_list_in_filter, is_scope_in_filter};
+ghost use Rattle.sudoers_cvt_rewrite.specs.Filter.{node_or_blank_left_by_filter, host_group_pruned_if_wanted, host_groups_left_by_filter, is_list_in_filter, is_host_list_in_filter, is_scope_in_filter};
 ghost use Rattle.sudoers_cvt_rewrite.specs.internal.Matcher.{IsValidFilterMatcher};
-ghost use Rattle.sudoers_cvt_rewrite.specs.internal.Pruned.{members_left_by_filter};
+ghost use Rattle.sudoers_cvt_rewrite.specs.internal.Pruned.{members_pruned_if_wanted};
 ghost use Rattle.sudoers_cvt_rewrite.specs.internal.Selected.{node_of_filtered_line, optional_host_group_of_filtered, host_group_of_filtered, FilterListsLeadToNoCycle};
 ghost use Rattle.sudoers_cvt_rewrite.specs.internal.Written.{optional_scope_of_row};
 
@@ -39,7 +39,7 @@ pub enum FilteredLine {
 }
 
 /// Returns the members of a list of this kind that are left, or all if none is to fall. The list leads to no cyclic alias.
-fn select_matching_members<'a>(
+fn prune_members_if_wanted<'a>(
     alloc: Global,
     asked: &FilterContext<'a, '_>,
     matcher: &mut FilterMatcher<'a>,
@@ -50,7 +50,7 @@ fn select_matching_members<'a>(
     requires straight { LeadsToNoCyclicAlias kind asked.now.policy.now (members_of_view members.now) }
     ensures kept { IfOk result (λ _. IsValidFilterMatcher asked.now.policy.now asked.now.filter.now matcher.new) }
     ensures left { IfOk result (λ left. map (member_in_tables members.now.tables.now) left.items
-        ≡ members_left_by_filter kind asked.now.policy.now asked.now.filter.now asked.now.prune (members_of_view members.now)) }
+        ≡ members_pruned_if_wanted kind asked.now.policy.now asked.now.filter.now asked.now.prune (members_of_view members.now)) }
 {
     if asked.prune {
         matcher.prune_members(alloc, asked, kind, members)
@@ -72,14 +72,14 @@ fn select_matching_host_group<'a>(
     ensures kept { IfOk result (λ _. IsValidFilterMatcher asked.now.policy.now asked.now.filter.now matcher.new) }
     ensures left { IfOk result (λ left. optional_host_group_of_filtered base.now left
         ≡ (if is_host_list_in_filter asked.now.policy.now asked.now.filter.now (host_group_in_tables base.now row.now).hosts
-        then Some (host_group_left_by_filter asked.now.policy.now asked.now.filter.now asked.now.prune (host_group_in_tables base.now row.now)) else None)) }
+        then Some (host_group_pruned_if_wanted asked.now.policy.now asked.now.filter.now asked.now.prune (host_group_in_tables base.now row.now)) else None)) }
 {
     let rows = rows_in(base.members.as_slice(), row.hosts);
     let members = RowsOfTable { tables: base, rows };
     if !matcher.matches_host_filter(asked, &members)? {
         return Ok(None);
     }
-    let hosts = select_matching_members(alloc, asked, matcher, Kind::Host, &members)?;
+    let hosts = prune_members_if_wanted(alloc, asked, matcher, Kind::Host, &members)?;
     let commands = row.commands;
     Ok(Some(FilteredHostGroup { hosts, commands }))
 }
@@ -151,7 +151,7 @@ fn select_filtered_spec<'a>(
     requires users { LeadsToNoCyclicAlias OfUsers asked.now.policy.now (members_of_view users.now) }
     requires hosts { HostGroupsLeadToNoCycle asked.now.policy.now (map (host_group_in_tables users.now.tables.now) groups.now) }
     ensures kept { IfOk result (λ _. IsValidFilterMatcher asked.now.policy.now asked.now.filter.now matcher.new) }
-    ensures left { IfOk result (λ left. (row : RowOf) → node_of_filtered_line users.now.tables.now row left ≡ filtered_node asked.now.policy.now asked.now.filter.now asked.now.prune
+    ensures left { IfOk result (λ left. (row : RowOf) → node_of_filtered_line users.now.tables.now row left ≡ node_or_blank_left_by_filter asked.now.policy.now asked.now.filter.now asked.now.prune
         (SpecOf (members_of_view users.now) (map (host_group_in_tables users.now.tables.now) groups.now))) }
 {
     if !matcher.matches_user_filter(asked, users)? {
@@ -161,7 +161,7 @@ fn select_filtered_spec<'a>(
     if groups.is_empty() {
         return Ok(FilteredLine::Falls);
     }
-    let users = select_matching_members(alloc, asked, matcher, Kind::User, users)?;
+    let users = prune_members_if_wanted(alloc, asked, matcher, Kind::User, users)?;
     Ok(FilteredLine::Spec { users, groups })
 }
 
@@ -219,7 +219,7 @@ pub fn select_filtered_node<'a>(
     requires matcher { IsValidFilterMatcher asked.now.policy.now asked.now.filter.now matcher.old }
     requires straight { FilterListsLeadToNoCycle asked.now.policy.now (node_in_tables base.now row.now) }
     ensures kept { IfOk result (λ _. IsValidFilterMatcher asked.now.policy.now asked.now.filter.now matcher.new) }
-    ensures left { IfOk result (λ left. node_of_filtered_line base.now row.now left ≡ filtered_node asked.now.policy.now asked.now.filter.now asked.now.prune (node_in_tables base.now row.now)) }
+    ensures left { IfOk result (λ left. node_of_filtered_line base.now row.now left ≡ node_or_blank_left_by_filter asked.now.policy.now asked.now.filter.now asked.now.prune (node_in_tables base.now row.now)) }
 {
     match *row {
         NodeRow::Spec { users, groups } => {

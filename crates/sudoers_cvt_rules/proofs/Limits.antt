@@ -10,7 +10,7 @@ use Rattle.sudoers_cvt_spell.specs.Lines.{printed_line, printed_lines}
 use Rattle.sudoers_cvt_rules.specs.declared.fault.CvtFault.{CvtFault}
 use Rattle.sudoers_cvt_rules.specs.declared.fault.CvtFault.TheVariants.{Cycle, TooLarge, NotUtf8, NoMemory}
 use Rattle.sudoers_cvt_rules.specs.Rules.{Rules, is_printed_within_limits, rule_nodes_in_print_order, printed_rules}
-use Rattle.sudoers_cvt_rules.specs.internal.Long.{IsTooLongWithLineEnd, IsTooLongLineFault, IsTextOrLineLimitFault, PrintedRulesFitLimits, IsPrintFault}
+use Rattle.sudoers_cvt_rules.specs.internal.Long.{IsFaultOfMakingUnendedLine, IsFaultOfMakingLine, IsFaultOfAppendingLines, PrintedRulesFitLimits, IsPrintFault}
 
 -- what is next in a list, by what each row says
 pub mapped_drop_begins_with_next_image : {X Y : Type 0} (f : X → Y) (xs : List X) (i : ℕ) (d : X) → i < length xs → (y : Y) → y ≡ f (get_or xs i d)
@@ -18,7 +18,7 @@ pub mapped_drop_begins_with_next_image : {X Y : Type 0} (f : X → Y) (xs : List
 mapped_drop_begins_with_next_image f xs i d h y e = ap (map f) (drop_more xs i d h) ∙ ap (λ z. z ∷ map f (drop (i + 1) xs)) (sym e)
 
 -- A text that goes on is as long at least.
-pub longer_text_is_too_long_too : (a b : List ℕ) (fault : CvtFault) → length a ≤ length b → IsTooLongWithLineEnd a fault → IsTooLongWithLineEnd b fault
+pub longer_text_is_too_long_too : (a b : List ℕ) (fault : CvtFault) → length a ≤ length b → IsFaultOfMakingUnendedLine a fault → IsFaultOfMakingUnendedLine b fault
 longer_text_is_too_long_too a b TooLarge le h = omega arith
 longer_text_is_too_long_too a b NoMemory le h = tt
 longer_text_is_too_long_too a b Cycle le h = absurd h
@@ -37,7 +37,7 @@ line_at_index_fits_if_all_fit (m ∷ ns) zero n e all = let same : m ≡ n = cc 
 line_at_index_fits_if_all_fit (m ∷ ns) (suc i) n e all = line_at_index_fits_if_all_fit ns i n e all.1
 
 -- One line is too long.
-pub line_over_limit_is_limit_fault : (text : List ℕ) (ns : List Node) (i : ℕ) (n : Node) (fault : CvtFault) → slice_get ns i ≡ Some n → IsTooLongLineFault (printed_line n) fault → IsTextOrLineLimitFault text ns fault
+pub line_over_limit_is_limit_fault : (text : List ℕ) (ns : List Node) (i : ℕ) (n : Node) (fault : CvtFault) → slice_get ns i ≡ Some n → IsFaultOfMakingLine (printed_line n) fault → IsFaultOfAppendingLines text ns fault
 line_over_limit_is_limit_fault text ns i n TooLarge e h = inr (λ all. let fits : LineFitsLimit n = line_at_index_fits_if_all_fit ns i n e all in omega arith)
 line_over_limit_is_limit_fault text ns i n NoMemory e h = tt
 line_over_limit_is_limit_fault text ns i n Cycle e h = absurd h
@@ -52,7 +52,7 @@ last_lines_fit_if_appended_fit [] ms a = a
 last_lines_fit_if_appended_fit (n ∷ ns) ms a = last_lines_fit_if_appended_fit ns ms a.1
 
 -- Some of the lines pass a limit, so the rules do.
-pub limit_fault_of_lines_is_print_fault : (r : Rules) (before ns after : List Node) (fault : CvtFault) → rule_nodes_in_print_order r ≡ before ++ (ns ++ after) → IsTextOrLineLimitFault (printed_lines before) ns fault → IsPrintFault r fault
+pub limit_fault_of_lines_is_print_fault : (r : Rules) (before ns after : List Node) (fault : CvtFault) → rule_nodes_in_print_order r ≡ before ++ (ns ++ after) → IsFaultOfAppendingLines (printed_lines before) ns fault → IsPrintFault r fault
 limit_fault_of_lines_is_print_fault r before ns after NoMemory e h = inl refl
 limit_fault_of_lines_is_print_fault r before ns after Cycle e h = absurd h
 limit_fault_of_lines_is_print_fault r before ns after NotUtf8 e h = absurd h

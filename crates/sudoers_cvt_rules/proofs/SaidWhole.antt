@@ -9,7 +9,7 @@ use Rattle.sudoers_grammar.specs.declared.node.Tag.TheVariants as tag
 use Rattle.sudoers_match.specs.Heads.{given_options_in_order, final_value_of_option, all_option_names, final_value_of_tag, final_tags_of}
 use Rattle.sudoers_match.specs.Values.{final_values_of_options}
 use Rattle.sudoers_cvt_spell.specs.Commands.{printed_options, printed_tags}
-use Rattle.sudoers_cvt_rules.specs.Effective.{given_tags_in_order, all_tags_in_order}
+use Rattle.sudoers_cvt_rules.specs.Effective.{given_tags_in_order, all_tags_in_name_order}
 use Rattle.sudoers_cvt_rules.specs.internal.Said.{printed_option_if_given, printed_time_place_options, printed_given_options, printed_last_four_tags, printed_tag_if_given, printed_given_tags}
 
 abbrev named_values_in_order : (OptionName → Option (List ℕ)) → List OptionName → List (OptionName × List ℕ)
@@ -66,8 +66,8 @@ printed_tags_in_order_are_eight_texts : (f : Tag → Option Bool) → printed_ta
 printed_tags_in_order_are_eight_texts f =
     let one : Tag → List ℕ = λ name. printed_tag_if_given name (f name) in
     let all : List ℕ → List ℕ = λ text. one tag.Exec ++ (one tag.Follow ++ (one tag.Intercept ++ (one tag.LogInput ++ (one tag.LogOutput ++ (one tag.Mail ++ (one tag.Passwd ++ text)))))) in
-    let whole : flat_map one all_tags_in_order ≡ all (one tag.Setenv) = ap all (append-nil (one tag.Setenv)) in
-    printed_named_tags_are_printed_each f all_tags_in_order ∙ whole
+    let whole : flat_map one all_tags_in_name_order ≡ all (one tag.Setenv) = ap all (append-nil (one tag.Setenv)) in
+    printed_named_tags_are_printed_each f all_tags_in_name_order ∙ whole
 
 -- four texts, and those behind them
 first_four_of_five_texts_are_grouped : (a b c d rest : List ℕ) → a ++ (b ++ (c ++ (d ++ rest))) ≡ (a ++ (b ++ (c ++ d))) ++ rest

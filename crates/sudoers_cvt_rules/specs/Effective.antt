@@ -6,18 +6,18 @@ use Rattle.sudoers_grammar.specs.Node.{CmdSpec, HostGroup, Member, Node}
 use Rattle.sudoers_grammar.specs.declared.node.Tag.{Tag}
 use Rattle.sudoers_grammar.specs.declared.node.Tag.TheVariants as tag
 use Rattle.sudoers_grammar.specs.Node as node
-use Rattle.sudoers_match.specs.Heads.{SettingsOfCommand, empty_command_settings, commands_with_settings, given_options_in_order, final_value_of_option, final_value_of_tag}
+use Rattle.sudoers_match.specs.Heads.{AccumulatedCommandSettings, empty_command_settings, commands_with_settings, given_options_in_order, final_value_of_option, final_value_of_tag}
 
-abbrev pub all_tags_in_order : List Tag
-all_tags_in_order =
+abbrev pub all_tags_in_name_order : List Tag
+all_tags_in_name_order =
     tag.Exec ∷ tag.Follow ∷ tag.Intercept ∷ tag.LogInput ∷ tag.LogOutput ∷ tag.Mail ∷ tag.Passwd ∷ tag.Setenv ∷ []
 
 -- the tags in the order of their names, each name once
 abbrev pub given_tags_in_order : (Tag → Option Bool) → List (Tag × Bool)
-given_tags_in_order said = filter_map (λ name. option_map (λ (on : Bool). (name, on)) (said name)) all_tags_in_order
+given_tags_in_order said = filter_map (λ name. option_map (λ (on : Bool). (name, on)) (said name)) all_tags_in_name_order
 
 -- a command with its Runas_Spec, and with its options and tags in the order of their names
-abbrev pub effective_command : SettingsOfCommand × Member → CmdSpec
+abbrev pub effective_command : AccumulatedCommandSettings × Member → CmdSpec
 effective_command c = record { runas = c.0.runas; options = given_options_in_order (final_value_of_option c.0.options); tags = given_tags_in_order (final_value_of_tag c.0.tags); member = c.1 }
 
 -- The commands of a host group. Each inherits from those before it.

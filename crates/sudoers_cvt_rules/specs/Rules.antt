@@ -16,38 +16,38 @@ pub record Rules : Type 0 where
   pub specs : List Node
 
 -- the Defaults line, the user specification or the definitions that a line is
-abbrev pub defaults_line_nodes_in : Node → List Node
-defaults_line_nodes_in (node.Defaults scope params) = node.Defaults scope params ∷ []
-defaults_line_nodes_in (node.Alias k defs) = []
-defaults_line_nodes_in (node.Spec users groups) = []
-defaults_line_nodes_in node.Blank = []
-defaults_line_nodes_in node.Comment = []
-defaults_line_nodes_in (node.Include dir path) = []
+abbrev pub defaults_nodes_of_line_node : Node → List Node
+defaults_nodes_of_line_node (node.Defaults scope params) = node.Defaults scope params ∷ []
+defaults_nodes_of_line_node (node.Alias k defs) = []
+defaults_nodes_of_line_node (node.Spec users groups) = []
+defaults_nodes_of_line_node node.Blank = []
+defaults_nodes_of_line_node node.Comment = []
+defaults_nodes_of_line_node (node.Include dir path) = []
 
-abbrev pub effective_spec_nodes_in : Node → List Node
-effective_spec_nodes_in (node.Spec users groups) = node_with_effective_commands (node.Spec users groups) ∷ []
-effective_spec_nodes_in (node.Defaults scope params) = []
-effective_spec_nodes_in (node.Alias k defs) = []
-effective_spec_nodes_in node.Blank = []
-effective_spec_nodes_in node.Comment = []
-effective_spec_nodes_in (node.Include dir path) = []
+abbrev pub effective_spec_nodes_of_line_node : Node → List Node
+effective_spec_nodes_of_line_node (node.Spec users groups) = node_with_effective_commands (node.Spec users groups) ∷ []
+effective_spec_nodes_of_line_node (node.Defaults scope params) = []
+effective_spec_nodes_of_line_node (node.Alias k defs) = []
+effective_spec_nodes_of_line_node node.Blank = []
+effective_spec_nodes_of_line_node node.Comment = []
+effective_spec_nodes_of_line_node (node.Include dir path) = []
 
 abbrev pub alias_node_of_one_definition : Kind → Def → Node
 alias_node_of_one_definition k d = node.Alias k (d ∷ [])
 
-abbrev pub one_definition_nodes_in : Node → List Node
-one_definition_nodes_in (node.Alias k defs) = map (alias_node_of_one_definition k) defs
-one_definition_nodes_in (node.Defaults scope params) = []
-one_definition_nodes_in (node.Spec users groups) = []
-one_definition_nodes_in node.Blank = []
-one_definition_nodes_in node.Comment = []
-one_definition_nodes_in (node.Include dir path) = []
+abbrev pub one_definition_nodes_of_line_node : Node → List Node
+one_definition_nodes_of_line_node (node.Alias k defs) = map (alias_node_of_one_definition k) defs
+one_definition_nodes_of_line_node (node.Defaults scope params) = []
+one_definition_nodes_of_line_node (node.Spec users groups) = []
+one_definition_nodes_of_line_node node.Blank = []
+one_definition_nodes_of_line_node node.Comment = []
+one_definition_nodes_of_line_node (node.Include dir path) = []
 
 abbrev pub rules_of_policy_lines : List Line → Rules
 rules_of_policy_lines lines = record {
-  defaults = flat_map (λ (line : Line). defaults_line_nodes_in line.node) lines;
-  defs = flat_map (λ (line : Line). one_definition_nodes_in line.node) lines;
-  specs = flat_map (λ (line : Line). effective_spec_nodes_in line.node) lines;
+  defaults = flat_map (λ (line : Line). defaults_nodes_of_line_node line.node) lines;
+  defs = flat_map (λ (line : Line). one_definition_nodes_of_line_node line.node) lines;
+  specs = flat_map (λ (line : Line). effective_spec_nodes_of_line_node line.node) lines;
 }
 
 -- those of a list that have a mark

@@ -1,7 +1,7 @@
 //! Why rules are not converted.
 
 use std::alloc::{AllocError, AllocFailed};
-use sudoers_match_list::FlattenFault;
+use sudoers_match_list::FlattenSizeFault;
 use thiserror::Error;
 
 /// Why rules are not converted.
@@ -43,16 +43,16 @@ impl<T: Drop> From<AllocFailed<T>> for CvtFault {
     }
 }
 
-impl From<FlattenFault> for CvtFault {
+impl From<FlattenSizeFault> for CvtFault {
     ghost use Rattle.std.specs.Prelude.{◌≡◌};
     ghost use Rattle.sudoers_cvt_rules.specs.Fault.{cvt_fault_of_flatten_fault};
 
     ghost from_gives = { λ fault e. e ≡ cvt_fault_of_flatten_fault fault };
 
-    fn from(fault: FlattenFault) -> CvtFault {
+    fn from(fault: FlattenSizeFault) -> CvtFault {
         match fault {
-            FlattenFault::TooLarge => CvtFault::TooLarge,
-            FlattenFault::NoMemory => CvtFault::NoMemory,
+            FlattenSizeFault::TooLarge => CvtFault::TooLarge,
+            FlattenSizeFault::NoMemory => CvtFault::NoMemory,
         }
     }
 }

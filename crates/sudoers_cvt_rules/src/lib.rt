@@ -2,11 +2,11 @@
 #![tactic(auto)]
 
 mod fault;
+mod printed_commands;
 mod printed_lines;
 mod printing;
 mod rule;
 mod rules;
-mod settings_printing;
 
 pub use fault::CvtFault;
 pub use printing::{print, print_command};

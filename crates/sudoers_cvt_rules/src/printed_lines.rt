@@ -7,16 +7,16 @@ ghost use Rattle.sudoers_grammar.specs.declared.node.Kind.TheVariants.{User as O
 ghost use Rattle.std.specs.Option.{option_map};
 ghost use Rattle.sudoers_line_rows.specs.View.{commands_of_view, alias_definition_of_view, host_group_of_view, host_groups_of_view, members_of_view, parameters_of_view, scope_of_view};
 ghost use Rattle.sudoers_cvt_spell.specs.Parameters.{printed_defaults};
-ghost use Rattle.sudoers_cvt_spell.specs.Commands.{printed_command};
+ghost use Rattle.sudoers_cvt_spell.specs.Commands.{printed_runas_options_tags_and_command};
 ghost use Rattle.sudoers_cvt_spell.specs.Lines.{printed_alias_definition, printed_host_group, printed_line, printed_spec};
 ghost use Rattle.sudoers_cvt_rules.specs.Effective.{effective_commands, effective_host_group};
 ghost use Rattle.sudoers_cvt_rules.specs.Rules.{alias_node_of_one_definition};
 ghost use Rattle.sudoers_cvt_rules.specs.Rule.{node_of_rule_view};
-ghost use Rattle.sudoers_cvt_rules.specs.internal.Long.{IsTooLongWithLineEnd, IsTooLongLineFault};
+ghost use Rattle.sudoers_cvt_rules.specs.internal.Long.{IsFaultOfMakingUnendedLine, IsFaultOfMakingLine};
 
 use crate::fault::CvtFault;
+use crate::printed_commands::append_effective_command;
 use crate::rule::Rule;
-use crate::settings_printing::append_effective_command;
 use std::alloc::{AllocError, Global};
 use sudoers_cvt_spell::{append_defaults, append_printed_member_list};
 use sudoers_grammar::{Kind, alias_keyword_of_kind};
@@ -32,8 +32,8 @@ fn append_effective_commands(
     out: &mut Vec<u8>,
     commands: &RowsOfTable<'_, CommandRow>,
 ) -> Result<(), CvtFault>
-    ensures appended { OnOk result (out.new.items ≡ out.old.items ++ join_by printed_command (codes ", ") (effective_commands (commands_of_view commands.now))) }
-    ensures long { IfErr result (IsTooLongWithLineEnd (out.old.items ++ join_by printed_command (codes ", ") (effective_commands (commands_of_view commands.now)))) }
+    ensures appended { OnOk result (out.new.items ≡ out.old.items ++ join_by printed_runas_options_tags_and_command (codes ", ") (effective_commands (commands_of_view commands.now))) }
+    ensures long { IfErr result (IsFaultOfMakingUnendedLine (out.old.items ++ join_by printed_runas_options_tags_and_command (codes ", ") (effective_commands (commands_of_view commands.now)))) }
 {
     let tables = commands.tables;
     let Some((first, rest)) = commands.rows.split_first() else {
@@ -41,14 +41,14 @@ fn append_effective_commands(
     };
     let mut head = CommandSettings::make_empty_settings();
     let command = tables.command_of_row(first);
-    head.inherit_settings(&command);
+    head.apply_settings_of_command(&command);
     append_effective_command(alloc, out, &head, &command.member)?;
     for row in rest {
         if out.len() >= LINE_LIMIT {
             return Err(CvtFault::TooLarge);
         }
         let command = tables.command_of_row(row);
-        head.inherit_settings(&command);
+        head.apply_settings_of_command(&command);
         out.extend_from_slice(b", ")?;
         append_effective_command(alloc, out, &head, &command.member)?;
     }
@@ -62,7 +62,7 @@ fn append_effective_host_group(
     group: &HostGroup<'_>,
 ) -> Result<(), CvtFault>
     ensures appended { OnOk result (out.new.items ≡ out.old.items ++ printed_host_group (effective_host_group (host_group_of_view group.now))) }
-    ensures long { IfErr result (IsTooLongWithLineEnd (out.old.items ++ printed_host_group (effective_host_group (host_group_of_view group.now)))) }
+    ensures long { IfErr result (IsFaultOfMakingUnendedLine (out.old.items ++ printed_host_group (effective_host_group (host_group_of_view group.now)))) }
 {
     append_printed_member_list(alloc, out, false, Kind::Host, &group.hosts)?;
     out.extend_from_slice(b" = ")?;
@@ -76,7 +76,7 @@ fn append_effective_host_groups(
     groups: &RowsOfTable<'_, HostGroupRow>,
 ) -> Result<(), CvtFault>
     ensures appended { OnOk result (out.new.items ≡ out.old.items ++ join_by printed_host_group (codes " : ") (map effective_host_group (host_groups_of_view groups.now))) }
-    ensures long { IfErr result (IsTooLongWithLineEnd (out.old.items ++ join_by printed_host_group (codes " : ") (map effective_host_group (host_groups_of_view groups.now)))) }
+    ensures long { IfErr result (IsFaultOfMakingUnendedLine (out.old.items ++ join_by printed_host_group (codes " : ") (map effective_host_group (host_groups_of_view groups.now)))) }
 {
     let tables = groups.tables;
     let Some((first, rest)) = groups.rows.split_first() else {
@@ -97,7 +97,7 @@ fn make_user_spec_line(
     groups: &RowsOfTable<'_, HostGroupRow>,
 ) -> Result<Vec<u8>, CvtFault>
     ensures text { IfOk result (λ line. line.items ≡ printed_spec (members_of_view users.now) (map effective_host_group (host_groups_of_view groups.now)) ++ codes "\n") }
-    ensures long { IfErr result (IsTooLongLineFault (printed_spec (members_of_view users.now) (map effective_host_group (host_groups_of_view groups.now)) ++ codes "\n")) }
+    ensures long { IfErr result (IsFaultOfMakingLine (printed_spec (members_of_view users.now) (map effective_host_group (host_groups_of_view groups.now)) ++ codes "\n")) }
 {
     let mut out = Vec::new(alloc);
     append_printed_member_list(alloc, &mut out, true, Kind::User, users)?;
@@ -158,9 +158,9 @@ fn make_defaults_line(
 pub fn make_rule_line_within_limit(alloc: Global, rule: &Rule<'_>) -> Result<Vec<u8>, CvtFault>
     ensures text { IfOk result (λ line. line.items ≡ printed_line (node_of_rule_view rule.now)) }
     ensures fits { OnOk result (length (printed_line (node_of_rule_view rule.now)) ≤ line_limit) }
-    ensures long { IfErr result (IsTooLongLineFault (printed_line (node_of_rule_view rule.now))) }
+    ensures long { IfErr result (IsFaultOfMakingLine (printed_line (node_of_rule_view rule.now))) }
 {
-    let line = line_of_rule(alloc, rule)?;
+    let line = make_printed_rule_line(alloc, rule)?;
     if line.len() > LINE_LIMIT {
         return Err(CvtFault::TooLarge);
     }
@@ -168,9 +168,9 @@ pub fn make_rule_line_within_limit(alloc: Global, rule: &Rule<'_>) -> Result<Vec
 }
 
 /// Returns a rule as a line. A line that is too long may be returned, or be an error.
-fn line_of_rule(alloc: Global, rule: &Rule<'_>) -> Result<Vec<u8>, CvtFault>
+fn make_printed_rule_line(alloc: Global, rule: &Rule<'_>) -> Result<Vec<u8>, CvtFault>
     ensures text { IfOk result (λ line. line.items ≡ printed_line (node_of_rule_view rule.now)) }
-    ensures long { IfErr result (IsTooLongLineFault (printed_line (node_of_rule_view rule.now))) }
+    ensures long { IfErr result (IsFaultOfMakingLine (printed_line (node_of_rule_view rule.now))) }
 {
     match rule {
         Rule::Defaults { scope, params } => Ok(make_defaults_line(alloc, scope, params)?),

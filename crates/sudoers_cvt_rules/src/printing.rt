@@ -4,21 +4,21 @@ ghost use Rattle.std.specs.Prelude.{◌≡◌, ◌⊎◌, true, false, ◌≤◌
 ghost use Rattle.std.specs.List.{AllByRecursion};
 ghost use Rattle.sudoers_text.specs.Fault.{text_limit, line_limit};
 ghost use Rattle.sudoers_line_rows.specs.View.{member_of_view};
-ghost use Rattle.sudoers_match.specs.Heads.{SettingsOfCommand as HeadOf};
+ghost use Rattle.sudoers_match.specs.Heads.{AccumulatedCommandSettings as HeadOf};
 ghost use Rattle.sudoers_match.specs.IsHead.{HoldsCommandSettings};
-ghost use Rattle.sudoers_cvt_spell.specs.Commands.{printed_command};
+ghost use Rattle.sudoers_cvt_spell.specs.Commands.{printed_runas_options_tags_and_command};
 ghost use Rattle.sudoers_cvt_spell.specs.Lines.{printed_line, printed_lines};
 ghost use Rattle.sudoers_cvt_rules.specs.declared.fault.CvtFault.TheVariants.{TooLarge, NoMemory};
 ghost use Rattle.sudoers_cvt_rules.specs.Effective.{effective_command};
 ghost use Rattle.sudoers_cvt_rules.specs.Rules.{is_printed_within_limits, printed_rules};
 ghost use Rattle.sudoers_cvt_rules.specs.Rule.{node_of_rule_view};
-ghost use Rattle.sudoers_cvt_rules.specs.internal.Long.{PrintedRulesFitLimits, IsPrintFault, IsTextOrLineLimitFault};
+ghost use Rattle.sudoers_cvt_rules.specs.internal.Long.{PrintedRulesFitLimits, IsPrintFault, IsFaultOfAppendingLines};
 
 use crate::fault::CvtFault;
+use crate::printed_commands::append_effective_command;
 use crate::printed_lines::make_rule_line_within_limit;
 use crate::rule::Rule;
 use crate::rules::Rules;
-use crate::settings_printing::append_effective_command;
 use std::alloc::{AllocError, Global};
 use sudoers_line_rows::Member;
 use sudoers_match::CommandSettings;
@@ -29,7 +29,7 @@ fn append_rule_lines(alloc: Global, text: &mut Vec<u8>, rules: &[Rule<'_>]) -> R
     ensures appended { OnOk result (text.new.items ≡ text.old.items ++ printed_lines (map node_of_rule_view rules.now)) }
     ensures fits { OnOk result (length text.old.items ≤ text_limit → length text.new.items ≤ text_limit) }
     ensures lines { OnOk result (AllByRecursion (λ n. length (printed_line n) ≤ line_limit) (map node_of_rule_view rules.now)) }
-    ensures fault { IfErr result (IsTextOrLineLimitFault text.old.items (map node_of_rule_view rules.now)) }
+    ensures fault { IfErr result (IsFaultOfAppendingLines text.old.items (map node_of_rule_view rules.now)) }
 {
     for rule in rules {
         let line = make_rule_line_within_limit(alloc, rule)?;
@@ -81,7 +81,7 @@ pub fn print_command(
     command: &Member<'_>,
 ) -> Result<Vec<u8>, AllocError>
     ensures { IfOk result (λ text. (h : HeadOf) → HoldsCommandSettings head.now h
-        → text.items ≡ printed_command (effective_command (h, member_of_view command.now))) }
+        → text.items ≡ printed_runas_options_tags_and_command (effective_command (h, member_of_view command.now))) }
 {
     let mut out = Vec::new(alloc);
     append_effective_command(alloc, &mut out, head, command)?;

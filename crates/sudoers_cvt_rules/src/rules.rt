@@ -4,7 +4,7 @@ ghost use Rattle.std.specs.Prelude.{◌≡◌, ◌++◌, length, map, IfOk, IfEr
 ghost use Rattle.sudoers_line_rows.specs.View.{alias_definitions_of_view, node_of_view};
 ghost use Rattle.sudoers_cvt_rules.specs.declared.fault.CvtFault.TheVariants.{NoMemory};
 ghost use Rattle.sudoers_cvt_rules.specs.Rule.{node_of_rule_view};
-ghost use Rattle.sudoers_cvt_rules.specs.Rules.{defaults_line_nodes_in, one_definition_nodes_in, alias_node_of_one_definition, rules_of_policy_lines, effective_spec_nodes_in, marked_items, rules_with_marked_definitions};
+ghost use Rattle.sudoers_cvt_rules.specs.Rules.{defaults_nodes_of_line_node, one_definition_nodes_of_line_node, alias_node_of_one_definition, rules_of_policy_lines, effective_spec_nodes_of_line_node, marked_items, rules_with_marked_definitions};
 ghost use Rattle.sudoers_tree.specs.Line.{lines_of_rows};
 
 use crate::fault::CvtFault;
@@ -39,7 +39,7 @@ impl<'a> Model for Rules<'a> {
 }
 
 /// Appends the definitions of an alias line.
-fn append_alias_definitions<'a>(
+fn push_rules_of_alias_definitions<'a>(
     out: &mut Vec<Rule<'a>>,
     kind: Kind,
     defs: &RowsOfTable<'a, AliasDefinitionRow>,
@@ -136,16 +136,20 @@ impl<'a> Rules<'a> {
 
     /// Appends what a line says, if it is a rule.
     fn add_rules_of_line(&mut self, node: &Node<'a>) -> Result<(), AllocError>
-        ensures defaults { OnOk result (self.new.defaults ≡ self.old.defaults ++ defaults_line_nodes_in (node_of_view node.now)) }
-        ensures defs { OnOk result (self.new.defs ≡ self.old.defs ++ one_definition_nodes_in (node_of_view node.now)) }
-        ensures specs { OnOk result (self.new.specs ≡ self.old.specs ++ effective_spec_nodes_in (node_of_view node.now)) }
+        ensures defaults { OnOk result (self.new.defaults ≡ self.old.defaults ++ defaults_nodes_of_line_node (node_of_view node.now)) }
+        ensures defs { OnOk result (self.new.defs ≡ self.old.defs ++ one_definition_nodes_of_line_node (node_of_view node.now)) }
+        ensures specs { OnOk result (self.new.specs ≡ self.old.specs ++ effective_spec_nodes_of_line_node (node_of_view node.now)) }
     {
         match *node {
             Node::Defaults { scope, params } => {
                 self.defaults.push(Rule::Defaults { scope, params })?;
                 Ok(())
             }
-            Node::Alias { kind, defs } => append_alias_definitions(&mut self.defs, kind, &defs),
+            Node::Alias { kind, defs } => push_rules_of_alias_definitions(
+                &mut self.defs,
+                kind,
+                &defs,
+            ),
             Node::Spec { users, groups } => {
                 self.specs.push(Rule::Spec { users, groups })?;
                 Ok(())

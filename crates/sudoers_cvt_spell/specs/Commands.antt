@@ -44,27 +44,27 @@ printed_option_value (b ∷ bytes) = spelled_word (b ∷ bytes)
 abbrev pub printed_option : OptionName → List ℕ → List ℕ
 printed_option name value = option_keyword name ++ codes "=" ++ printed_option_value value
 
-abbrev pub tag_keyword : Tag → List ℕ
-tag_keyword tag.Exec = codes "EXEC"
-tag_keyword tag.Follow = codes "FOLLOW"
-tag_keyword tag.Intercept = codes "INTERCEPT"
-tag_keyword tag.LogInput = codes "LOG_INPUT"
-tag_keyword tag.LogOutput = codes "LOG_OUTPUT"
-tag_keyword tag.Mail = codes "MAIL"
-tag_keyword tag.Passwd = codes "PASSWD"
-tag_keyword tag.Setenv = codes "SETENV"
+abbrev pub tag_keyword_without_no : Tag → List ℕ
+tag_keyword_without_no tag.Exec = codes "EXEC"
+tag_keyword_without_no tag.Follow = codes "FOLLOW"
+tag_keyword_without_no tag.Intercept = codes "INTERCEPT"
+tag_keyword_without_no tag.LogInput = codes "LOG_INPUT"
+tag_keyword_without_no tag.LogOutput = codes "LOG_OUTPUT"
+tag_keyword_without_no tag.Mail = codes "MAIL"
+tag_keyword_without_no tag.Passwd = codes "PASSWD"
+tag_keyword_without_no tag.Setenv = codes "SETENV"
 
 -- a tag, with `NO` before it or not
-abbrev pub printed_tag_or_negated : Tag → Bool → List ℕ
-printed_tag_or_negated t true = tag_keyword t
-printed_tag_or_negated t false = codes "NO" ++ tag_keyword t
+abbrev pub tag_keyword_or_negated : Tag → Bool → List ℕ
+tag_keyword_or_negated t true = tag_keyword_without_no t
+tag_keyword_or_negated t false = codes "NO" ++ tag_keyword_without_no t
 
 abbrev pub printed_options : List (OptionName × List ℕ) → List ℕ
 printed_options options = flat_map (λ (o : OptionName × List ℕ). printed_option o.0 o.1 ++ codes " ") options
 
 abbrev pub printed_tags : List (Tag × Bool) → List ℕ
-printed_tags tags = flat_map (λ (t : Tag × Bool). printed_tag_or_negated t.0 t.1 ++ codes ": ") tags
+printed_tags tags = flat_map (λ (t : Tag × Bool). tag_keyword_or_negated t.0 t.1 ++ codes ": ") tags
 
 -- a command: its Runas_Spec, its options, its tags and its member, one after another
-abbrev pub printed_command : CmdSpec → List ℕ
-printed_command c = printed_runas_prefix c.runas ++ printed_options c.options ++ printed_tags c.tags ++ printed_member false Cmnd c.member
+abbrev pub printed_runas_options_tags_and_command : CmdSpec → List ℕ
+printed_runas_options_tags_and_command c = printed_runas_prefix c.runas ++ printed_options c.options ++ printed_tags c.tags ++ printed_member false Cmnd c.member

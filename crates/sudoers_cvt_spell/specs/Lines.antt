@@ -7,7 +7,7 @@ use Rattle.sudoers_grammar.specs.Node.{Member, Def, HostGroup, Node}
 use Rattle.sudoers_grammar.specs.Node as node
 use Rattle.sudoers_grammar.specs.Kind.{alias_line_keyword}
 use Rattle.sudoers_cvt_spell.specs.Members.{printed_member_list}
-use Rattle.sudoers_cvt_spell.specs.Commands.{printed_command}
+use Rattle.sudoers_cvt_spell.specs.Commands.{printed_runas_options_tags_and_command}
 use Rattle.sudoers_cvt_spell.specs.Parameters.{printed_defaults}
 
 abbrev pub printed_alias_definition : Kind → Def → List ℕ
@@ -15,7 +15,7 @@ printed_alias_definition k d = d.name ++ codes " = " ++ printed_member_list fals
 
 -- hosts, and what may be run there
 abbrev pub printed_host_group : HostGroup → List ℕ
-printed_host_group g = printed_member_list false Host g.hosts ++ codes " = " ++ join_by printed_command (codes ", ") g.commands
+printed_host_group g = printed_member_list false Host g.hosts ++ codes " = " ++ join_by printed_runas_options_tags_and_command (codes ", ") g.commands
 
 abbrev pub printed_spec : List Member → List HostGroup → List ℕ
 printed_spec users groups = printed_member_list true User users ++ codes " " ++ join_by printed_host_group (codes " : ") groups

@@ -14,8 +14,8 @@ use Rattle.sudoers_grammar.specs.declared.node.DigestKind.{DigestKind}
 use Rattle.sudoers_grammar.specs.declared.node.DigestKind.TheVariants as digest
 use Rattle.sudoers_grammar.specs.Piece.{has_first_byte}
 use Rattle.sudoers_grammar.specs.declared.pattern.PatternSpelling.TheVariants.{Command}
-use Rattle.sudoers_cvt_spell.specs.Spelling.{spelled_word, escaped_pattern, escaped_pattern_byte, backslash_guarded_text}
-use Rattle.sudoers_cvt_spell.specs.Hosts.{dotted_address, printed_mask, printed_host}
+use Rattle.sudoers_cvt_spell.specs.Spelling.{spelled_word, escaped_pattern, escaped_pattern_byte, text_with_backslash_if_misread}
+use Rattle.sudoers_cvt_spell.specs.Hosts.{dotted_address, printed_mask_without_slash, printed_host_name_pattern}
 
 -- ---- names of users
 
@@ -29,11 +29,11 @@ abbrev pub is_start_of_non_spec_line : List ℕ → Bool
 is_start_of_non_spec_line text = is_among non_spec_line_keywords text || starts_with nat_eq text (codes "Defaults@") || starts_with nat_eq text (codes "Defaults>")
 
 -- The word would be read as an alias, a group or a netgroup. first: or, at the beginning of its line, as that of another line.
-abbrev pub is_read_as_special_word : Bool → List ℕ → Bool
-is_read_as_special_word first text = is_name text || has_first_byte 37 text || has_first_byte 43 text || (first && is_start_of_non_spec_line text)
+abbrev pub is_read_as_other_than_user_name : Bool → List ℕ → Bool
+is_read_as_other_than_user_name first text = is_name text || has_first_byte 37 text || has_first_byte 43 text || (first && is_start_of_non_spec_line text)
 
 abbrev pub printed_user_name : Bool → List ℕ → List ℕ
-printed_user_name first name = backslash_guarded_text (is_read_as_special_word first (spelled_word name)) (spelled_word name)
+printed_user_name first name = text_with_backslash_if_misread (is_read_as_other_than_user_name first (spelled_word name)) (spelled_word name)
 
 -- ---- commands
 
@@ -73,9 +73,9 @@ printed_atom first k (atom.Group name) = codes "%" ++ spelled_word name
 printed_atom first k (atom.GroupId n) = codes "%#" ++ decimal n
 printed_atom first k (atom.NonUnix name) = codes "%:" ++ spelled_word name
 printed_atom first k (atom.Netgroup name) = printed_netgroup k name
-printed_atom first k (atom.Host pattern) = printed_host pattern
+printed_atom first k (atom.Host pattern) = printed_host_name_pattern pattern
 printed_atom first k (atom.Address a) = dotted_address a.number
-printed_atom first k (atom.Network a m) = dotted_address a.number ++ codes "/" ++ printed_mask m
+printed_atom first k (atom.Network a m) = dotted_address a.number ++ codes "/" ++ printed_mask_without_slash m
 printed_atom first k atom.Listing = codes "list"
 printed_atom first k (atom.Path path args) = escaped_pattern Command path ++ printed_args args
 printed_atom first k (atom.Sudoedit args) = codes "sudoedit" ++ printed_args args

@@ -36,6 +36,6 @@ abbrev pub escaped_pattern : PatternSpelling → List ℕ → List ℕ
 escaped_pattern s pattern = flat_map (escaped_pattern_byte s) pattern
 
 -- a backslash before the first byte, where the text would be read as something else
-abbrev pub backslash_guarded_text : Bool → List ℕ → List ℕ
-backslash_guarded_text true text = 92 ∷ text
-backslash_guarded_text false text = text
+abbrev pub text_with_backslash_if_misread : Bool → List ℕ → List ℕ
+text_with_backslash_if_misread true text = 92 ∷ text
+text_with_backslash_if_misread false text = text

@@ -1,7 +1,7 @@
 //! Addresses and masks as they are printed.
 
 ghost use Rattle.std.specs.Prelude.{◌≡◌, ◌++◌, OnOk};
-ghost use Rattle.sudoers_cvt_spell.specs.Hosts.{dotted_address, printed_mask};
+ghost use Rattle.sudoers_cvt_spell.specs.Hosts.{dotted_address, printed_mask_without_slash};
 
 use std::alloc::{AllocError, Global};
 use sudoers_grammar::{Address, Mask};
@@ -22,8 +22,12 @@ pub fn append_address(alloc: Global, out: &mut Vec<u8>, address: Address) -> Res
 }
 
 /// Appends a mask as it was written.
-pub fn append_mask(alloc: Global, out: &mut Vec<u8>, mask: Mask) -> Result<(), AllocError>
-    ensures { OnOk result (out.new.items ≡ out.old.items ++ printed_mask mask) }
+pub fn append_mask_without_slash(
+    alloc: Global,
+    out: &mut Vec<u8>,
+    mask: Mask,
+) -> Result<(), AllocError>
+    ensures { OnOk result (out.new.items ≡ out.old.items ++ printed_mask_without_slash mask) }
 {
     match mask {
         Mask::Bits(bits) => append_decimal_number(alloc, out, bits as usize),

@@ -2,8 +2,8 @@
 #![tactic(auto)]
 
 mod addresses;
-mod appended_parts;
-mod hosts;
+mod all_or_nothing_appends;
+mod host_name_patterns;
 mod lists;
 mod members;
 mod options_and_tags;
@@ -11,9 +11,9 @@ mod parameters;
 mod runas;
 mod words_and_patterns;
 
-pub use appended_parts::{
+pub use all_or_nothing_appends::{
     append_defaults, append_member, append_option, append_param, append_printed_member_list,
     append_runas,
 };
-pub use options_and_tags::append_tag;
+pub use options_and_tags::append_keyword_of_tag_or_negated;
 pub use parameters::mark_of_defaults_scope;

@@ -4,7 +4,7 @@ ghost use Rattle.std.specs.Prelude.{◌≡◌, ◌++◌, codes, false, OnOk};
 ghost use Rattle.sudoers_line_rows.specs.View.{members_of_view};
 ghost use Rattle.sudoers_cvt_spell.specs.Members.{printed_member_list};
 
-use crate::members::append_list_member_text;
+use crate::members::append_member_text_without_separator;
 use std::alloc::{AllocError, Global};
 use sudoers_grammar::Kind;
 use sudoers_line_rows::{MemberRow, RowsOfTable};
@@ -27,10 +27,10 @@ pub fn append_member_list_text(
     let Some((head, rest)) = members.rows.split_first() else {
         return Ok(());
     };
-    append_list_member_text(alloc, out, first, kind, &tables.member_of_row(head))?;
+    append_member_text_without_separator(alloc, out, first, kind, &tables.member_of_row(head))?;
     for row in rest {
         out.extend_from_slice(b", ")?;
-        append_list_member_text(alloc, out, false, kind, &tables.member_of_row(row))?;
+        append_member_text_without_separator(alloc, out, false, kind, &tables.member_of_row(row))?;
     }
     Ok(())
 }

@@ -3,14 +3,14 @@
 ghost use Rattle.std.specs.Prelude.{◌≡◌, ◌++◌, codes, false, OnOk};
 ghost use Rattle.sudoers_line_rows.specs.View.{args_of_view, atom_of_view, digest_of_view, digests_of_view, member_of_view};
 ghost use Rattle.sudoers_text.specs.Word.{is_among};
-ghost use Rattle.sudoers_cvt_spell.specs.Members.{non_spec_line_keywords, is_start_of_non_spec_line, is_read_as_special_word, printed_user_name, spelled_command_args, printed_args, printed_netgroup, printed_atom, digest_kind_keyword, printed_digest, printed_digests, negation_sign, printed_member};
+ghost use Rattle.sudoers_cvt_spell.specs.Members.{non_spec_line_keywords, is_start_of_non_spec_line, is_read_as_other_than_user_name, printed_user_name, spelled_command_args, printed_args, printed_netgroup, printed_atom, digest_kind_keyword, printed_digest, printed_digests, negation_sign, printed_member};
 ghost use Rattle.std.specs.Fmt.{decimal};
 ghost use Rattle.sudoers_cvt_spell.specs.Spelling.{spelled_word};
 
-use crate::addresses::{append_address, append_mask};
-use crate::hosts::append_host;
+use crate::addresses::{append_address, append_mask_without_slash};
+use crate::host_name_patterns::append_host_name_pattern;
 use crate::words_and_patterns::{
-    append_escaped_pattern, append_pattern_byte, append_spelled_word, guard_with_backslash,
+    append_escaped_pattern, append_pattern_byte, append_spelled_word, insert_backslash_if_misread,
 };
 use std::alloc::{AllocError, Global};
 use sudoers_grammar::{DigestKind, Kind, PatternSpelling, begins_with_byte};
@@ -39,8 +39,8 @@ fn begins_non_spec_line(text: &[u8]) -> bool
 }
 
 /// Returns whether the word `text` would be read as no plain name. With `first`, it stands at the beginning of its line.
-fn reads_as_special_word(first: bool, text: &[u8]) -> bool
-    ensures { result ≡ is_read_as_special_word first text.now }
+fn reads_as_other_than_user_name(first: bool, text: &[u8]) -> bool
+    ensures { result ≡ is_read_as_other_than_user_name first text.now }
 {
     is_name(text)
         || begins_with_byte(b'%', text)
@@ -54,8 +54,8 @@ fn append_user_name(out: &mut Vec<u8>, first: bool, name: &[u8]) -> Result<(), A
 {
     let start = out.len();
     append_spelled_word(out, name)?;
-    let reads_else = reads_as_special_word(first, &out[start..]);
-    guard_with_backslash(out, start, reads_else)
+    let reads_else = reads_as_other_than_user_name(first, &out[start..]);
+    insert_backslash_if_misread(out, start, reads_else)
 }
 
 /// Appends the pattern of arguments.
@@ -139,12 +139,12 @@ fn append_atom(
         BorrowedAtom::GroupId(id) => append_number_after_mark(alloc, out, b"%#", *id),
         BorrowedAtom::NonUnix(name) => append_word_after_mark(out, b"%:", name),
         BorrowedAtom::Netgroup(name) => append_netgroup(out, kind, name),
-        BorrowedAtom::Host(pattern) => append_host(alloc, out, pattern),
+        BorrowedAtom::Host(pattern) => append_host_name_pattern(alloc, out, pattern),
         BorrowedAtom::Address(address) => append_address(alloc, out, *address),
         BorrowedAtom::Network(address, mask) => {
             append_address(alloc, out, *address)?;
             out.extend_from_slice(b"/")?;
-            append_mask(alloc, out, *mask)
+            append_mask_without_slash(alloc, out, *mask)
         }
         BorrowedAtom::Listing => out.extend_from_slice(b"list"),
         BorrowedAtom::Path { path, args } => {
@@ -200,7 +200,7 @@ fn append_digests(out: &mut Vec<u8>, digests: &RowsOfTable<'_, DigestRow>) -> Re
 /// # Errors
 ///
 /// Memory ran out.
-pub fn append_list_member_text(
+pub fn append_member_text_without_separator(
     alloc: Global,
     out: &mut Vec<u8>,
     first: bool,

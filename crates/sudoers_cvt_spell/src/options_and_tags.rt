@@ -1,7 +1,7 @@
 //! Options and tags as they are printed (sudoers(5), Option_Spec, Tag_Spec).
 
 ghost use Rattle.std.specs.Prelude.{◌≡◌, ◌++◌, codes, OnErr, OnOk};
-ghost use Rattle.sudoers_cvt_spell.specs.Commands.{option_keyword, printed_option_value, printed_option, tag_keyword, printed_tag_or_negated};
+ghost use Rattle.sudoers_cvt_spell.specs.Commands.{option_keyword, printed_option_value, printed_option, tag_keyword_without_no, tag_keyword_or_negated};
 
 use crate::words_and_patterns::append_spelled_word;
 use std::alloc::AllocError;
@@ -47,8 +47,8 @@ pub fn append_option_text(
 }
 
 /// Returns the word of a tag.
-fn keyword_of_tag(tag: Tag) -> &'static [u8]
-    ensures { result.now ≡ tag_keyword tag }
+fn keyword_of_tag_without_no(tag: Tag) -> &'static [u8]
+    ensures { result.now ≡ tag_keyword_without_no tag }
 {
     match tag {
         Tag::Exec => b"EXEC",
@@ -63,8 +63,8 @@ fn keyword_of_tag(tag: Tag) -> &'static [u8]
 }
 
 /// Returns the word of a tag, with `NO` before it.
-fn keyword_of_negated_tag(tag: Tag) -> &'static [u8]
-    ensures { result.now ≡ codes "NO" ++ tag_keyword tag }
+fn keyword_of_tag_with_no(tag: Tag) -> &'static [u8]
+    ensures { result.now ≡ codes "NO" ++ tag_keyword_without_no tag }
 {
     match tag {
         Tag::Exec => b"NOEXEC",
@@ -80,12 +80,12 @@ fn keyword_of_negated_tag(tag: Tag) -> &'static [u8]
 
 /// Returns a tag, with `NO` before it if it is not `on`.
 fn keyword_of_tag_or_negated(tag: Tag, on: bool) -> &'static [u8]
-    ensures { result.now ≡ printed_tag_or_negated tag on }
+    ensures { result.now ≡ tag_keyword_or_negated tag on }
 {
     if on {
-        keyword_of_tag(tag)
+        keyword_of_tag_without_no(tag)
     } else {
-        keyword_of_negated_tag(tag)
+        keyword_of_tag_with_no(tag)
     }
 }
 
@@ -94,8 +94,12 @@ fn keyword_of_tag_or_negated(tag: Tag, on: bool) -> &'static [u8]
 /// # Errors
 ///
 /// Memory ran out.
-pub fn append_tag(out: &mut Vec<u8>, tag: Tag, on: bool) -> Result<(), AllocError>
-    ensures appended { OnOk result (out.new.items ≡ out.old.items ++ printed_tag_or_negated tag on) }
+pub fn append_keyword_of_tag_or_negated(
+    out: &mut Vec<u8>,
+    tag: Tag,
+    on: bool,
+) -> Result<(), AllocError>
+    ensures appended { OnOk result (out.new.items ≡ out.old.items ++ tag_keyword_or_negated tag on) }
     ensures kept { OnErr result (out.new.items ≡ out.old.items) }
 {
     out.extend_from_slice(keyword_of_tag_or_negated(tag, on))

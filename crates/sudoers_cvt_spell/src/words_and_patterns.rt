@@ -2,7 +2,7 @@
 
 ghost use Rattle.std.specs.Prelude.{◌≡◌, ◌<◌, ◌≤◌, ◌++◌, OnOk, length, List, ℕ};
 ghost use Rattle.sudoers_grammar.specs.Pattern.{is_dropped_backslash_before};
-ghost use Rattle.sudoers_cvt_spell.specs.Spelling.{is_word_escape_needed, is_control, lower_hex_digit, spelled_word_byte, spelled_word, escaped_pattern_byte, escaped_pattern, backslash_guarded_text};
+ghost use Rattle.sudoers_cvt_spell.specs.Spelling.{is_word_escape_needed, is_control, lower_hex_digit, spelled_word_byte, spelled_word, escaped_pattern_byte, escaped_pattern, text_with_backslash_if_misread};
 
 use std::alloc::AllocError;
 use sudoers_grammar::PatternSpelling;
@@ -69,7 +69,7 @@ pub fn append_spelled_word(out: &mut Vec<u8>, value: &[u8]) -> Result<(), AllocE
 }
 
 /// Returns whether reading drops a backslash before `byte` in such a pattern.
-fn loses_backslash(spelling: PatternSpelling, byte: u8) -> bool
+fn is_backslash_before_pattern_byte_dropped(spelling: PatternSpelling, byte: u8) -> bool
     ensures { result ≡ is_dropped_backslash_before spelling byte }
 {
     match spelling {
@@ -90,7 +90,7 @@ pub fn append_pattern_byte(
 ) -> Result<(), AllocError>
     ensures { OnOk result (out.new.items ≡ out.old.items ++ escaped_pattern_byte spelling byte) }
 {
-    if loses_backslash(spelling, byte) {
+    if is_backslash_before_pattern_byte_dropped(spelling, byte) {
         out.extend_from_slice(&[b'\\', byte])
     } else {
         out.extend_from_slice(&[byte])
@@ -120,14 +120,14 @@ pub fn append_escaped_pattern(
 /// # Errors
 ///
 /// Memory ran out.
-pub fn guard_with_backslash(
+pub fn insert_backslash_if_misread(
     out: &mut Vec<u8>,
     start: usize,
     reads_else: bool,
 ) -> Result<(), AllocError>
     requires { start ≤ length out.old.items }
     ensures { OnOk result ((front text : List ℕ) → length front ≡ start → out.old.items ≡ front ++ text
-        → out.new.items ≡ front ++ backslash_guarded_text reads_else text) }
+        → out.new.items ≡ front ++ text_with_backslash_if_misread reads_else text) }
 {
     if reads_else {
         out.insert(start, b'\\')?;

@@ -1,7 +1,7 @@
 -- A name that is absent from a line stands nowhere in it.
 use Rattle.sudoers_edit.proofs.Common.{AliasMember, AllByRecursion, Bool, Def, Kind, Line, LineChange, LineRow, List, ListedMember, Member, Node, Some, [], add-one, alias_member_of_atom, aliases_among_listed}
 use Rattle.sudoers_edit.proofs.Common.{aliases_in_node, ap, append-nil, append_assoc, ap₂, arith, drop, drop-cons, false, flat_map, flat_map-append, get_or, if◌then◌else◌, is_equal_kind, length, line_of_row}
-use Rattle.sudoers_edit.proofs.Common.{listed_members_of_kind, listed_members_of_node, map, map-append, members_listed_as_kind, members_of_kind_in_line, mention_offsets_in_members, name_offset_of_alias_member}
+use Rattle.sudoers_edit.proofs.Common.{members_of_kind_among_listed, listed_members_of_node, map, map-append, members_listed_as_kind, members_of_kind_in_line, mention_offsets_in_members, name_offset_if_alias_member_matches}
 use Rattle.sudoers_edit.proofs.Common.{name_offsets_in_definition, name_offsets_in_line, option_map, refl, rename_change_in_line, rename_changes_in_file, slice_get-get_or, slice_get-map, subst, suc, sym, ℕ, ◌&&◌}
 use Rattle.sudoers_edit.proofs.Common.{◌++◌, ◌+◌, ◌-◌, ◌<◌, ◌∙◌, ◌∷◌, ◌≡◌}
 use Rattle.std.proofs.Common.{bytes_eq, slice_get}
@@ -26,7 +26,7 @@ absence_from_joined_implies_second_list name (x ∷ xs) ys none = absence_from_j
 
 -- ---- members
 
-absent_name_has_no_offset_in_aliases : (k : Kind) (name : List ℕ) (aliases : List AliasMember) → IsNameAmongNone name (names_of_alias_members aliases) → flat_map (name_offset_of_alias_member k name) aliases ≡ []
+absent_name_has_no_offset_in_aliases : (k : Kind) (name : List ℕ) (aliases : List AliasMember) → IsNameAmongNone name (names_of_alias_members aliases) → flat_map (name_offset_if_alias_member_matches k name) aliases ≡ []
 absent_name_has_no_offset_in_aliases k name [] none = refl
 absent_name_has_no_offset_in_aliases k name (a ∷ aliases) none =
     ap₂ (λ (x y : List ℕ). x ++ y) (by (is_equal_kind k a.kind) (bytes_eq name a.name) none.0) (absent_name_has_no_offset_in_aliases k name aliases none.1)
@@ -64,7 +64,7 @@ absent_name_has_no_offset_in_definitions j name (d ∷ defs) named none =
 -- ---- lines
 
 abbrev pub MembersOfLineAreListed : Type 0
-MembersOfLineAreListed = (k : Kind) (says : Node) → members_of_kind_in_line k says ≡ listed_members_of_kind k (listed_members_of_node says)
+MembersOfLineAreListed = (k : Kind) (says : Node) → members_of_kind_in_line k says ≡ members_of_kind_among_listed k (listed_members_of_node says)
 
 pub absent_name_has_no_offset_in_line : MembersOfLineAreListed → (k : Kind) (name : List ℕ) (says : Node) → IsAliasNameAbsent name says → name_offsets_in_line k name says ≡ []
 absent_name_has_no_offset_in_line law k name (node.Alias j defs) absent =

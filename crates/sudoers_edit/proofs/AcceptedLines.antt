@@ -1,10 +1,10 @@
 -- An edit that is accepted leads to a policy, and its inverse leads back: edits of whole lines, and of the end of the last.
-use Rattle.sudoers_edit.proofs.Common.{AllByRecursion, AreSoundFileLines, AreValidWalkLines, BadName, Bool, Delete, EachIsOneLineWhenCut, Edit, EditFault, EditSetsFileLines, EndAsIs, EndLine, Err, FinalLfLaws}
-use Rattle.sudoers_edit.proofs.Common.{HasFittingNumbers, HaveFittingNumbers, Insert, IsLogicalLine, IsSingleLineCut, Kind, Line, LineEditLaws, LineTexts, List, LoadFault, LoadedPolicy, MemberEditLaws, Move}
+use Rattle.sudoers_edit.proofs.Common.{AllByRecursion, AreLogicalLinesOfFileWithinTextLimit, AreValidWalkLines, BadName, Bool, Delete, EachIsOneLineWhenCut, Edit, EditFault, EditSetsFileLines, EndAsIs, EndLine, Err, LawsBehindFinalLfEdits}
+use Rattle.sudoers_edit.proofs.Common.{HasFittingNumbers, HaveFittingNumbers, Insert, IsLogicalLine, SplitsIntoItselfAsOnlyLine, Kind, Line, LawsBehindLineEdits, LineTexts, List, LoadFault, LoadedPolicy, LawsBehindMemberEdits, Move}
 use Rattle.sudoers_edit.proofs.Common.{NameTaken, NamedFile, NoAlias, NoFile, NoLine, None, NotOneLine, Ok, OpenEnd, OpenLine, Option, ParsedFile, Rename, Result, Some, TextFault, TooLarge, [], and_parts, ap, arith}
-use Rattle.sudoers_edit.proofs.Common.{cut_outcome_of_text, definition_place_of_name, edit_result_and_then, ends_in_lf, false, files_with_bytes_replaced, has_exactly_one_line, has_inner_line_without_lf}
+use Rattle.sudoers_edit.proofs.Common.{cut_outcome_of_text, definition_place_of_name, edit_result_and_then, ends_in_lf, false, files_with_bytes_replaced, is_cut_outcome_with_exactly_one_line, has_inner_line_without_lf}
 use Rattle.sudoers_edit.proofs.Common.{if◌then◌else◌, inl, inr, insert, inv, is_alias_name_in_use, is_line_too_long, is_name, is_one_logical_line, is_reserved, is_some, join, leb_tells, length, line_limit}
-use Rattle.sudoers_edit.proofs.Common.{line_text_in_file, line_texts_of_file, line_with_lf_added, line_with_lf_removed, lines_after_delete, lines_after_end_change, lines_after_insert, lines_after_move}
+use Rattle.sudoers_edit.proofs.Common.{line_text_in_file, line_texts_of_file, line_with_lf_added, line_with_lf_removed, lines_after_delete, changed_lines_unless_last_too_long, lines_after_insert, lines_after_move}
 use Rattle.sudoers_edit.proofs.Common.{lines_of_numbered_file, lines_of_optional_file, lines_with_last_changed, lines_with_one_moved, lines_with_one_replaced, list_any, ltb-false, ltb-true, named_files_after_rename}
 use Rattle.sudoers_edit.proofs.Common.{named_files_of_policy, nat_lt, not, policy_after_rename, policy_of_files_or_refusal, policy_or_edit_fault, policy_or_load_fault, policy_with_file_edited, policy_with_file_lines}
 use Rattle.sudoers_edit.proofs.Common.{refl, remove, result_or_refusal_if_none, result_unless_refused, run, slice_get, slice_get_within, slice_index_or, step, suc, sym, texts_of_lines, texts_of_renamed_lines, true}
@@ -17,10 +17,10 @@ use Rattle.sudoers_edit.proofs.LineLemmas.{delete_sets_file_lines, insert_sets_f
 
 -- What the laws say of loaded files, of their lines, and of renames.
 pub record AcceptedEditLaws : Type 0 where
-  pub land : LineEditLaws
+  pub land : LawsBehindLineEdits
   pub joined : (lines others : LineTexts) → AllByRecursion IsLogicalLine lines → has_inner_line_without_lf lines ≡ false → cut_outcome_of_text (join lines) ≡ Ok others → others ≡ lines
-  pub ends : FinalLfLaws
-  pub walks : MemberEditLaws
+  pub ends : LawsBehindFinalLfEdits
+  pub walks : LawsBehindMemberEdits
   pub walk : (files : List NamedFile) (policy : LoadedPolicy) → policy_or_load_fault files ≡ Ok policy → AreValidWalkLines policy.walk.lines
   pub renames : (kind : Kind) (name fresh : List ℕ) (policy new : LoadedPolicy) → policy_or_load_fault (named_files_of_policy policy) ≡ Ok policy
       → step (Rename kind name fresh) policy ≡ Ok new → step (Rename kind fresh name) new ≡ Ok policy
@@ -123,10 +123,10 @@ pub lines_cut_alone_are_logical_lines : AcceptedEditLaws → (lines : LineTexts)
 lines_cut_alone_are_logical_lines l lines each = lines_cut_as_themselves_are_logical l.land.logical l.land.tells lines each
 
 -- a text that is one line is one
-one_logical_line_is_cut_alone : AcceptedEditLaws → (t : List ℕ) → is_one_logical_line t ≡ true → IsSingleLineCut t
+one_logical_line_is_cut_alone : AcceptedEditLaws → (t : List ℕ) → is_one_logical_line t ≡ true → SplitsIntoItselfAsOnlyLine t
 one_logical_line_is_cut_alone l t one = by (cut_outcome_of_text t) refl one
   where
-    by : (o : Result (List (List ℕ)) TextFault) → cut_outcome_of_text t ≡ o → has_exactly_one_line o ≡ true → IsSingleLineCut t
+    by : (o : Result (List (List ℕ)) TextFault) → cut_outcome_of_text t ≡ o → is_cut_outcome_with_exactly_one_line o ≡ true → SplitsIntoItselfAsOnlyLine t
     by (Ok []) is h = absurd cc
     by (Ok (line ∷ [])) is h = text_with_one_line_is_single_line l.land.alone t (line ∷ []) is refl
     by (Ok (line ∷ next ∷ lines)) is h = absurd cc
@@ -156,7 +156,7 @@ accepted_delete_is_reversible l f at policy new loaded is =
     let ls : LineTexts = line_texts_of_file policy f in
     let i = accepted_file_edit_has_file_lines f policy new (λ lines. lines_after_delete at (texts_of_lines lines)) is in
     let p = accepted_choice_has_its_condition (nat_lt at (length ls)) NoLine (remove ls at) i.lines i.made in
-    let are : AreSoundFileLines ls = lines_of_loaded_file_are_sound l.land policy loaded f in
+    let are : AreLogicalLinesOfFileWithinTextLimit ls = lines_of_loaded_file_are_sound l.land policy loaded f in
     accepted_edit_of_file_lines_is_reversible l (Delete f at) (Insert f at (line_text_in_file f at policy)) (Insert f at (line_text_in_file f at policy) ∷ []) policy new f (remove ls at) loaded
     (delete_sets_file_lines policy f at i.here (ltb-true at (length ls) p.0) are.each are.ended)
     (λ told. lines_cut_alone_are_logical_lines l (remove ls at) (removal_keeps_lines_cut_alone ls at are.each)) (λ n. (n, tt)) is
@@ -187,7 +187,7 @@ pub accepted_end_line_is_reversible : AcceptedEditLaws → (f : ℕ) → IsRever
 accepted_end_line_is_reversible l f policy new loaded is = by (slice_get (line_texts_of_file policy f) (length (line_texts_of_file policy f) - 1)) refl
   where
     here : f < length policy.files
-    here = (accepted_file_edit_has_file_lines f policy new (λ lines. lines_after_end_change (lines_with_last_changed line_with_lf_added (texts_of_lines lines))) is).here
+    here = (accepted_file_edit_has_file_lines f policy new (λ lines. changed_lines_unless_last_too_long (lines_with_last_changed line_with_lf_added (texts_of_lines lines))) is).here
 
     short : (line : List ℕ) → IsLastLineOfFile policy f line → ends_in_lf line ≡ false → length line < line_limit → IsReversibleStep (EndLine f) policy new
     short line last h less =
@@ -214,7 +214,7 @@ pub accepted_open_end_is_reversible : AcceptedEditLaws → (f : ℕ) → IsRever
 accepted_open_end_is_reversible l f policy new loaded is = by (slice_get (line_texts_of_file policy f) (length (line_texts_of_file policy f) - 1)) refl
   where
     here : f < length policy.files
-    here = (accepted_file_edit_has_file_lines f policy new (λ lines. lines_after_end_change (lines_with_last_changed line_with_lf_removed (texts_of_lines lines))) is).here
+    here = (accepted_file_edit_has_file_lines f policy new (λ lines. changed_lines_unless_last_too_long (lines_with_last_changed line_with_lf_removed (texts_of_lines lines))) is).here
 
     long : (line : List ℕ) → IsLastLineOfFile policy f line → 2 ≤ length line → (b : Bool) → ends_in_lf line ≡ b → IsReversibleStep (OpenEnd f) policy new
     long line last size true h =

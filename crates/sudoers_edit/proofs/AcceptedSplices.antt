@@ -1,12 +1,12 @@
 -- An edit that is accepted leads to a policy, and its inverse leads back: members and definitions put in and taken out.
 use Rattle.sudoers_edit.proofs.Common.{AddDef, AddMember, AreSoundParsedLines, BadSplice, Bool, ByteExtent, Def, DefinitionFilePlace, DropDef, DropMember, Edit, EditFault, EditReplacesFileLine, HasFittingNumbers}
-use Rattle.sudoers_edit.proofs.Common.{HasItemCutOut, HasItemPutIn, HaveFittingNumbers, IsAliasDefinedAt, ItemListKind, Kind, Line, LineTexts, List, LoadedPolicy, NoAlias, NoLine, NoPlace, Node, None, Ok, OnlyOne}
+use Rattle.sudoers_edit.proofs.Common.{IsLineTextWithItemCutOut, IsLineTextWithItemPutIn, HaveFittingNumbers, IsAliasDefinedAt, ItemListKind, Kind, Line, LineTexts, List, LoadedPolicy, NoAlias, NoLine, NoPlace, Node, None, Ok, OnlyOne}
 use Rattle.sudoers_edit.proofs.Common.{Option, Place, Result, Some, TooLarge, [], ap, bytes_between, definitions_of_alias_line, edit_result_and_then, extents_of_definitions, extents_of_members, false}
 use Rattle.sudoers_edit.proofs.Common.{file_place_of_definition, has_inner_line_without_lf, has_one_item_more, inv, is_line_too_long, length, line_limit, line_texts_of_file, line_with_splice, line_without_bytes}
 use Rattle.sudoers_edit.proofs.Common.{lines_of_numbered_file, lines_with_definition_added, lines_with_definition_dropped, lines_with_item_cut_out, lines_with_item_put_in, lines_with_member_added}
-use Rattle.sudoers_edit.proofs.Common.{lines_with_member_dropped, lines_with_one_changed, lines_with_one_replaced, ltb-false, named_files_of_policy, nat_le, nat_lt, not, not-false, owned_bytes_start}
-use Rattle.sudoers_edit.proofs.Common.{owned_bytes_stop, place_of_file_place, policy_or_load_fault, policy_with_alias_file_edited, policy_with_file_lines, reading_of_single_line, refl, result_at_owned_bytes}
-use Rattle.sudoers_edit.proofs.Common.{result_at_splice_offset, result_or_refusal_if_none, result_unless_refused, result_with_definition_at, result_with_line_definitions, slice_get, step, sym, texts_of_lines, true}
+use Rattle.sudoers_edit.proofs.Common.{lines_with_member_dropped, replaced_lines_unless_too_long, lines_with_one_replaced, ltb-false, named_files_of_policy, nat_le, nat_lt, not, not-false, owned_bytes_start}
+use Rattle.sudoers_edit.proofs.Common.{owned_bytes_stop, place_within_file_of_definition, policy_or_load_fault, policy_with_file_defining_alias_edited, policy_with_file_lines, reading_of_single_line, refl, result_with_bytes_to_drop_item}
+use Rattle.sudoers_edit.proofs.Common.{result_with_offset_to_add_item, result_or_refusal_if_none, result_unless_refused, result_with_definition_at, result_with_line_definitions, slice_get, step, sym, texts_of_lines, true}
 use Rattle.sudoers_edit.proofs.Common.{ℕ, ◌+◌, ◌==◌, ◌∙◌, ◌∷◌, ◌≡◌, ◌≤◌}
 use Rattle.sudoers_grammar.specs.Node as node
 use Rattle.sudoers_edit.specs.declared.extra_item.ItemListKind.TheVariants as among
@@ -19,7 +19,7 @@ use Rattle.sudoers_edit.proofs.SwapLemmas.{owned_start_of_definition_is_within_l
 
 -- OUTCOMES
 
-pub accepted_splice_has_start_offset : (at : ℕ) (xs : List ByteExtent) (next : ℕ → Result LineTexts EditFault) (new : LineTexts) → result_at_splice_offset at xs next ≡ Ok new
+pub accepted_splice_has_start_offset : (at : ℕ) (xs : List ByteExtent) (next : ℕ → Result LineTexts EditFault) (new : LineTexts) → result_with_offset_to_add_item at xs next ≡ Ok new
     → (from : ℕ) × (owned_bytes_start at xs ≡ Some from) × (next from ≡ Ok new)
 accepted_splice_has_start_offset at xs next new e =
     accepted_result_has_found_value (owned_bytes_start at xs) BadSplice next new (accepted_result_is_not_refused (nat_lt (length xs) at) NoPlace (result_or_refusal_if_none (owned_bytes_start at xs) BadSplice next) new e).1
@@ -32,7 +32,7 @@ record HasOwnedBytesAndResult (at : ℕ) (xs : List ByteExtent) (next : ℕ → 
   stops : owned_bytes_stop at xs ≡ Some to
   told : next from to ≡ Ok new
 
-accepted_cut_has_owned_bytes : (at : ℕ) (xs : List ByteExtent) (next : ℕ → ℕ → Result LineTexts EditFault) (new : LineTexts) → result_at_owned_bytes at xs next ≡ Ok new → HasOwnedBytesAndResult at xs next new
+accepted_cut_has_owned_bytes : (at : ℕ) (xs : List ByteExtent) (next : ℕ → ℕ → Result LineTexts EditFault) (new : LineTexts) → result_with_bytes_to_drop_item at xs next ≡ Ok new → HasOwnedBytesAndResult at xs next new
 accepted_cut_has_owned_bytes at xs next new e =
     let by_stop : ℕ → Result LineTexts EditFault = λ from. result_or_refusal_if_none (owned_bytes_stop at xs) BadSplice (λ to. next from to) in
     let by_seam : Result LineTexts EditFault = result_or_refusal_if_none (owned_bytes_start at xs) BadSplice by_stop in
@@ -65,11 +65,11 @@ line_lacking_extra_item_has_reading (among.Members def) at from to (node.Spec us
 
 -- one more that was accepted
 accepted_item_is_put_in_line : (a : ItemListKind) (at from n : ℕ) (s : List ℕ) (line : Line) (lines : List Line) (new : LineTexts) → from ≤ length line.text → lines_with_item_put_in a at from n s line lines ≡ Ok new
-    → HasItemPutIn a at from s line (line_with_splice from s line.text) × (lines_with_one_changed n (line_with_splice from s line.text) (texts_of_lines lines) ≡ Ok new)
+    → IsLineTextWithItemPutIn a at from s line (line_with_splice from s line.text) × (replaced_lines_unless_too_long n (line_with_splice from s line.text) (texts_of_lines lines) ≡ Ok new)
 accepted_item_is_put_in_line a at from n s line lines new inside e =
     let text : List ℕ = line_with_splice from s line.text in
     let reads : Bool = has_one_item_more a at from (from + length s) (reading_of_single_line text) (Some line.node) in
-    let p = accepted_result_is_not_refused (not reads) BadSplice (lines_with_one_changed n text (texts_of_lines lines)) new e in
+    let p = accepted_result_is_not_refused (not reads) BadSplice (replaced_lines_unless_too_long n text (texts_of_lines lines)) new e in
     let more : reads ≡ true = not-false reads p.0 in
     let says = line_with_extra_item_has_reading a at from (from + length s) (reading_of_single_line text) line.node more in (
       record { inside = inside; text_is = refl; new = says.0; says = says.1; more = ap (λ o. has_one_item_more a at from (from + length s) o (Some line.node)) (sym says.1) ∙ more },
@@ -78,11 +78,11 @@ accepted_item_is_put_in_line a at from n s line lines new inside e =
 
 -- one less
 accepted_item_is_cut_out_of_line : (a : ItemListKind) (at from to n : ℕ) (line : Line) (lines : List Line) (new : LineTexts) → from ≤ to → to ≤ length line.text → lines_with_item_cut_out a at from to n line lines ≡ Ok new
-    → HasItemCutOut a at from to line (line_without_bytes from to line.text) × (lines_with_one_changed n (line_without_bytes from to line.text) (texts_of_lines lines) ≡ Ok new)
+    → IsLineTextWithItemCutOut a at from to line (line_without_bytes from to line.text) × (replaced_lines_unless_too_long n (line_without_bytes from to line.text) (texts_of_lines lines) ≡ Ok new)
 accepted_item_is_cut_out_of_line a at from to n line lines new order inside e =
     let text : List ℕ = line_without_bytes from to line.text in
     let reads : Bool = has_one_item_more a at from to (Some line.node) (reading_of_single_line text) in
-    let p = accepted_result_is_not_refused (not reads) BadSplice (lines_with_one_changed n text (texts_of_lines lines)) new e in
+    let p = accepted_result_is_not_refused (not reads) BadSplice (replaced_lines_unless_too_long n text (texts_of_lines lines)) new e in
     let more : reads ≡ true = not-false reads p.0 in
     let says = line_lacking_extra_item_has_reading a at from to line.node (reading_of_single_line text) more in (
       record { order = order; inside = inside; text_is = refl; new = says.0; says = says.1; more = ap (has_one_item_more a at from to (Some line.node)) (sym says.1) ∙ more },
@@ -90,7 +90,7 @@ accepted_item_is_cut_out_of_line a at from to n line lines new order inside e =
     )
 
 -- a line that is changed is not too long
-pub accepted_line_change_is_short : (n : ℕ) (text : List ℕ) (lines new : LineTexts) → lines_with_one_changed n text lines ≡ Ok new → (length text ≤ line_limit) × (lines_with_one_replaced n text lines ≡ new)
+pub accepted_line_change_is_short : (n : ℕ) (text : List ℕ) (lines new : LineTexts) → replaced_lines_unless_too_long n text lines ≡ Ok new → (length text ≤ line_limit) × (lines_with_one_replaced n text lines ≡ new)
 accepted_line_change_is_short n text lines new e =
     let p = accepted_result_is_not_refused (is_line_too_long text) TooLarge (Ok (lines_with_one_replaced n text lines)) new e in
     (ltb-false line_limit (length text) p.0, same (lines_with_one_replaced n text lines) new p.1)
@@ -100,7 +100,7 @@ accepted_line_change_is_short n text lines new e =
 
 -- an edit that replaces a line and is accepted
 accepted_line_replacement_is_reversible : AcceptedEditLaws → (edit back : Edit) (inverse : List Edit) (policy new : LoadedPolicy) (f n : ℕ) (text : List ℕ) (lines : LineTexts) → policy_or_load_fault (named_files_of_policy policy) ≡ Ok policy
-    → EditReplacesFileLine edit back inverse policy f n text → (HasFittingNumbers edit → HaveFittingNumbers (inv edit policy)) → lines_with_one_changed n text (line_texts_of_file policy f) ≡ Ok lines
+    → EditReplacesFileLine edit back inverse policy f n text → (HasFittingNumbers edit → HaveFittingNumbers (inv edit policy)) → replaced_lines_unless_too_long n text (line_texts_of_file policy f) ≡ Ok lines
     → policy_with_file_lines policy f lines ≡ Ok new → step edit policy ≡ Ok new → IsReversibleStep edit policy new
 accepted_line_replacement_is_reversible l edit back inverse policy new f n text lines loaded r numbered told lands is =
     let p = accepted_line_change_is_short n text (line_texts_of_file policy f) lines told in
@@ -125,14 +125,14 @@ accepted_result_has_line_definitions n lines next new e =
     record { line = a.0; defs = b.0; here = a.1; makes = b.1; told = b.2 }
 
 pub accepted_add_def_has_line_definitions : (n at : ℕ) (s : List ℕ) (lines : List Line) (new : LineTexts) → lines_with_definition_added n at s lines ≡ Ok new
-    → HasLineDefinitionsAndResult n lines (λ line defs. result_at_splice_offset at (extents_of_definitions defs) (λ from. lines_with_item_put_in among.Definitions at from n s line lines)) new
+    → HasLineDefinitionsAndResult n lines (λ line defs. result_with_offset_to_add_item at (extents_of_definitions defs) (λ from. lines_with_item_put_in among.Definitions at from n s line lines)) new
 unfolding lines_with_definition_added
-accepted_add_def_has_line_definitions n at s lines new e = accepted_result_has_line_definitions n lines (λ line defs. result_at_splice_offset at (extents_of_definitions defs) (λ from. lines_with_item_put_in among.Definitions at from n s line lines)) new e
+accepted_add_def_has_line_definitions n at s lines new e = accepted_result_has_line_definitions n lines (λ line defs. result_with_offset_to_add_item at (extents_of_definitions defs) (λ from. lines_with_item_put_in among.Definitions at from n s line lines)) new e
 
 accepted_drop_def_has_line_definitions : (n at : ℕ) (lines : List Line) (new : LineTexts) → lines_with_definition_dropped n at lines ≡ Ok new
-    → HasLineDefinitionsAndResult n lines (λ line defs. result_at_owned_bytes at (extents_of_definitions defs) (λ from to. lines_with_item_cut_out among.Definitions at from to n line lines)) new
+    → HasLineDefinitionsAndResult n lines (λ line defs. result_with_bytes_to_drop_item at (extents_of_definitions defs) (λ from to. lines_with_item_cut_out among.Definitions at from to n line lines)) new
 unfolding lines_with_definition_dropped
-accepted_drop_def_has_line_definitions n at lines new e = accepted_result_has_line_definitions n lines (λ line defs. result_at_owned_bytes at (extents_of_definitions defs) (λ from to. lines_with_item_cut_out among.Definitions at from to n line lines)) new e
+accepted_drop_def_has_line_definitions n at lines new e = accepted_result_has_line_definitions n lines (λ line defs. result_with_bytes_to_drop_item at (extents_of_definitions defs) (λ from to. lines_with_item_cut_out among.Definitions at from to n line lines)) new e
 
 pub accepted_add_def_is_reversible : AcceptedEditLaws → (f n at : ℕ) (s : List ℕ) → IsReversibleWhereAccepted (AddDef f n at s)
 accepted_add_def_is_reversible l f n at s policy new loaded is =
@@ -171,10 +171,10 @@ pub record HasAliasDefinitionAndResult (k : Kind) (name : List ℕ) (policy : Lo
   pub told : next line d ≡ Ok new
 
 accepted_result_has_alias_definition : (k : Kind) (name : List ℕ) (policy : LoadedPolicy) (place : DefinitionFilePlace) (next : Place → Line → Def → Result LineTexts EditFault) (new : LineTexts)
-    → file_place_of_definition k name policy.walk ≡ Some place → result_with_definition_at (Some (place_of_file_place place)) (lines_of_numbered_file policy.files place.file) next ≡ Ok new
-    → HasAliasDefinitionAndResult k name policy place (next (place_of_file_place place)) new
+    → file_place_of_definition k name policy.walk ≡ Some place → result_with_definition_at (Some (place_within_file_of_definition place)) (lines_of_numbered_file policy.files place.file) next ≡ Ok new
+    → HasAliasDefinitionAndResult k name policy place (next (place_within_file_of_definition place)) new
 accepted_result_has_alias_definition k name policy place next new named e =
-    let at : Place = place_of_file_place place in
+    let at : Place = place_within_file_of_definition place in
     let by_def : Line → List Def → Result LineTexts EditFault = λ line defs. result_or_refusal_if_none (slice_get defs at.def) NoAlias (λ (d : Def). next at line d) in
     let by_line : Line → Result LineTexts EditFault = λ line. result_or_refusal_if_none (definitions_of_alias_line line.node) NoAlias (by_def line) in
     let b = accepted_result_has_found_value (slice_get (lines_of_numbered_file policy.files place.file) at.line) NoAlias by_line new e in
@@ -183,37 +183,37 @@ accepted_result_has_alias_definition k name policy place next new named e =
     record { line = b.0; d = d.0; is = record { named = named; here = b.1; defs = c.0; makes = c.1; stands = d.1 }; told = d.2 }
 
 pub accepted_add_member_has_alias_definition : (k : Kind) (name : List ℕ) (at : ℕ) (s : List ℕ) (policy : LoadedPolicy) (place : DefinitionFilePlace) (new : LineTexts) → file_place_of_definition k name policy.walk ≡ Some place
-    → lines_with_member_added (place_of_file_place place) at s (lines_of_numbered_file policy.files place.file) ≡ Ok new
-    → HasAliasDefinitionAndResult k name policy place (λ line d. result_at_splice_offset at (extents_of_members d.members) (λ from. lines_with_item_put_in (among.Members place.def) at from place.line s line (lines_of_numbered_file policy.files place.file))) new
+    → lines_with_member_added (place_within_file_of_definition place) at s (lines_of_numbered_file policy.files place.file) ≡ Ok new
+    → HasAliasDefinitionAndResult k name policy place (λ line d. result_with_offset_to_add_item at (extents_of_members d.members) (λ from. lines_with_item_put_in (among.Members place.def) at from place.line s line (lines_of_numbered_file policy.files place.file))) new
 unfolding lines_with_member_added
 accepted_add_member_has_alias_definition k name at s policy place new named e =
     let lines : List Line = lines_of_numbered_file policy.files place.file in
     accepted_result_has_alias_definition k name policy place
-    (λ at_place line d. result_at_splice_offset at (extents_of_members d.members) (λ from. lines_with_item_put_in (among.Members at_place.def) at from at_place.line s line lines)) new named e
+    (λ at_place line d. result_with_offset_to_add_item at (extents_of_members d.members) (λ from. lines_with_item_put_in (among.Members at_place.def) at from at_place.line s line lines)) new named e
 
 accepted_drop_member_has_alias_definition : (k : Kind) (name : List ℕ) (at : ℕ) (policy : LoadedPolicy) (place : DefinitionFilePlace) (new : LineTexts) → file_place_of_definition k name policy.walk ≡ Some place
-    → lines_with_member_dropped (place_of_file_place place) at (lines_of_numbered_file policy.files place.file) ≡ Ok new
-    → HasAliasDefinitionAndResult k name policy place (λ line d. result_at_owned_bytes at (extents_of_members d.members) (λ from to. lines_with_item_cut_out (among.Members place.def) at from to place.line line (lines_of_numbered_file policy.files place.file))) new
+    → lines_with_member_dropped (place_within_file_of_definition place) at (lines_of_numbered_file policy.files place.file) ≡ Ok new
+    → HasAliasDefinitionAndResult k name policy place (λ line d. result_with_bytes_to_drop_item at (extents_of_members d.members) (λ from to. lines_with_item_cut_out (among.Members place.def) at from to place.line line (lines_of_numbered_file policy.files place.file))) new
 unfolding lines_with_member_dropped
 accepted_drop_member_has_alias_definition k name at policy place new named e =
     let lines : List Line = lines_of_numbered_file policy.files place.file in
     accepted_result_has_alias_definition k name policy place
-    (λ at_place line d. result_at_owned_bytes at (extents_of_members d.members) (λ from to. lines_with_item_cut_out (among.Members at_place.def) at from to at_place.line line lines)) new named e
+    (λ at_place line d. result_with_bytes_to_drop_item at (extents_of_members d.members) (λ from to. lines_with_item_cut_out (among.Members at_place.def) at from to at_place.line line lines)) new named e
 
 -- An edit at an alias that is defined makes these lines of its file, and they land.
 pub record HasAcceptedLinesAtAlias (k : Kind) (name : List ℕ) (policy new : LoadedPolicy) (edit : Place → List Line → Result LineTexts EditFault) : Type 0 where
   pub place : DefinitionFilePlace
   pub named : file_place_of_definition k name policy.walk ≡ Some place
   pub lines : LineTexts
-  pub made : edit (place_of_file_place place) (lines_of_numbered_file policy.files place.file) ≡ Ok lines
+  pub made : edit (place_within_file_of_definition place) (lines_of_numbered_file policy.files place.file) ≡ Ok lines
   pub lands : policy_with_file_lines policy place.file lines ≡ Ok new
 
-pub accepted_alias_edit_has_lines : (k : Kind) (name : List ℕ) (policy new : LoadedPolicy) (edit : Place → List Line → Result LineTexts EditFault) → policy_with_alias_file_edited k name policy edit ≡ Ok new
+pub accepted_alias_edit_has_lines : (k : Kind) (name : List ℕ) (policy new : LoadedPolicy) (edit : Place → List Line → Result LineTexts EditFault) → policy_with_file_defining_alias_edited k name policy edit ≡ Ok new
     → HasAcceptedLinesAtAlias k name policy new edit
 accepted_alias_edit_has_lines k name policy new edit is =
     let place = accepted_result_has_found_value (file_place_of_definition k name policy.walk) NoAlias
-    (λ (at : DefinitionFilePlace). edit_result_and_then (edit (place_of_file_place at) (lines_of_numbered_file policy.files at.file)) (policy_with_file_lines policy at.file)) new is in
-    let made = accepted_sequence_has_both_results (edit (place_of_file_place place.0) (lines_of_numbered_file policy.files place.0.file)) (policy_with_file_lines policy place.0.file) new place.2 in
+    (λ (at : DefinitionFilePlace). edit_result_and_then (edit (place_within_file_of_definition at) (lines_of_numbered_file policy.files at.file)) (policy_with_file_lines policy at.file)) new is in
+    let made = accepted_sequence_has_both_results (edit (place_within_file_of_definition place.0) (lines_of_numbered_file policy.files place.0.file)) (policy_with_file_lines policy place.0.file) new place.2 in
     record { place = place.0; named = place.1; lines = made.0; made = made.1; lands = made.2 }
 
 pub accepted_add_member_is_reversible : AcceptedEditLaws → (k : Kind) (name : List ℕ) (at : ℕ) (s : List ℕ) → IsReversibleWhereAccepted (AddMember k name at s)

@@ -1,8 +1,8 @@
 -- What takes changes of the files of a policy back leads to the files before them.
-use Rattle.sudoers_edit.proofs.Common.{AllByRecursion, AreApplicableChanges, AreChangesInFileOrder, AreChangesInOrder, Bool, EachIsOneLineWhenCut, FirstChangeLaw, IsLogicalLine, LineChange, LineEditLaws, LineTexts}
+use Rattle.sudoers_edit.proofs.Common.{AllByRecursion, AreApplicableChanges, AreFileNumbersOfChangesInOrder, AreChangesInOrder, Bool, EachIsOneLineWhenCut, FirstChangeLaw, IsLogicalLine, LineChange, LawsBehindLineEdits, LineTexts}
 use Rattle.sudoers_edit.proofs.Common.{List, LoadedPolicy, NamedFile, NoChangesLaw, Ok, ParsedFile, Put, RestoreOldPolicy, Swap, Take, [], ap, append_assoc, ap₂, arith, changed_files_from_number, changes_of_file}
 use Rattle.sudoers_edit.proofs.Common.{cut_outcome_of_text, drop, eq-eqb, eqb-true, false, file_names, file_number_of_change, files_after_changes, has_inner_line_without_lf, if◌then◌else◌, inl, inr}
-use Rattle.sudoers_edit.proofs.Common.{inverse_changes_since_file, inverse_of_changes, inverse_of_changes_in_file, inverse_of_one_change, join, length, length-append, length-map, line_limit, line_number_of_change}
+use Rattle.sudoers_edit.proofs.Common.{inverse_of_changes_after_counts, inverse_of_changes, inverse_of_changes_in_file, inverse_of_one_change, join, length, length-append, length-map, line_limit, line_number_of_change}
 use Rattle.sudoers_edit.proofs.Common.{line_texts_of_file, lines_after_changes, lines_of_numbered_file, lines_put_count_of_change, lines_taken_count_of_change, map, min_line_number_after_change}
 use Rattle.sudoers_edit.proofs.Common.{named_files_of_policy, named_of, ne_eqb, policy_or_load_fault, refl, slice_index_or, subst, suc, sym, texts_of_changes, texts_of_lines, true, zero, ℕ, ◌++◌, ◌+◌, ◌<◌, ◌==◌, ◌∙◌}
 use Rattle.sudoers_edit.proofs.Common.{◌∷◌, ◌≡◌, ◌≤◌, ◌⊎◌}
@@ -27,18 +27,18 @@ changes_of_file_skip_other_files_change f change changes is = ap (λ b. if b the
 
 -- what takes changes back whose first is of the last file, or of a later one
 pub inverse_of_next_change_in_same_file : (files : List ParsedFile) (last put taken : ℕ) (change : LineChange) (changes : List LineChange) → (file_number_of_change change == last) ≡ true
-    → inverse_changes_since_file files last put taken (change ∷ changes)
-    ≡ inverse_of_one_change put taken (texts_of_lines (lines_of_numbered_file files last)) change ∷ inverse_changes_since_file files last (put + lines_put_count_of_change change) (taken + lines_taken_count_of_change change) changes
+    → inverse_of_changes_after_counts files last put taken (change ∷ changes)
+    ≡ inverse_of_one_change put taken (texts_of_lines (lines_of_numbered_file files last)) change ∷ inverse_of_changes_after_counts files last (put + lines_put_count_of_change change) (taken + lines_taken_count_of_change change) changes
 inverse_of_next_change_in_same_file files last put taken change changes is =
-    ap (λ b. if b then inverse_of_one_change put taken (texts_of_lines (lines_of_numbered_file files last)) change ∷ inverse_changes_since_file files last (put + lines_put_count_of_change change) (taken + lines_taken_count_of_change change) changes
-    else inverse_of_one_change 0 0 (texts_of_lines (lines_of_numbered_file files (file_number_of_change change))) change ∷ inverse_changes_since_file files (file_number_of_change change) (lines_put_count_of_change change) (lines_taken_count_of_change change) changes) is
+    ap (λ b. if b then inverse_of_one_change put taken (texts_of_lines (lines_of_numbered_file files last)) change ∷ inverse_of_changes_after_counts files last (put + lines_put_count_of_change change) (taken + lines_taken_count_of_change change) changes
+    else inverse_of_one_change 0 0 (texts_of_lines (lines_of_numbered_file files (file_number_of_change change))) change ∷ inverse_of_changes_after_counts files (file_number_of_change change) (lines_put_count_of_change change) (lines_taken_count_of_change change) changes) is
 
 pub inverse_of_next_change_in_later_file : (files : List ParsedFile) (last put taken : ℕ) (change : LineChange) (changes : List LineChange) → (file_number_of_change change == last) ≡ false
-    → inverse_changes_since_file files last put taken (change ∷ changes)
-    ≡ inverse_of_one_change 0 0 (texts_of_lines (lines_of_numbered_file files (file_number_of_change change))) change ∷ inverse_changes_since_file files (file_number_of_change change) (lines_put_count_of_change change) (lines_taken_count_of_change change) changes
+    → inverse_of_changes_after_counts files last put taken (change ∷ changes)
+    ≡ inverse_of_one_change 0 0 (texts_of_lines (lines_of_numbered_file files (file_number_of_change change))) change ∷ inverse_of_changes_after_counts files (file_number_of_change change) (lines_put_count_of_change change) (lines_taken_count_of_change change) changes
 inverse_of_next_change_in_later_file files last put taken change changes is =
-    ap (λ b. if b then inverse_of_one_change put taken (texts_of_lines (lines_of_numbered_file files last)) change ∷ inverse_changes_since_file files last (put + lines_put_count_of_change change) (taken + lines_taken_count_of_change change) changes
-    else inverse_of_one_change 0 0 (texts_of_lines (lines_of_numbered_file files (file_number_of_change change))) change ∷ inverse_changes_since_file files (file_number_of_change change) (lines_put_count_of_change change) (lines_taken_count_of_change change) changes) is
+    ap (λ b. if b then inverse_of_one_change put taken (texts_of_lines (lines_of_numbered_file files last)) change ∷ inverse_of_changes_after_counts files last (put + lines_put_count_of_change change) (taken + lines_taken_count_of_change change) changes
+    else inverse_of_one_change 0 0 (texts_of_lines (lines_of_numbered_file files (file_number_of_change change))) change ∷ inverse_of_changes_after_counts files (file_number_of_change change) (lines_put_count_of_change change) (lines_taken_count_of_change change) changes) is
 
 -- THE CHANGES OF EACH FILE
 
@@ -69,8 +69,8 @@ inverse_of_file_changes_extends_rest files f p t change head changes rest same i
         ∙ elsewhere it
         ∙ sym (ap (inverse_of_changes_in_file p t (texts_of_lines (lines_of_numbered_file files f))) (changes_of_file_skip_other_files_change f change changes it))
 
-inverse_since_file_restricts_to_each_file : (files : List ParsedFile) (f last put taken p t count : ℕ) (changes : List LineChange) → AreChangesInFileOrder last changes count → AreLineCountsOfFile f last put taken p t
-    → changes_of_file f (inverse_changes_since_file files last put taken changes) ≡ inverse_of_changes_in_file p t (texts_of_lines (lines_of_numbered_file files f)) (changes_of_file f changes)
+inverse_since_file_restricts_to_each_file : (files : List ParsedFile) (f last put taken p t count : ℕ) (changes : List LineChange) → AreFileNumbersOfChangesInOrder last changes count → AreLineCountsOfFile f last put taken p t
+    → changes_of_file f (inverse_of_changes_after_counts files last put taken changes) ≡ inverse_of_changes_in_file p t (texts_of_lines (lines_of_numbered_file files f)) (changes_of_file f changes)
 inverse_since_file_restricts_to_each_file files f last put taken p t count [] go counts = refl
 inverse_since_file_restricts_to_each_file files f last put taken p t count (change ∷ changes) go counts =
     by (λ last put taken p t go counts. inverse_since_file_restricts_to_each_file files f last put taken p t count changes go counts) (file_number_of_change change == last) refl
@@ -81,16 +81,16 @@ inverse_since_file_restricts_to_each_file files f last put taken p t count (chan
     behind : (g == last) ≡ false → g ≡ f → last < f
     behind it f_is = omega (arith, unequal_numbers_are_distinct g last it, go.0, f_is)
 
-    by : ((last put taken p t : ℕ) → AreChangesInFileOrder last changes count → AreLineCountsOfFile f last put taken p t
-        → changes_of_file f (inverse_changes_since_file files last put taken changes) ≡ inverse_of_changes_in_file p t (texts_of_lines (lines_of_numbered_file files f)) (changes_of_file f changes))
+    by : ((last put taken p t : ℕ) → AreFileNumbersOfChangesInOrder last changes count → AreLineCountsOfFile f last put taken p t
+        → changes_of_file f (inverse_of_changes_after_counts files last put taken changes) ≡ inverse_of_changes_in_file p t (texts_of_lines (lines_of_numbered_file files f)) (changes_of_file f changes))
         → (b : Bool) → (g == last) ≡ b
-        → changes_of_file f (inverse_changes_since_file files last put taken (change ∷ changes)) ≡ inverse_of_changes_in_file p t (texts_of_lines (lines_of_numbered_file files f)) (changes_of_file f (change ∷ changes))
+        → changes_of_file f (inverse_of_changes_after_counts files last put taken (change ∷ changes)) ≡ inverse_of_changes_in_file p t (texts_of_lines (lines_of_numbered_file files f)) (changes_of_file f (change ∷ changes))
     by more true it =
         let same : g ≡ last = eqb-true g last it in
-        let go_on : AreChangesInFileOrder last changes count = subst (λ n. AreChangesInFileOrder n changes count) same go.2 in
+        let go_on : AreFileNumbersOfChangesInOrder last changes count = subst (λ n. AreFileNumbersOfChangesInOrder n changes count) same go.2 in
         ap (changes_of_file f) (inverse_of_next_change_in_same_file files last put taken change changes it)
         ∙ inverse_of_file_changes_extends_rest files f p t change (inverse_of_one_change put taken (texts_of_lines (lines_of_numbered_file files last)) change) changes
-        (inverse_changes_since_file files last (put + lines_put_count_of_change change) (taken + lines_taken_count_of_change change) changes)
+        (inverse_of_changes_after_counts files last (put + lines_put_count_of_change change) (taken + lines_taken_count_of_change change) changes)
         (inverse_change_is_of_same_file put taken (texts_of_lines (lines_of_numbered_file files last)) change)
         (λ is. let f_is : f ≡ last = sym (eqb-true g f is) ∙ same in let are = counts.here f_is in
         ap₂ (λ (i j : ℕ). inverse_of_one_change i j (texts_of_lines (lines_of_numbered_file files last)) change) (sym are.0) (sym are.1)
@@ -103,7 +103,7 @@ inverse_since_file_restricts_to_each_file files f last put taken p t count (chan
     by more false it =
         ap (changes_of_file f) (inverse_of_next_change_in_later_file files last put taken change changes it)
         ∙ inverse_of_file_changes_extends_rest files f p t change (inverse_of_one_change 0 0 (texts_of_lines (lines_of_numbered_file files g)) change) changes
-        (inverse_changes_since_file files g (lines_put_count_of_change change) (lines_taken_count_of_change change) changes)
+        (inverse_of_changes_after_counts files g (lines_put_count_of_change change) (lines_taken_count_of_change change) changes)
         (inverse_change_is_of_same_file 0 0 (texts_of_lines (lines_of_numbered_file files g)) change)
         (λ is. let f_is : g ≡ f = eqb-true g f is in let are = counts.later (behind it f_is) in
         ap₂ (λ (i j : ℕ). inverse_of_one_change i j (texts_of_lines (lines_of_numbered_file files g)) change) (sym are.0) (sym are.1)
@@ -115,13 +115,13 @@ inverse_since_file_restricts_to_each_file files f last put taken p t count (chan
         (record { here = λ at. absurd (unequal_numbers_are_distinct g f is (sym at)); later = λ less. counts.later (omega (arith, less, go.0)) }))
 
 -- What takes changes back takes those of each file back.
-pub inverse_of_changes_restricts_to_each_file : (files : List ParsedFile) (f : ℕ) (changes : List LineChange) → AreChangesInFileOrder 0 changes (length files)
+pub inverse_of_changes_restricts_to_each_file : (files : List ParsedFile) (f : ℕ) (changes : List LineChange) → AreFileNumbersOfChangesInOrder 0 changes (length files)
     → changes_of_file f (inverse_of_changes files changes) ≡ inverse_of_changes_in_file 0 0 (texts_of_lines (lines_of_numbered_file files f)) (changes_of_file f changes)
 inverse_of_changes_restricts_to_each_file files f changes go = inverse_since_file_restricts_to_each_file files f 0 0 0 0 0 (length files) changes go (record { here = λ at. (refl, refl); later = λ less. (refl, refl) })
 
 -- it goes by the files as they do
-inverse_changes_keep_file_order : (files : List ParsedFile) (n last put taken count : ℕ) (changes : List LineChange) → AreChangesInFileOrder n changes count
-    → AreChangesInFileOrder n (inverse_changes_since_file files last put taken changes) count
+inverse_changes_keep_file_order : (files : List ParsedFile) (n last put taken count : ℕ) (changes : List LineChange) → AreFileNumbersOfChangesInOrder n changes count
+    → AreFileNumbersOfChangesInOrder n (inverse_of_changes_after_counts files last put taken changes) count
 inverse_changes_keep_file_order files n last put taken count [] go = tt
 inverse_changes_keep_file_order files n last put taken count (change ∷ changes) go =
     by (λ last put taken. inverse_changes_keep_file_order files (file_number_of_change change) last put taken count changes go.2) (file_number_of_change change == last) refl
@@ -129,18 +129,18 @@ inverse_changes_keep_file_order files n last put taken count (change ∷ changes
     g : ℕ
     g = file_number_of_change change
 
-    goes : (head : LineChange) (rest : List LineChange) → file_number_of_change head ≡ g → AreChangesInFileOrder g rest count → AreChangesInFileOrder n (head ∷ rest) count
-    goes head rest same more = (omega (arith, same, go.0), omega (arith, same, go.1), subst (λ m. AreChangesInFileOrder m rest count) (sym same) more)
+    goes : (head : LineChange) (rest : List LineChange) → file_number_of_change head ≡ g → AreFileNumbersOfChangesInOrder g rest count → AreFileNumbersOfChangesInOrder n (head ∷ rest) count
+    goes head rest same more = (omega (arith, same, go.0), omega (arith, same, go.1), subst (λ m. AreFileNumbersOfChangesInOrder m rest count) (sym same) more)
 
-    by : ((last put taken : ℕ) → AreChangesInFileOrder g (inverse_changes_since_file files last put taken changes) count) → (b : Bool) → (g == last) ≡ b → AreChangesInFileOrder n (inverse_changes_since_file files last put taken (change ∷ changes)) count
+    by : ((last put taken : ℕ) → AreFileNumbersOfChangesInOrder g (inverse_of_changes_after_counts files last put taken changes) count) → (b : Bool) → (g == last) ≡ b → AreFileNumbersOfChangesInOrder n (inverse_of_changes_after_counts files last put taken (change ∷ changes)) count
     by more true it =
-        subst (λ cs. AreChangesInFileOrder n cs count) (sym (inverse_of_next_change_in_same_file files last put taken change changes it))
-        (goes (inverse_of_one_change put taken (texts_of_lines (lines_of_numbered_file files last)) change) (inverse_changes_since_file files last (put + lines_put_count_of_change change) (taken + lines_taken_count_of_change change) changes)
+        subst (λ cs. AreFileNumbersOfChangesInOrder n cs count) (sym (inverse_of_next_change_in_same_file files last put taken change changes it))
+        (goes (inverse_of_one_change put taken (texts_of_lines (lines_of_numbered_file files last)) change) (inverse_of_changes_after_counts files last (put + lines_put_count_of_change change) (taken + lines_taken_count_of_change change) changes)
         (inverse_change_is_of_same_file put taken (texts_of_lines (lines_of_numbered_file files last)) change)
         (more last (put + lines_put_count_of_change change) (taken + lines_taken_count_of_change change)))
     by more false it =
-        subst (λ cs. AreChangesInFileOrder n cs count) (sym (inverse_of_next_change_in_later_file files last put taken change changes it))
-        (goes (inverse_of_one_change 0 0 (texts_of_lines (lines_of_numbered_file files g)) change) (inverse_changes_since_file files g (lines_put_count_of_change change) (lines_taken_count_of_change change) changes)
+        subst (λ cs. AreFileNumbersOfChangesInOrder n cs count) (sym (inverse_of_next_change_in_later_file files last put taken change changes it))
+        (goes (inverse_of_one_change 0 0 (texts_of_lines (lines_of_numbered_file files g)) change) (inverse_of_changes_after_counts files g (lines_put_count_of_change change) (lines_taken_count_of_change change) changes)
         (inverse_change_is_of_same_file 0 0 (texts_of_lines (lines_of_numbered_file files g)) change)
         (more g (lines_put_count_of_change change) (lines_taken_count_of_change change)))
 
@@ -196,7 +196,7 @@ files_of_equal_names_are_as_many news olds names = sym (length-map news (λ (fil
 
 -- what the laws say of changed files, and of changes one after another
 pub record ChangeReversalLaws : Type 0 where
-  pub land : LineEditLaws
+  pub land : LawsBehindLineEdits
   pub names : (changes : List LineChange) (old new : LoadedPolicy) → policy_or_load_fault (files_after_changes changes old.files) ≡ Ok new → file_names new.files ≡ file_names old.files
   pub none : NoChangesLaw
   pub first : FirstChangeLaw
@@ -206,7 +206,7 @@ pub inverse_of_changes_restores_old_policy : ChangeReversalLaws → (policy new 
     → policy_or_load_fault (files_after_changes changes policy.files) ≡ Ok new → RestoreOldPolicy (inverse_of_changes policy.files changes) new policy
 inverse_of_changes_restores_old_policy laws policy new changes loaded can is = record {
   can = record {
-    by_files = subst (AreChangesInFileOrder 0 back) (sym (files_of_equal_names_are_as_many new.files policy.files names)) (inverse_changes_keep_file_order policy.files 0 0 0 0 (length policy.files) changes can.by_files);
+    by_files = subst (AreFileNumbersOfChangesInOrder 0 back) (sym (files_of_equal_names_are_as_many new.files policy.files names)) (inverse_changes_keep_file_order policy.files 0 0 0 0 (length policy.files) changes can.by_files);
     order = λ f. subst (λ cs. AreChangesInOrder 0 cs (length (lines_of_numbered_file new.files f))) (sym (of f)) (subst (AreChangesInOrder 0 (back_of f)) (count f) (there f).order);
     lines = logical_lines_in_each_file_imply_all back (λ f. subst BringLogicalLines (sym (of f))
         (inverse_changes_bring_logical_lines 0 0 0 (line_texts_of_file policy f) (lines_of_loaded_file_are_sound laws.land policy loaded f).whole (changes_of_file f changes) (in_order f)));
@@ -293,9 +293,9 @@ AreLineCountsAtChange g last put taken here put_here taken_here =
 
 inverse_since_file_has_counts_at_change : (files : List ParsedFile) (last put taken here put_here taken_here : ℕ) (change : LineChange) (changes : List LineChange)
     → AreLineCountsAtChange (file_number_of_change change) last put taken here put_here taken_here
-    → inverse_changes_since_file files last put taken (change ∷ changes)
+    → inverse_of_changes_after_counts files last put taken (change ∷ changes)
     ≡ inverse_of_one_change put_here taken_here (texts_of_lines (lines_of_numbered_file files (file_number_of_change change))) change
-    ∷ inverse_changes_since_file files here (put_here + lines_put_count_of_change change) (taken_here + lines_taken_count_of_change change) changes
+    ∷ inverse_of_changes_after_counts files here (put_here + lines_put_count_of_change change) (taken_here + lines_taken_count_of_change change) changes
 inverse_since_file_has_counts_at_change files last put taken here put_here taken_here change changes counts = elim counts [
   | inl other ↦
       inverse_of_next_change_in_later_file files last put taken change changes (ne_eqb (file_number_of_change change) last other.0)
@@ -312,24 +312,24 @@ inverse_since_file_has_counts_at_change files last put taken here put_here taken
       (sym same.1) (omega (arith, same.2)) (omega (arith, same.3)))
 ]
   where
-    from : (f g i j m n : ℕ) → f ≡ g → i ≡ j → m ≡ n → inverse_changes_since_file files f i m changes ≡ inverse_changes_since_file files g j n changes
-    from f g i j m n a b c = ap (λ x. inverse_changes_since_file files x i m changes) a ∙ ap₂ (λ (x y : ℕ). inverse_changes_since_file files g x y changes) b c
+    from : (f g i j m n : ℕ) → f ≡ g → i ≡ j → m ≡ n → inverse_of_changes_after_counts files f i m changes ≡ inverse_of_changes_after_counts files g j n changes
+    from f g i j m n a b c = ap (λ x. inverse_of_changes_after_counts files x i m changes) a ∙ ap₂ (λ (x y : ℕ). inverse_of_changes_after_counts files g x y changes) b c
 
 -- what takes the changes up to the next one back, and then the others
 pub inverse_of_next_change_continues_inverse : (files : List ParsedFile) (changes done now : List LineChange) (last put taken here put_here taken_here put_next taken_next k : ℕ)
-    (change back d : LineChange) → done ++ inverse_changes_since_file files last put taken (drop k changes) ≡ inverse_of_changes files changes
+    (change back d : LineChange) → done ++ inverse_of_changes_after_counts files last put taken (drop k changes) ≡ inverse_of_changes files changes
     → k < length changes → change ≡ slice_index_or changes k d → AreLineCountsAtChange (file_number_of_change change) last put taken here put_here taken_here
     → back ≡ inverse_of_one_change put_here taken_here (texts_of_lines (lines_of_numbered_file files (file_number_of_change change))) change
     → put_next ≡ put_here + lines_put_count_of_change change → taken_next ≡ taken_here + lines_taken_count_of_change change → now ≡ done ++ back ∷ []
-    → now ++ inverse_changes_since_file files here put_next taken_next (drop (k + 1) changes) ≡ inverse_of_changes files changes
+    → now ++ inverse_of_changes_after_counts files here put_next taken_next (drop (k + 1) changes) ≡ inverse_of_changes files changes
 inverse_of_next_change_continues_inverse files changes done now last put taken here put_here taken_here put_next taken_next k change back d so_far inside is counts back_is puts takes now_is =
     let later : List LineChange = drop (suc k) changes in
     let next : k + 1 ≡ suc k = omega arith in
-    ap (λ j. now ++ inverse_changes_since_file files here put_next taken_next (drop j changes)) next
-    ∙ ap (λ (cs : List LineChange). cs ++ inverse_changes_since_file files here put_next taken_next later) now_is
-    ∙ append_assoc done (back ∷ []) (inverse_changes_since_file files here put_next taken_next later)
+    ap (λ j. now ++ inverse_of_changes_after_counts files here put_next taken_next (drop j changes)) next
+    ∙ ap (λ (cs : List LineChange). cs ++ inverse_of_changes_after_counts files here put_next taken_next later) now_is
+    ∙ append_assoc done (back ∷ []) (inverse_of_changes_after_counts files here put_next taken_next later)
     ∙ ap (λ (cs : List LineChange). done ++ cs)
-    (ap₂ (λ (c : LineChange) (cs : List LineChange). c ∷ cs) back_is (ap₂ (λ (x y : ℕ). inverse_changes_since_file files here x y later) puts takes)
+    (ap₂ (λ (c : LineChange) (cs : List LineChange). c ∷ cs) back_is (ap₂ (λ (x y : ℕ). inverse_of_changes_after_counts files here x y later) puts takes)
     ∙ sym (inverse_since_file_has_counts_at_change files last put taken here put_here taken_here change later counts)
-    ∙ ap (inverse_changes_since_file files last put taken) (ap (λ (c : LineChange). c ∷ later) is ∙ sym (rest_of_changes_begins_with_numbered_change k changes d inside)))
+    ∙ ap (inverse_of_changes_after_counts files last put taken) (ap (λ (c : LineChange). c ∷ later) is ∙ sym (rest_of_changes_begins_with_numbered_change k changes d inside)))
     ∙ so_far

@@ -10,7 +10,7 @@ use Rattle.sudoers_grammar.specs.declared.node.DigestKind.{DigestKind}
 use Rattle.sudoers_grammar.specs.Node as node
 use Rattle.sudoers_grammar.specs.Atom.{atom_of_token, user_atom_of_token, host_atom_of_token, command_atom_without_args, command_atom_with_args, command_atom_of_tokens, args_of_argument_tokens}
 use Rattle.sudoers_grammar.specs.Piece.{is_punct}
-use Rattle.sudoers_grammar.specs.Grammar.{Many, MarkThenRule, Separated, Perhaps, IsMark, IsArg, stop_of_last_token, stop_of_last_member, IsMember, IsDigest, IsCommand, IsList, IsDef, IsAlias}
+use Rattle.sudoers_grammar.specs.Grammar.{Many, MarkThenRule, Separated, Perhaps, IsMark, IsArg, stop_of_last_token, stop_of_last_member, IsMember, IsDigest, IsCommand, IsAliasMemberList, IsDef, IsAliasLine}
 use Rattle.sudoers_edit.proofs.OwnedBytes.{AreAscendingDefinitions}
 use Rattle.sudoers_edit.proofs.TokenEnds.{is_left_out_of_aliases}
 use Rattle.sudoers_edit.proofs.LineTokens.{EndByLimitUntilLeftOut, tokens_behind_first_end_before_final_lf}
@@ -179,7 +179,7 @@ last_member_ends_by_limit last [] each = omega arith
 last_member_ends_by_limit last (m ∷ []) each = each.0
 last_member_ends_by_limit last (m ∷ n ∷ ms) each = last_member_ends_by_limit last (n ∷ ms) each.1
 
-member_list_ends_by_limit : (k : Kind) (last : ℕ) (ts rest : List TokenWithBytes) (ms : List Member) → EndByLimitUntilLeftOut last ts → IsList k ts ms rest
+member_list_ends_by_limit : (k : Kind) (last : ℕ) (ts rest : List TokenWithBytes) (ms : List Member) → EndByLimitUntilLeftOut last ts → IsAliasMemberList k ts ms rest
     → EachEndsByLimit end_of_member last ms × EndByLimitUntilLeftOut last rest
 member_list_ends_by_limit User = separated_readings_end_by_limit end_of_member (IsMember User) 44 (member_ends_by_limit User)
 member_list_ends_by_limit Runas = separated_readings_end_by_limit end_of_member (IsMember Runas) 44 (member_ends_by_limit Runas)
@@ -204,7 +204,7 @@ equal_tokens_have_equal_rest : (t u : TokenWithBytes) (ts us : List TokenWithByt
 equal_tokens_have_equal_rest t u ts us same = cc
 
 definitions_end_before_final_lf : (line : List ℕ) (k : Kind) (defs : List Def) → ends_in_lf line ≡ true → (tokens : List Token) → HasTokens (line_mode line) line tokens
-    → (rest : List TokenWithBytes) → IsAlias k (tokens_with_bytes line tokens) defs rest → EachEndsByLimit end_of_definition (length line - 1) defs
+    → (rest : List TokenWithBytes) → IsAliasLine k (tokens_with_bytes line tokens) defs rest → EachEndsByLimit end_of_definition (length line - 1) defs
 definitions_end_before_final_lf line k defs ends [] has rest is = absurd (let none : [] ≡ is.word ∷ is.behind = is.split in cc)
 definitions_end_before_final_lf line k defs ends (t ∷ tokens) has rest is =
     let same = equal_tokens_have_equal_rest (token_with_bytes line t) is.word (tokens_with_bytes line tokens) is.behind is.split in

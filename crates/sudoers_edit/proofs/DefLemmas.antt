@@ -1,9 +1,9 @@
 -- Definitions put into a line of a file of a policy and taken out of it.
-use Rattle.sudoers_edit.proofs.Common.{AddDef, AreSoundParsedLines, Def, DropDef, EditFault, EditReplacesFileLine, Err, HasItemCutOut, HasItemPutIn, IsRefusalOrNoMemory, Line, LineTexts, List, LoadedPolicy}
-use Rattle.sudoers_edit.proofs.Common.{NamedFile, Ok, ParsedFile, Result, Some, [], ap, arith, bytes_between, bytes_owned_by_definition, definitions_of_alias_line, edit_result_and_then, extents_of_definitions}
+use Rattle.sudoers_edit.proofs.Common.{AddDef, AreSoundParsedLines, Def, DropDef, EditFault, EditReplacesFileLine, Err, IsLineTextWithItemCutOut, IsLineTextWithItemPutIn, IsRefusalOrNoMemory, Line, LineTexts, List, LoadedPolicy}
+use Rattle.sudoers_edit.proofs.Common.{NamedFile, Ok, ParsedFile, Result, Some, [], ap, arith, bytes_between, text_owned_by_definition, definitions_of_alias_line, edit_result_and_then, extents_of_definitions}
 use Rattle.sudoers_edit.proofs.Common.{files_with_bytes_replaced, inl, inr, join, length, line_texts_of_file, lines_of_numbered_file, lines_with_definition_added, lines_with_definition_dropped}
-use Rattle.sudoers_edit.proofs.Common.{lines_with_item_cut_out, lines_with_item_put_in, lines_with_one_changed, lines_with_one_replaced, named_files_of_policy, owned_bytes_start, owned_bytes_stop}
-use Rattle.sudoers_edit.proofs.Common.{policy_or_load_fault, policy_with_file_edited, policy_with_file_lines, refl, result_at_owned_bytes, result_at_splice_offset, result_with_line_definitions, slice_get, suc, sym}
+use Rattle.sudoers_edit.proofs.Common.{lines_with_item_cut_out, lines_with_item_put_in, replaced_lines_unless_too_long, lines_with_one_replaced, named_files_of_policy, owned_bytes_start, owned_bytes_stop}
+use Rattle.sudoers_edit.proofs.Common.{policy_or_load_fault, policy_with_file_edited, policy_with_file_lines, refl, result_with_bytes_to_drop_item, result_with_offset_to_add_item, result_with_line_definitions, slice_get, suc, sym}
 use Rattle.sudoers_edit.proofs.Common.{zero, ℕ, ◌+◌, ◌<◌, ◌∙◌, ◌∷◌, ◌≡◌}
 use Rattle.sudoers_edit.specs.declared.extra_item.ItemListKind.TheVariants as among
 use Rattle.sudoers_edit.proofs.ExtentLemmas.{line_with_one_definition_more_has_parts}
@@ -32,22 +32,22 @@ edit_of_present_file_edits_its_lines policy f edit within = let t = file_number_
 pub addition_without_definitions_is_refused : (n at : ℕ) (s : List ℕ) (lines : List Line) (fault : EditFault) → ((next : Line → List Def → Result LineTexts EditFault) → result_with_line_definitions n lines next ≡ Err fault)
     → lines_with_definition_added n at s lines ≡ Err fault
 unfolding lines_with_definition_added
-addition_without_definitions_is_refused n at s lines fault unfound = unfound (λ line defs. result_at_splice_offset at (extents_of_definitions defs) (λ from. lines_with_item_put_in among.Definitions at from n s line lines))
+addition_without_definitions_is_refused n at s lines fault unfound = unfound (λ line defs. result_with_offset_to_add_item at (extents_of_definitions defs) (λ from. lines_with_item_put_in among.Definitions at from n s line lines))
 
 pub addition_with_definitions_puts_item_in : (n at : ℕ) (s : List ℕ) (lines : List Line) (line : Line) (defs : List Def) → ((next : Line → List Def → Result LineTexts EditFault) → result_with_line_definitions n lines next ≡ next line defs)
-    → lines_with_definition_added n at s lines ≡ result_at_splice_offset at (extents_of_definitions defs) (λ from. lines_with_item_put_in among.Definitions at from n s line lines)
+    → lines_with_definition_added n at s lines ≡ result_with_offset_to_add_item at (extents_of_definitions defs) (λ from. lines_with_item_put_in among.Definitions at from n s line lines)
 unfolding lines_with_definition_added
-addition_with_definitions_puts_item_in n at s lines line defs found = found (λ line defs. result_at_splice_offset at (extents_of_definitions defs) (λ from. lines_with_item_put_in among.Definitions at from n s line lines))
+addition_with_definitions_puts_item_in n at s lines line defs found = found (λ line defs. result_with_offset_to_add_item at (extents_of_definitions defs) (λ from. lines_with_item_put_in among.Definitions at from n s line lines))
 
 pub drop_without_definitions_is_refused : (n at : ℕ) (lines : List Line) (fault : EditFault) → ((next : Line → List Def → Result LineTexts EditFault) → result_with_line_definitions n lines next ≡ Err fault)
     → lines_with_definition_dropped n at lines ≡ Err fault
 unfolding lines_with_definition_dropped
-drop_without_definitions_is_refused n at lines fault unfound = unfound (λ line defs. result_at_owned_bytes at (extents_of_definitions defs) (λ from to. lines_with_item_cut_out among.Definitions at from to n line lines))
+drop_without_definitions_is_refused n at lines fault unfound = unfound (λ line defs. result_with_bytes_to_drop_item at (extents_of_definitions defs) (λ from to. lines_with_item_cut_out among.Definitions at from to n line lines))
 
 pub drop_with_definitions_cuts_item_out : (n at : ℕ) (lines : List Line) (line : Line) (defs : List Def) → ((next : Line → List Def → Result LineTexts EditFault) → result_with_line_definitions n lines next ≡ next line defs)
-    → lines_with_definition_dropped n at lines ≡ result_at_owned_bytes at (extents_of_definitions defs) (λ from to. lines_with_item_cut_out among.Definitions at from to n line lines)
+    → lines_with_definition_dropped n at lines ≡ result_with_bytes_to_drop_item at (extents_of_definitions defs) (λ from to. lines_with_item_cut_out among.Definitions at from to n line lines)
 unfolding lines_with_definition_dropped
-drop_with_definitions_cuts_item_out n at lines line defs found = found (λ line defs. result_at_owned_bytes at (extents_of_definitions defs) (λ from to. lines_with_item_cut_out among.Definitions at from to n line lines))
+drop_with_definitions_cuts_item_out n at lines line defs found = found (λ line defs. result_with_bytes_to_drop_item at (extents_of_definitions defs) (λ from to. lines_with_item_cut_out among.Definitions at from to n line lines))
 
 -- a refusal of the lines is one of the edit
 pub refusal_of_lines_is_refusal_of_edit : (policy : LoadedPolicy) (f : ℕ) (r : Result LineTexts EditFault) (fault : EditFault) → r ≡ Err fault → edit_result_and_then r (policy_with_file_lines policy f) ≡ Err fault
@@ -56,8 +56,8 @@ refusal_of_lines_is_refusal_of_edit policy f r fault is = ap (λ x. edit_result_
 -- THE WAY BACK
 
 pub definition_addition_replaces_file_line : ParsedLinesOfFilesAreSound → (policy : LoadedPolicy) (f n at from : ℕ) (s text : List ℕ) (line : Line) → policy_or_load_fault (named_files_of_policy policy) ≡ Ok policy → f < length policy.files
-    → slice_get (lines_of_numbered_file policy.files f) n ≡ Some line → (put : HasItemPutIn among.Definitions at from s line text)
-    → lines_with_definition_added n at s (lines_of_numbered_file policy.files f) ≡ lines_with_one_changed n text (line_texts_of_file policy f)
+    → slice_get (lines_of_numbered_file policy.files f) n ≡ Some line → (put : IsLineTextWithItemPutIn among.Definitions at from s line text)
+    → lines_with_definition_added n at s (lines_of_numbered_file policy.files f) ≡ replaced_lines_unless_too_long n text (line_texts_of_file policy f)
     → EditReplacesFileLine (AddDef f n at s) (DropDef f n at) (DropDef f n at ∷ []) policy f n text
 definition_addition_replaces_file_line law policy f n at from s text line loaded within here put forth = record {
   here = within;
@@ -78,14 +78,14 @@ definition_addition_replaces_file_line law policy f n at from s text line loaded
 
 -- the bytes that a definition owns
 bytes_owned_by_definition_are_between_offsets : (lines : List Line) (n at from to : ℕ) (line : Line) (defs : List Def) → slice_get lines n ≡ Some line → definitions_of_alias_line line.node ≡ Some defs
-    → owned_bytes_start at (extents_of_definitions defs) ≡ Some from → owned_bytes_stop at (extents_of_definitions defs) ≡ Some to → bytes_owned_by_definition n at lines ≡ bytes_between from to line.text
-unfolding bytes_owned_by_definition
+    → owned_bytes_start at (extents_of_definitions defs) ≡ Some from → owned_bytes_stop at (extents_of_definitions defs) ≡ Some to → text_owned_by_definition n at lines ≡ bytes_between from to line.text
+unfolding text_owned_by_definition
 bytes_owned_by_definition_are_between_offsets lines n at from to line defs here is begins stops = rw (here, is, begins, stops) refl
 
 pub definition_drop_replaces_file_line : ParsedLinesOfFilesAreSound → (policy : LoadedPolicy) (f n at from to : ℕ) (s text : List ℕ) (line : Line) (defs : List Def) → policy_or_load_fault (named_files_of_policy policy) ≡ Ok policy
     → f < length policy.files → slice_get (lines_of_numbered_file policy.files f) n ≡ Some line → definitions_of_alias_line line.node ≡ Some defs → owned_bytes_start at (extents_of_definitions defs) ≡ Some from
-    → owned_bytes_stop at (extents_of_definitions defs) ≡ Some to → (cut : HasItemCutOut among.Definitions at from to line text) → s ≡ bytes_between from to line.text
-    → lines_with_definition_dropped n at (lines_of_numbered_file policy.files f) ≡ lines_with_one_changed n text (line_texts_of_file policy f)
+    → owned_bytes_stop at (extents_of_definitions defs) ≡ Some to → (cut : IsLineTextWithItemCutOut among.Definitions at from to line text) → s ≡ bytes_between from to line.text
+    → lines_with_definition_dropped n at (lines_of_numbered_file policy.files f) ≡ replaced_lines_unless_too_long n text (line_texts_of_file policy f)
     → EditReplacesFileLine (DropDef f n at) (AddDef f n at s) (AddDef f n at s ∷ []) policy f n text
 definition_drop_replaces_file_line law policy f n at from to s text line defs loaded within here is begins stops cut owned forth = record {
   here = within;

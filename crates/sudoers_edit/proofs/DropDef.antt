@@ -1,6 +1,6 @@
 -- A definition taken out of a line of several: it is refused for its splice alone.
 use Rattle.sudoers_edit.proofs.Common.{Bool, Cmnd, Def, Host, Kind, LineReadsAsNode, List, Node, Runas, Some, User, [], and_parts, ap, are_lists_alike, bytes_eq, bytes_eq-Decides, definitions_from_place, ends_in_lf}
-use Rattle.sudoers_edit.proofs.Common.{extents_of_definitions, has_exact_owned_bytes, has_one_definition_more, inr, is_equal_kind, is_same_def, is_same_member, length, refl, remove, suc, sym, true, zero, ℕ, ◌&&◌}
+use Rattle.sudoers_edit.proofs.Common.{extents_of_definitions, are_owned_byte_offsets_in_both_lists, has_one_definition_more, inr, is_equal_kind, is_same_def, is_same_member, length, refl, remove, suc, sym, true, zero, ℕ, ◌&&◌}
 use Rattle.sudoers_edit.proofs.Common.{◌+◌, ◌-◌, ◌∷◌, ◌≡◌}
 use Rattle.sudoers_grammar.specs.Node as node
 use Rattle.sudoers_edit.proofs.NameParts.{IsPartOfDefinitions, part_is_part_with_definition_before}
@@ -56,7 +56,7 @@ pub record ReadsWithoutOneDefinition (k : Kind) (defs : List Def) (at : ℕ) (sa
 pub line_with_one_less_reads_without_definition : (k : Kind) (defs : List Def) (at from to : ℕ) (says : Node) → has_one_definition_more at from to (Some (node.Alias k defs)) (Some says) ≡ true
     → ReadsWithoutOneDefinition k defs at says
 line_with_one_less_reads_without_definition k defs at from to (node.Alias j less) h =
-    let owns : Bool = has_exact_owned_bytes at from to (extents_of_definitions defs) (extents_of_definitions less) in
+    let owns : Bool = are_owned_byte_offsets_in_both_lists at from to (extents_of_definitions defs) (extents_of_definitions less) in
     let parts = and_parts (is_equal_kind k j && are_lists_alike is_same_def (remove defs at) less) owns h in
     let both = and_parts (is_equal_kind k j) (are_lists_alike is_same_def (remove defs at) less) parts.0 in
     record { less = less; is = ap (λ i. node.Alias i less) (sym (equal_kind_is_same_kind k j both.0)); alike = both.1 }

@@ -1,5 +1,5 @@
 -- What an edit leaves of the lines, and that its inverse gives them back.
-use Rattle.sudoers_edit.proofs.Common.{Bool, EachIsOneLineWhenCut, IsSingleLineCut, List, Some, [], ap, arith, ends_in_lf, false, has_inner_line_without_lf, insert, is_one_logical_line, length, lines_with_one_moved}
+use Rattle.sudoers_edit.proofs.Common.{Bool, EachIsOneLineWhenCut, SplitsIntoItselfAsOnlyLine, List, Some, [], ap, arith, ends_in_lf, false, has_inner_line_without_lf, insert, is_one_logical_line, length, lines_with_one_moved}
 use Rattle.sudoers_edit.proofs.Common.{not, or_false, refl, remove, slice_get, slice_index_or, suc, sym, true, zero, ℕ, ◌-◌, ◌<◌, ◌||◌, ◌∙◌, ◌∷◌, ◌≡◌, ◌≤◌}
 use Rattle.sudoers_edit.proofs.PolicyLemmas.{found_line_is_line_at_index}
 
@@ -43,7 +43,7 @@ removal_keeps_ended_lines (k ∷ j ∷ js) (suc n) h = ended_line_before_ended_l
 
 -- LINES AND SIZES
 
-pub insert_keeps_lines_cut_alone : (ls : List (List ℕ)) (at : ℕ) (t : List ℕ) → EachIsOneLineWhenCut ls → IsSingleLineCut t → EachIsOneLineWhenCut (insert ls at t)
+pub insert_keeps_lines_cut_alone : (ls : List (List ℕ)) (at : ℕ) (t : List ℕ) → EachIsOneLineWhenCut ls → SplitsIntoItselfAsOnlyLine t → EachIsOneLineWhenCut (insert ls at t)
 insert_keeps_lines_cut_alone ls zero t each is = (is, each)
 insert_keeps_lines_cut_alone [] (suc n) t each is = (is, tt)
 insert_keeps_lines_cut_alone (k ∷ ks) (suc n) t each is = (each.0, insert_keeps_lines_cut_alone ks n t each.1 is)
@@ -54,7 +54,7 @@ removal_keeps_lines_cut_alone [] (suc n) each = tt
 removal_keeps_lines_cut_alone (k ∷ ks) zero each = each.1
 removal_keeps_lines_cut_alone (k ∷ ks) (suc n) each = (each.0, removal_keeps_lines_cut_alone ks n each.1)
 
-pub numbered_line_is_cut_alone : (ls : List (List ℕ)) (at : ℕ) → at < length ls → EachIsOneLineWhenCut ls → IsSingleLineCut (slice_index_or ls at [])
+pub numbered_line_is_cut_alone : (ls : List (List ℕ)) (at : ℕ) → at < length ls → EachIsOneLineWhenCut ls → SplitsIntoItselfAsOnlyLine (slice_index_or ls at [])
 numbered_line_is_cut_alone [] at l each = absurd (omega arith)
 numbered_line_is_cut_alone (k ∷ ks) zero l each = each.0
 numbered_line_is_cut_alone (k ∷ ks) (suc n) l each = numbered_line_is_cut_alone ks n (omega arith) each.1
@@ -135,7 +135,7 @@ read_last_line_decides_open_line ls from to before last line l k other last_is o
 
 -- ONE LINE
 
-pub line_cut_alone_is_one_logical_line : (t : List ℕ) → IsSingleLineCut t → is_one_logical_line t ≡ true
+pub line_cut_alone_is_one_logical_line : (t : List ℕ) → SplitsIntoItselfAsOnlyLine t → is_one_logical_line t ≡ true
 line_cut_alone_is_one_logical_line t alone = rw alone refl
 
 -- JOURNALS

@@ -1,8 +1,8 @@
 -- The last line of a file, with LF and without.
-use Rattle.sudoers_edit.proofs.Common.{AreSoundFileLines, Bool, EachIsOneLineWhenCut, Edit, EditFault, EditSetsFileLines, EndAsIs, EndLine, Err, FinalLfLaws, IsRefusalOrNoMemory, IsSingleLineCut, LineTexts, List}
+use Rattle.sudoers_edit.proofs.Common.{AreLogicalLinesOfFileWithinTextLimit, Bool, EachIsOneLineWhenCut, Edit, EditFault, EditSetsFileLines, EndAsIs, EndLine, Err, LawsBehindFinalLfEdits, IsRefusalOrNoMemory, SplitsIntoItselfAsOnlyLine, LineTexts, List}
 use Rattle.sudoers_edit.proofs.Common.{LoadFault, LoadedPolicy, None, Ok, OpenEnd, Option, Result, Some, TooLarge, [], ap, append-nil, append_assoc, arith, cut_outcome_of_text, ends_in_lf, false}
 use Rattle.sudoers_edit.proofs.Common.{files_with_bytes_replaced, has_inner_line_without_lf, inl, inr, is_last_line_too_long, is_one_logical_line, join, le-ltb, length, length-append, line_limit, line_texts_of_file}
-use Rattle.sudoers_edit.proofs.Common.{line_with_lf_added, line_with_lf_removed, lines_after_end_change, lines_with_last_changed, lines_with_one_replaced, lt-ltb, named_files_of_policy, policy_of_files_or_refusal}
+use Rattle.sudoers_edit.proofs.Common.{line_with_lf_added, line_with_lf_removed, changed_lines_unless_last_too_long, lines_with_last_changed, lines_with_one_replaced, lt-ltb, named_files_of_policy, policy_of_files_or_refusal}
 use Rattle.sudoers_edit.proofs.Common.{policy_or_edit_fault, policy_or_load_fault, policy_with_file_lines, refl, slice_get, slice_get_within, step, subst, sym, take, texts_of_lines, true, ℕ, ◌++◌, ◌-◌, ◌<◌, ◌∙◌, ◌∷◌}
 use Rattle.sudoers_edit.proofs.Common.{◌≡◌, ◌≢◌, ◌≤◌}
 use Rattle.std.specs.Option.{option_map}
@@ -41,7 +41,7 @@ last_line_does_not_decide_inner_lf [] line other = refl
 last_line_does_not_decide_inner_lf (k ∷ []) line other = refl
 last_line_does_not_decide_inner_lf (k ∷ j ∷ front) line other = rw (last_line_does_not_decide_inner_lf (j ∷ front) line other) refl
 
-last_of_lines_is_cut_alone : (front : LineTexts) (line : List ℕ) → EachIsOneLineWhenCut (front ++ line ∷ []) → IsSingleLineCut line
+last_of_lines_is_cut_alone : (front : LineTexts) (line : List ℕ) → EachIsOneLineWhenCut (front ++ line ∷ []) → SplitsIntoItselfAsOnlyLine line
 last_of_lines_is_cut_alone [] line each = each.0
 last_of_lines_is_cut_alone (k ∷ front) line each = last_of_lines_is_cut_alone front line each.1
 
@@ -95,38 +95,38 @@ ended_line_without_last_byte_is_body body =
 
 -- a change of the last line that is not too long
 end_change_of_last_line_is_accepted : (change : List ℕ → Option (List ℕ)) (front : LineTexts) (line new : List ℕ) → change line ≡ Some new → length new ≤ line_limit
-    → lines_after_end_change (lines_with_last_changed change (front ++ line ∷ [])) ≡ Ok (front ++ new ∷ [])
+    → changed_lines_unless_last_too_long (lines_with_last_changed change (front ++ line ∷ [])) ≡ Ok (front ++ new ∷ [])
 end_change_of_last_line_is_accepted change front line new is short =
-    ap lines_after_end_change (change_of_last_line_is_made change front line new is)
+    ap changed_lines_unless_last_too_long (change_of_last_line_is_made change front line new is)
     ∙ rw (last_line_alone_decides_if_too_long front new false (le-ltb 65536 (length new) short)) refl
 
 -- an end that is as it should be
 refused_end_change_is_end_as_is : (change : List ℕ → Option (List ℕ)) (front : LineTexts) (line : List ℕ) → change line ≡ None
-    → lines_after_end_change (lines_with_last_changed change (front ++ line ∷ [])) ≡ Err EndAsIs
-refused_end_change_is_end_as_is change front line is = ap lines_after_end_change (refused_change_of_last_line_is_none change front line is)
+    → changed_lines_unless_last_too_long (lines_with_last_changed change (front ++ line ∷ [])) ≡ Err EndAsIs
+refused_end_change_is_end_as_is change front line is = ap changed_lines_unless_last_too_long (refused_change_of_last_line_is_none change front line is)
 
 too_long_end_change_is_too_large : (change : List ℕ → Option (List ℕ)) (front : LineTexts) (line new : List ℕ) → change line ≡ Some new → line_limit < length new
-    → lines_after_end_change (lines_with_last_changed change (front ++ line ∷ [])) ≡ Err TooLarge
+    → changed_lines_unless_last_too_long (lines_with_last_changed change (front ++ line ∷ [])) ≡ Err TooLarge
 too_long_end_change_is_too_large change front line new is long =
-    ap lines_after_end_change (change_of_last_line_is_made change front line new is)
+    ap changed_lines_unless_last_too_long (change_of_last_line_is_made change front line new is)
     ∙ rw (last_line_alone_decides_if_too_long front new true (lt-ltb 65536 (length new) long)) refl
 
 -- what the edits do in a file
-accepted_end_line_sets_file_lines : (policy : LoadedPolicy) (f : ℕ) (new : LineTexts) → f < length policy.files → lines_after_end_change (lines_with_last_changed line_with_lf_added (line_texts_of_file policy f)) ≡ Ok new
+accepted_end_line_sets_file_lines : (policy : LoadedPolicy) (f : ℕ) (new : LineTexts) → f < length policy.files → changed_lines_unless_last_too_long (lines_with_last_changed line_with_lf_added (line_texts_of_file policy f)) ≡ Ok new
     → step (EndLine f) policy ≡ policy_with_file_lines policy f new
-accepted_end_line_sets_file_lines policy f new here is = accepted_lines_are_lines_of_file policy f (λ lines. lines_after_end_change (lines_with_last_changed line_with_lf_added (texts_of_lines lines))) new here is
+accepted_end_line_sets_file_lines policy f new here is = accepted_lines_are_lines_of_file policy f (λ lines. changed_lines_unless_last_too_long (lines_with_last_changed line_with_lf_added (texts_of_lines lines))) new here is
 
-accepted_open_end_sets_file_lines : (policy : LoadedPolicy) (f : ℕ) (new : LineTexts) → f < length policy.files → lines_after_end_change (lines_with_last_changed line_with_lf_removed (line_texts_of_file policy f)) ≡ Ok new
+accepted_open_end_sets_file_lines : (policy : LoadedPolicy) (f : ℕ) (new : LineTexts) → f < length policy.files → changed_lines_unless_last_too_long (lines_with_last_changed line_with_lf_removed (line_texts_of_file policy f)) ≡ Ok new
     → step (OpenEnd f) policy ≡ policy_with_file_lines policy f new
-accepted_open_end_sets_file_lines policy f new here is = accepted_lines_are_lines_of_file policy f (λ lines. lines_after_end_change (lines_with_last_changed line_with_lf_removed (texts_of_lines lines))) new here is
+accepted_open_end_sets_file_lines policy f new here is = accepted_lines_are_lines_of_file policy f (λ lines. changed_lines_unless_last_too_long (lines_with_last_changed line_with_lf_removed (texts_of_lines lines))) new here is
 
-refused_end_line_has_fault_of_lines : (policy : LoadedPolicy) (f : ℕ) (fault : EditFault) → f < length policy.files → lines_after_end_change (lines_with_last_changed line_with_lf_added (line_texts_of_file policy f)) ≡ Err fault
+refused_end_line_has_fault_of_lines : (policy : LoadedPolicy) (f : ℕ) (fault : EditFault) → f < length policy.files → changed_lines_unless_last_too_long (lines_with_last_changed line_with_lf_added (line_texts_of_file policy f)) ≡ Err fault
     → step (EndLine f) policy ≡ Err fault
-refused_end_line_has_fault_of_lines policy f fault here is = refused_lines_refuse_file_edit policy f (λ lines. lines_after_end_change (lines_with_last_changed line_with_lf_added (texts_of_lines lines))) fault here is
+refused_end_line_has_fault_of_lines policy f fault here is = refused_lines_refuse_file_edit policy f (λ lines. changed_lines_unless_last_too_long (lines_with_last_changed line_with_lf_added (texts_of_lines lines))) fault here is
 
-refused_open_end_has_fault_of_lines : (policy : LoadedPolicy) (f : ℕ) (fault : EditFault) → f < length policy.files → lines_after_end_change (lines_with_last_changed line_with_lf_removed (line_texts_of_file policy f)) ≡ Err fault
+refused_open_end_has_fault_of_lines : (policy : LoadedPolicy) (f : ℕ) (fault : EditFault) → f < length policy.files → changed_lines_unless_last_too_long (lines_with_last_changed line_with_lf_removed (line_texts_of_file policy f)) ≡ Err fault
     → step (OpenEnd f) policy ≡ Err fault
-refused_open_end_has_fault_of_lines policy f fault here is = refused_lines_refuse_file_edit policy f (λ lines. lines_after_end_change (lines_with_last_changed line_with_lf_removed (texts_of_lines lines))) fault here is
+refused_open_end_has_fault_of_lines policy f fault here is = refused_lines_refuse_file_edit policy f (λ lines. changed_lines_unless_last_too_long (lines_with_last_changed line_with_lf_removed (texts_of_lines lines))) fault here is
 
 -- the line is the last of the file
 abbrev pub IsLastLineOfFile : LoadedPolicy → ℕ → List ℕ → Type 0
@@ -139,31 +139,31 @@ pub empty_file_end_edits_are_end_as_is : (policy : LoadedPolicy) (f : ℕ) → f
     → (step (EndLine f) policy ≡ Err EndAsIs) × (step (OpenEnd f) policy ≡ Err EndAsIs)
 empty_file_end_edits_are_end_as_is policy f here is =
     let none : line_texts_of_file policy f ≡ [] = lines_without_last_are_empty (line_texts_of_file policy f) is in (
-      refused_end_line_has_fault_of_lines policy f EndAsIs here (ap (λ z. lines_after_end_change (lines_with_last_changed line_with_lf_added z)) none),
-      refused_open_end_has_fault_of_lines policy f EndAsIs here (ap (λ z. lines_after_end_change (lines_with_last_changed line_with_lf_removed z)) none),
+      refused_end_line_has_fault_of_lines policy f EndAsIs here (ap (λ z. changed_lines_unless_last_too_long (lines_with_last_changed line_with_lf_added z)) none),
+      refused_open_end_has_fault_of_lines policy f EndAsIs here (ap (λ z. changed_lines_unless_last_too_long (lines_with_last_changed line_with_lf_removed z)) none),
     )
 
 pub end_line_of_ended_file_is_refused : (policy : LoadedPolicy) (f : ℕ) (line : List ℕ) → f < length policy.files → IsLastLineOfFile policy f line → ends_in_lf line ≡ true → step (EndLine f) policy ≡ Err EndAsIs
 end_line_of_ended_file_is_refused policy f line here is h =
     let p = lines_with_last_are_front_and_last (line_texts_of_file policy f) line is in
-    refused_end_line_has_fault_of_lines policy f EndAsIs here (ap (λ z. lines_after_end_change (lines_with_last_changed line_with_lf_added z)) p.1 ∙ refused_end_change_is_end_as_is line_with_lf_added p.0 line (lf_is_not_added_to_ended_line line h))
+    refused_end_line_has_fault_of_lines policy f EndAsIs here (ap (λ z. changed_lines_unless_last_too_long (lines_with_last_changed line_with_lf_added z)) p.1 ∙ refused_end_change_is_end_as_is line_with_lf_added p.0 line (lf_is_not_added_to_ended_line line h))
 
 pub end_line_past_limit_is_too_large : (policy : LoadedPolicy) (f : ℕ) (line : List ℕ) → f < length policy.files → IsLastLineOfFile policy f line → ends_in_lf line ≡ false → line_limit ≤ length line
     → step (EndLine f) policy ≡ Err TooLarge
 end_line_past_limit_is_too_large policy f line here is h long =
     let p = lines_with_last_are_front_and_last (line_texts_of_file policy f) line is in
-    refused_end_line_has_fault_of_lines policy f TooLarge here (ap (λ z. lines_after_end_change (lines_with_last_changed line_with_lf_added z)) p.1
+    refused_end_line_has_fault_of_lines policy f TooLarge here (ap (λ z. changed_lines_unless_last_too_long (lines_with_last_changed line_with_lf_added z)) p.1
     ∙ too_long_end_change_is_too_large line_with_lf_added p.0 line (line ++ 10 ∷ []) (lf_is_added_to_line_lacking_it line h) (omega (arith, long, length-append line (10 ∷ []))))
 
 pub open_end_of_short_line_is_refused : (policy : LoadedPolicy) (f : ℕ) (line : List ℕ) → f < length policy.files → IsLastLineOfFile policy f line → length line < 2 → step (OpenEnd f) policy ≡ Err EndAsIs
 open_end_of_short_line_is_refused policy f line here is h =
     let p = lines_with_last_are_front_and_last (line_texts_of_file policy f) line is in
-    refused_open_end_has_fault_of_lines policy f EndAsIs here (ap (λ z. lines_after_end_change (lines_with_last_changed line_with_lf_removed z)) p.1 ∙ refused_end_change_is_end_as_is line_with_lf_removed p.0 line (lf_is_not_removed_from_short_line line h))
+    refused_open_end_has_fault_of_lines policy f EndAsIs here (ap (λ z. changed_lines_unless_last_too_long (lines_with_last_changed line_with_lf_removed z)) p.1 ∙ refused_end_change_is_end_as_is line_with_lf_removed p.0 line (lf_is_not_removed_from_short_line line h))
 
 pub open_end_of_open_line_is_refused : (policy : LoadedPolicy) (f : ℕ) (line : List ℕ) → f < length policy.files → IsLastLineOfFile policy f line → ends_in_lf line ≡ false → step (OpenEnd f) policy ≡ Err EndAsIs
 open_end_of_open_line_is_refused policy f line here is h =
     let p = lines_with_last_are_front_and_last (line_texts_of_file policy f) line is in
-    refused_open_end_has_fault_of_lines policy f EndAsIs here (ap (λ z. lines_after_end_change (lines_with_last_changed line_with_lf_removed z)) p.1 ∙ refused_end_change_is_end_as_is line_with_lf_removed p.0 line (lf_is_not_removed_from_open_line line h))
+    refused_open_end_has_fault_of_lines policy f EndAsIs here (ap (λ z. changed_lines_unless_last_too_long (lines_with_last_changed line_with_lf_removed z)) p.1 ∙ refused_end_change_is_end_as_is line_with_lf_removed p.0 line (lf_is_not_removed_from_open_line line h))
 
 -- what refuses the files with these bytes refuses the edit that leads to these lines
 pub refusal_of_changed_files_refuses_edit : (edit back : Edit) (inverse : List Edit) (policy : LoadedPolicy) (f : ℕ) (new : LineTexts) (text : List ℕ) (fault : EditFault) → EditSetsFileLines edit back inverse policy f new
@@ -196,7 +196,7 @@ number_of_last_line_is_below_count policy f line is = slice_get_within (line_tex
 -- What is so of a file whose last line lacks LF, which can be put behind it.
 pub record IsFileLackingFinalLf (policy : LoadedPolicy) (f : ℕ) (line : List ℕ) : Type 0 where
   pub here : f < length policy.files
-  pub sound : AreSoundFileLines (line_texts_of_file policy f)
+  pub sound : AreLogicalLinesOfFileWithinTextLimit (line_texts_of_file policy f)
   pub last : IsLastLineOfFile policy f line
   pub lacks : ends_in_lf line ≡ false
   pub short : length line < line_limit
@@ -205,7 +205,7 @@ pub record IsFileLackingFinalLf (policy : LoadedPolicy) (f : ℕ) (line : List �
 abbrev pub lines_with_final_lf : LoadedPolicy → ℕ → List ℕ → LineTexts
 lines_with_final_lf policy f line = lines_with_one_replaced (length (line_texts_of_file policy f) - 1) (line ++ 10 ∷ []) (line_texts_of_file policy f)
 
-module _ (law : FinalLfLaws) (policy : LoadedPolicy) (f : ℕ) (line : List ℕ) (is : IsFileLackingFinalLf policy f line) where
+module _ (law : LawsBehindFinalLfEdits) (policy : LoadedPolicy) (f : ℕ) (line : List ℕ) (is : IsFileLackingFinalLf policy f line) where
   abbrev front : LineTexts
   front = (lines_with_last_are_front_and_last (line_texts_of_file policy f) line is.last).0
 
@@ -228,12 +228,12 @@ module _ (law : FinalLfLaws) (policy : LoadedPolicy) (f : ℕ) (line : List ℕ)
   end_lands = record {
     here = is.here;
     ended = ap has_inner_line_without_lf new_is ∙ sym (last_line_does_not_decide_inner_lf front line (line ++ 10 ∷ [])) ∙ open_none;
-    forth = accepted_end_line_sets_file_lines policy f (lines_with_final_lf policy f line) is.here (ap (λ z. lines_after_end_change (lines_with_last_changed line_with_lf_added z)) old_is
+    forth = accepted_end_line_sets_file_lines policy f (lines_with_final_lf policy f line) is.here (ap (λ z. changed_lines_unless_last_too_long (lines_with_last_changed line_with_lf_added z)) old_is
         ∙ end_change_of_last_line_is_accepted line_with_lf_added front line (line ++ 10 ∷ []) (lf_is_added_to_line_lacking_it line is.lacks) (omega (arith, is.short, length-append line (10 ∷ [])))
         ∙ ap (λ (z : LineTexts). Ok z) (sym new_is));
     inverse_is = refl;
     back_is = refl;
-    back = λ after loaded there same. accepted_open_end_sets_file_lines after f (line_texts_of_file policy f) there (ap (λ z. lines_after_end_change (lines_with_last_changed line_with_lf_removed z)) (same ∙ new_is)
+    back = λ after loaded there same. accepted_open_end_sets_file_lines after f (line_texts_of_file policy f) there (ap (λ z. changed_lines_unless_last_too_long (lines_with_last_changed line_with_lf_removed z)) (same ∙ new_is)
         ∙ end_change_of_last_line_is_accepted line_with_lf_removed front (line ++ 10 ∷ []) line (lf_is_removed_from_nonempty_line line (λ e. omega (arith, size.0, ap length e))) size.1
         ∙ ap (λ (z : LineTexts). Ok z) (sym old_is));
   }
@@ -261,7 +261,7 @@ ended_line_is_body_and_lf line long h =
 -- What is so of a file whose last line has more than LF, which can be taken from it.
 pub record IsFileWithFinalLf (policy : LoadedPolicy) (f : ℕ) (line : List ℕ) : Type 0 where
   pub here : f < length policy.files
-  pub sound : AreSoundFileLines (line_texts_of_file policy f)
+  pub sound : AreLogicalLinesOfFileWithinTextLimit (line_texts_of_file policy f)
   pub last : IsLastLineOfFile policy f line
   pub has : ends_in_lf line ≡ true
   pub long : 2 ≤ length line
@@ -270,7 +270,7 @@ pub record IsFileWithFinalLf (policy : LoadedPolicy) (f : ℕ) (line : List ℕ)
 abbrev pub lines_without_final_lf : LoadedPolicy → ℕ → List ℕ → LineTexts
 lines_without_final_lf policy f line = lines_with_one_replaced (length (line_texts_of_file policy f) - 1) (take (length line - 1) line) (line_texts_of_file policy f)
 
-module _ (law : FinalLfLaws) (policy : LoadedPolicy) (f : ℕ) (line : List ℕ) (is : IsFileWithFinalLf policy f line) where
+module _ (law : LawsBehindFinalLfEdits) (policy : LoadedPolicy) (f : ℕ) (line : List ℕ) (is : IsFileWithFinalLf policy f line) where
   abbrev before : LineTexts
   before = (lines_with_last_are_front_and_last (line_texts_of_file policy f) line is.last).0
 
@@ -314,12 +314,12 @@ module _ (law : FinalLfLaws) (policy : LoadedPolicy) (f : ℕ) (line : List ℕ)
   open_lands = record {
     here = is.here;
     ended = ap has_inner_line_without_lf becomes ∙ last_line_does_not_decide_inner_lf before body (body ++ 10 ∷ []) ∙ none_open;
-    forth = accepted_open_end_sets_file_lines policy f (lines_without_final_lf policy f line) is.here (ap (λ z. lines_after_end_change (lines_with_last_changed line_with_lf_removed z)) was
+    forth = accepted_open_end_sets_file_lines policy f (lines_without_final_lf policy f line) is.here (ap (λ z. changed_lines_unless_last_too_long (lines_with_last_changed line_with_lf_removed z)) was
         ∙ end_change_of_last_line_is_accepted line_with_lf_removed before (body ++ 10 ∷ []) body (lf_is_removed_from_nonempty_line body some) (omega (arith, short, length-append body (10 ∷ [])))
         ∙ ap (λ (z : LineTexts). Ok z) (sym becomes));
     inverse_is = refl;
     back_is = refl;
-    back = λ after loaded there same. accepted_end_line_sets_file_lines after f (line_texts_of_file policy f) there (ap (λ z. lines_after_end_change (lines_with_last_changed line_with_lf_added z)) (same ∙ becomes)
+    back = λ after loaded there same. accepted_end_line_sets_file_lines after f (line_texts_of_file policy f) there (ap (λ z. changed_lines_unless_last_too_long (lines_with_last_changed line_with_lf_added z)) (same ∙ becomes)
         ∙ end_change_of_last_line_is_accepted line_with_lf_added before body (body ++ 10 ∷ []) (lf_is_added_to_line_lacking_it body (cut_so after loaded).1) short
         ∙ ap (λ (z : LineTexts). Ok z) (sym was));
   }

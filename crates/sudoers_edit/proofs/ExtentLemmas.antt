@@ -1,6 +1,6 @@
 -- How one more in a line is taken out again, and how one that was taken out comes back.
-use Rattle.sudoers_edit.proofs.Common.{Bool, ByteExtent, Def, EditFault, Kind, LineTexts, List, Node, Result, Some, arith, extents_of_definitions, false, has_exact_owned_bytes, has_one_definition_more, le-ltb}
-use Rattle.sudoers_edit.proofs.Common.{length, lt-leb, ne_eqb, owned_bytes_start, owned_bytes_stop, refl, result_at_owned_bytes, result_at_splice_offset, true, ℕ, ◌&&◌, ◌≡◌}
+use Rattle.sudoers_edit.proofs.Common.{Bool, ByteExtent, Def, EditFault, Kind, LineTexts, List, Node, Result, Some, arith, extents_of_definitions, false, are_owned_byte_offsets_in_both_lists, has_one_definition_more, le-ltb}
+use Rattle.sudoers_edit.proofs.Common.{length, lt-leb, ne_eqb, owned_bytes_start, owned_bytes_stop, refl, result_with_bytes_to_drop_item, result_with_offset_to_add_item, true, ℕ, ◌&&◌, ◌≡◌}
 use Rattle.sudoers_grammar.specs.Node as node
 use Rattle.sudoers_edit.proofs.SpliceLemmas.{option_told_equal_is_number, owned_start_implies_number_within_items, owned_stop_implies_one_of_several}
 
@@ -16,7 +16,7 @@ pub record AreExactlyOwnedBytes (at from to : ℕ) (more less : List ByteExtent)
   pub stops : owned_bytes_stop at more ≡ Some to
   pub fits : owned_bytes_start at less ≡ Some from
 
-pub exact_owned_bytes_have_start_and_stop : (at from to : ℕ) (more less : List ByteExtent) → has_exact_owned_bytes at from to more less ≡ true → AreExactlyOwnedBytes at from to more less
+pub exact_owned_bytes_have_start_and_stop : (at from to : ℕ) (more less : List ByteExtent) → are_owned_byte_offsets_in_both_lists at from to more less ≡ true → AreExactlyOwnedBytes at from to more less
 exact_owned_bytes_have_start_and_stop at from to more less h =
     let outer = conjunction_implies_both _ _ h in
     let inner = conjunction_implies_both _ _ outer.0 in
@@ -28,11 +28,11 @@ exact_owned_bytes_have_start_and_stop at from to more less h =
 
 -- ONE MORE AMONG OTHERS
 
-pub result_at_splice_offset_is_next : (at from : ℕ) (xs : List ByteExtent) (next : ℕ → Result LineTexts EditFault) → owned_bytes_start at xs ≡ Some from → result_at_splice_offset at xs next ≡ next from
+pub result_at_splice_offset_is_next : (at from : ℕ) (xs : List ByteExtent) (next : ℕ → Result LineTexts EditFault) → owned_bytes_start at xs ≡ Some from → result_with_offset_to_add_item at xs next ≡ next from
 result_at_splice_offset_is_next at from xs next here = rw (le-ltb (length xs) at (owned_start_implies_number_within_items xs at from here), here) refl
 
 pub result_at_owned_bytes_is_next : (at from to : ℕ) (xs : List ByteExtent) (next : ℕ → ℕ → Result LineTexts EditFault) → owned_bytes_start at xs ≡ Some from → owned_bytes_stop at xs ≡ Some to
-    → result_at_owned_bytes at xs next ≡ next from to
+    → result_with_bytes_to_drop_item at xs next ≡ next from to
 result_at_owned_bytes_is_next at from to xs next here there =
     let within = owned_stop_implies_one_of_several xs at to there in
     rw (lt-leb (length xs) at within.0, ne_eqb (length xs) 1 (λ e. absurd (omega (arith, e, within.1))), here, there) refl

@@ -1,5 +1,5 @@
 -- The laws of loaded files of the crates below, on which edits rest.
-use Rattle.sudoers_edit.proofs.Common.{AllByRecursion, AreApplicableChanges, AreDefinedNamesValid, AreFilesMapped, CanReplaceFiles, FirstChangeLaw, IsCorrectlyParsed, IsMappedWalk, Line, LineChange, LineMapping}
+use Rattle.sudoers_edit.proofs.Common.{AllByRecursion, AreApplicableChanges, AreDefinedNamesValid, AreFilesMapped, CanReplaceFiles, FirstChangeLaw, IsCorrectlyParsed, IsMappedWalk, Line, LineChange, LineToLinesMapping}
 use Rattle.sudoers_edit.proofs.Common.{List, LoadedPolicy, MakeMappedLines, NamedFile, None, Ok, ParsedFile, WalkState, line_cut_as_itself_is_logical_line, loaded_policy_keeps_names_and_bytes, changes_of_file, cut_outcome_of_text, file_names}
 use Rattle.sudoers_edit.proofs.Common.{files_after_changes, first_change_splits_changed_lines, computed_logical_line_is_logical_line, join, length, lines_after_changes, join_is_cut_into_its_lines, lines_of_numbered_file, lines_of_cut_text_are_cut_alone, map, mapped_lines_at_spots}
 use Rattle.sudoers_edit.proofs.Common.{named_file_of_parsed, named_files_of_policy, computed_line_outcome_is_line_outcome, policy_or_load_fault, refl, texts_of_lines, walk_or_fault_of_files, lines_cut_as_themselves_are_logical, ℕ, ◌+◌, ◌≡◌}
@@ -55,7 +55,7 @@ changed_files_have_changed_lines changes old new loaded can is =
     (λ f. lines_cut_as_themselves_are_logical line_cut_as_itself_is_logical_line computed_logical_line_is_logical_line (texts_of_lines (lines_of_numbered_file old.files f))
     (lines_of_cut_text_are_cut_alone (join (texts_of_lines (lines_of_numbered_file old.files f))) (texts_of_lines (lines_of_numbered_file old.files f)) (loaded_lines_are_cut_of_their_text (named_files_of_policy old) old loaded f)).0)
 
-pub changed_files_have_mapped_walk : (g : LineMapping) (changes : List LineChange) (old new : LoadedPolicy) → policy_or_load_fault (named_files_of_policy old) ≡ Ok old → AreApplicableChanges changes old.files
+pub changed_files_have_mapped_walk : (g : LineToLinesMapping) (changes : List LineChange) (old new : LoadedPolicy) → policy_or_load_fault (named_files_of_policy old) ≡ Ok old → AreApplicableChanges changes old.files
     → policy_or_load_fault (files_after_changes changes old.files) ≡ Ok new → MakeMappedLines g changes old.files old.walk → IsMappedWalk g old.walk new.walk
 changed_files_have_mapped_walk g changes old new loaded can is made =
     let files : List NamedFile = files_after_changes changes old.files in
@@ -64,7 +64,7 @@ changed_files_have_mapped_walk g changes old new loaded can is made =
     (loaded_file_lines_are_correctly_parsed files new is) (loaded_files_have_no_fault files new is) made in
     walk_found_of_mapped_files_is_mapped_walk g old.files new.files old.walk new.walk (loaded_walk_is_walk_of_files (named_files_of_policy old) old loaded) are (loaded_walk_is_walk_of_files files new is)
 
-pub mapped_files_load_with_mapped_walk : (g : LineMapping) (policy : LoadedPolicy) (others : List ParsedFile) → policy_or_load_fault (named_files_of_policy policy) ≡ Ok policy
+pub mapped_files_load_with_mapped_walk : (g : LineToLinesMapping) (policy : LoadedPolicy) (others : List ParsedFile) → policy_or_load_fault (named_files_of_policy policy) ≡ Ok policy
     → AreFilesMapped g policy.files others policy.walk → CanReplaceFiles policy.files others policy.walk
     → AreDefinedNamesValid (mapped_lines_at_spots g policy.walk.spots policy.walk.lines)
     → (other : WalkState) × (policy_or_load_fault (map named_file_of_parsed others) ≡ Ok (record { files = others; walk = other })) × (walk_or_fault_of_files others ≡ Ok other)

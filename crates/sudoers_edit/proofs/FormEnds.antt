@@ -1,8 +1,8 @@
 -- What pieces end with: no line end; and what stands behind a broken one.
 use Rattle.sudoers_edit.proofs.Common.{Argument, Bool, Byte, CommandPath, LineUnit, List, Mark, NonUnixGroup, Number, Operator, QuotedPart, Run, TokenForm, TokenKind, [], and_parts, ap, argument_units_size, arith}
-use Rattle.sudoers_edit.proofs.Common.{backslash_unit_size_by, closed_quote_size, drop, drop-drop, ends_in_lf, eqb-true, escape_size_of_unit, false, first_nonzero_number, has_given_first_byte, if◌then◌else◌, inl}
+use Rattle.sudoers_edit.proofs.Common.{backslash_unit_size_by, closed_quote_size, drop, drop-drop, ends_in_lf, eqb-true, pair_or_continuation_size_of_unit, false, first_nonzero_number, has_given_first_byte, if◌then◌else◌, inl}
 use Rattle.sudoers_edit.proofs.Common.{inr, is_argument_of_size, is_hash_id, is_id_position_after_units, is_non_unix_group_word, is_nonempty_run, is_numeric_id, is_optional_colon_id, is_piece_of_form, is_quoted_byte}
-use Rattle.sudoers_edit.proofs.Common.{is_separator, leading_run_size, leb_tells, length, length-drop, ltb-true, nat_lt, nat_tests, not, plus_or_minus_equals_size, quote_before_separator_size, quoted_run_size}
+use Rattle.sudoers_edit.proofs.Common.{is_comma_colon_or_equals, leading_run_size, leb_tells, length, length-drop, ltb-true, nat_lt, nat_tests, not, plus_or_minus_equals_size, quoted_front_to_inner_separator_size, quotes_and_run_between_size}
 use Rattle.sudoers_edit.proofs.Common.{reach_of_units, reach_past_first_byte, refl, run_unit_size, subst, suc, sym, take, take_all, true, unit_after_backslash, zero, ℕ, ◌&&◌, ◌+◌, ◌<◌, ◌||◌, ◌∙◌, ◌∷◌, ◌≡◌, ◌≤◌, ◌⊎◌}
 use Rattle.std.specs.Prelude.{◌==◌}
 use Rattle.sudoers_text.specs.declared.part.ByteRunKind.{ByteRunKind}
@@ -148,7 +148,7 @@ quoted_part_ends_before_final_lf k before bytes n inside is ends =
 
 abbrev pub begins_with_separator : List ℕ → Bool
 begins_with_separator [] = false
-begins_with_separator (b ∷ rest) = is_separator b
+begins_with_separator (b ∷ rest) = is_comma_colon_or_equals b
 
 -- where a part without separators stops before the quote that closes one with them
 clean_part_before_quote_stops_at_separator : (k : ℕ) (xs : List ℕ) → has_given_first_byte 34 (drop (reach_of_units (run_unit_size rule.Clean) k xs) xs) ≡ false
@@ -156,7 +156,7 @@ clean_part_before_quote_stops_at_separator : (k : ℕ) (xs : List ℕ) → has_g
 clean_part_before_quote_stops_at_separator zero [] clean quote = absurd (cc)
 clean_part_before_quote_stops_at_separator (suc k) [] clean quote = absurd (cc)
 clean_part_before_quote_stops_at_separator (suc k) (b ∷ xs) clean quote = clean_part_before_quote_stops_at_separator k xs clean quote
-clean_part_before_quote_stops_at_separator zero (b ∷ xs) clean quote = by (is_quoted_byte b) (is_separator b) refl (backslash_unit_size_by escape_size_of_unit (b ∷ xs)) refl clean quote (λ k. clean_part_before_quote_stops_at_separator k xs)
+clean_part_before_quote_stops_at_separator zero (b ∷ xs) clean quote = by (is_quoted_byte b) (is_comma_colon_or_equals b) refl (backslash_unit_size_by pair_or_continuation_size_of_unit (b ∷ xs)) refl clean quote (λ k. clean_part_before_quote_stops_at_separator k xs)
   where
     Goal : ℕ → ℕ → Type 0
     Goal m n =
@@ -166,18 +166,18 @@ clean_part_before_quote_stops_at_separator zero (b ∷ xs) clean quote = by (is_
         → has_given_first_byte 34 (drop (reach_of_units (run_unit_size rule.Quote) k xs) xs) ≡ true → begins_with_separator (drop (reach_of_units (run_unit_size rule.Clean) k xs) xs) ≡ true)
         → begins_with_separator (drop (reach_past_first_byte m (λ k. reach_of_units (run_unit_size rule.Clean) k xs)) (b ∷ xs)) ≡ true
 
-    by : (q s : Bool) → is_separator b ≡ s → (e : ℕ) → backslash_unit_size_by escape_size_of_unit (b ∷ xs) ≡ e
+    by : (q s : Bool) → is_comma_colon_or_equals b ≡ s → (e : ℕ) → backslash_unit_size_by pair_or_continuation_size_of_unit (b ∷ xs) ≡ e
         → Goal (first_nonzero_number (if q && not s then 1 else 0) e) (first_nonzero_number (if q then 1 else 0) e)
     by true true is zero e clean quote later = is
     by true true is (suc e) same clean quote later = absurd (backslash b is same)
       where
-        backslash : (c : ℕ) → is_separator c ≡ true → backslash_unit_size_by escape_size_of_unit (c ∷ xs) ≡ suc e → ⊥
+        backslash : (c : ℕ) → is_comma_colon_or_equals c ≡ true → backslash_unit_size_by pair_or_continuation_size_of_unit (c ∷ xs) ≡ suc e → ⊥
         backslash c sep size = other (c == 92) refl size
           where
-            other : (t : Bool) → (c == 92) ≡ t → (if t then escape_size_of_unit (unit_after_backslash xs) else 0) ≡ suc e → ⊥
+            other : (t : Bool) → (c == 92) ≡ t → (if t then pair_or_continuation_size_of_unit (unit_after_backslash xs) else 0) ≡ suc e → ⊥
             other true at h =
                 let there : c ≡ 92 = eqb-true c 92 at in
-                true_is_not_false (is_separator c) sep (subst (λ x. is_separator x ≡ false) (sym there) refl)
+                true_is_not_false (is_comma_colon_or_equals c) sep (subst (λ x. is_comma_colon_or_equals x ≡ false) (sym there) refl)
             other false at h = absurd (omega (arith, h))
     by true false is e same clean quote later = later 0 clean quote
     by false true is zero same clean quote later = true_is_not_false (b == 34) quote clean
@@ -188,8 +188,8 @@ clean_part_before_quote_stops_at_separator zero (b ∷ xs) clean quote = by (is_
 drop_of_next_number_skips_first : (n b : ℕ) (xs : List ℕ) → drop (n + 1) (b ∷ xs) ≡ drop n xs
 drop_of_next_number_skips_first n b xs = let same : n + 1 ≡ suc n = omega arith in rw same refl
 
-pub broken_quote_stops_at_separator : (bytes : List ℕ) → 0 < quote_before_separator_size bytes → begins_with_separator (drop (quote_before_separator_size bytes) bytes) ≡ true
-unfolding quote_before_separator_size quoted_run_size leading_run_size
+pub broken_quote_stops_at_separator : (bytes : List ℕ) → 0 < quoted_front_to_inner_separator_size bytes → begins_with_separator (drop (quoted_front_to_inner_separator_size bytes) bytes) ≡ true
+unfolding quoted_front_to_inner_separator_size quotes_and_run_between_size leading_run_size
 broken_quote_stops_at_separator [] some = absurd (omega (arith, some))
 broken_quote_stops_at_separator (b ∷ rest) some =
     by (b == 34) (has_given_first_byte 34 (drop (leading_run_size rule.Clean rest) rest)) (has_given_first_byte 34 (drop (leading_run_size rule.Quote rest) rest)) refl refl some
@@ -236,15 +236,15 @@ argument_is_complete_or_before_separator bytes n is = by (argument_units_size (t
     w : ℕ
     w = argument_units_size (take n bytes)
 
-    by : (t : Bool) → (w == n) ≡ t → (t || (nat_lt 0 (quote_before_separator_size (drop w bytes)) && (w + quote_before_separator_size (drop w bytes) == n))) ≡ true
+    by : (t : Bool) → (w == n) ≡ t → (t || (nat_lt 0 (quoted_front_to_inner_separator_size (drop w bytes)) && (w + quoted_front_to_inner_separator_size (drop w bytes) == n))) ≡ true
         → ((w == n) ≡ true) ⊎ (begins_with_separator (drop n bytes) ≡ true)
     by true same h = inl same
     by false same h =
-        let parts = and_parts (nat_lt 0 (quote_before_separator_size (drop w bytes))) (w + quote_before_separator_size (drop w bytes) == n) h in
-        let size : w + quote_before_separator_size (drop w bytes) ≡ n = eqb-true (w + quote_before_separator_size (drop w bytes)) n parts.1 in
+        let parts = and_parts (nat_lt 0 (quoted_front_to_inner_separator_size (drop w bytes))) (w + quoted_front_to_inner_separator_size (drop w bytes) == n) h in
+        let size : w + quoted_front_to_inner_separator_size (drop w bytes) ≡ n = eqb-true (w + quoted_front_to_inner_separator_size (drop w bytes)) n parts.1 in
         inr (ap (λ m. begins_with_separator (drop m bytes)) (sym size)
-        ∙ ap begins_with_separator (sym (successive_drops_are_one_drop w (quote_before_separator_size (drop w bytes)) bytes))
-        ∙ broken_quote_stops_at_separator (drop w bytes) (ltb-true 0 (quote_before_separator_size (drop w bytes)) parts.0))
+        ∙ ap begins_with_separator (sym (successive_drops_are_one_drop w (quoted_front_to_inner_separator_size (drop w bytes)) bytes))
+        ∙ broken_quote_stops_at_separator (drop w bytes) (ltb-true 0 (quoted_front_to_inner_separator_size (drop w bytes)) parts.0))
 
 pub argument_ends_before_final_lf : EndsBeforeFinalLf Argument
 argument_ends_before_final_lf before bytes n inside is ends = by (argument_is_complete_or_before_separator bytes n parts.1)

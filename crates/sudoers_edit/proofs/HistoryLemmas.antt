@@ -1,5 +1,5 @@
 -- What a journal's entries say of the whole run.
-use Rattle.sudoers_edit.proofs.Common.{Edit, EditFault, EditorState, Err, IsSomeAnd, IsUndoableJournal, JournalEntry, List, LoadedPolicy, None, Ok, Option, Result, Some, [], ap, append-nil, append_assoc, drop}
+use Rattle.sudoers_edit.proofs.Common.{Edit, EditFault, EditorState, Err, IsSomeAnd, IsUndoableJournal, AppliedEditWithInverse, List, LoadedPolicy, None, Ok, Option, Result, Some, [], ap, append-nil, append_assoc, drop}
 use Rattle.sudoers_edit.proofs.Common.{drop_more, edits_of_entries, initial_policy_of_editor, inv, inv_run, length, map-append, next_or_placed_refusal, option_and_then, policy_after_edit_if_accepted}
 use Rattle.sudoers_edit.proofs.Common.{policy_before_entries, policy_or_first_refusal, refl, result_ok, result_unwrap_or, reverse, reverse-append, reverse-reverse, run, slice_index_or, step, subst, sym, take}
 use Rattle.sudoers_edit.proofs.Common.{take_more, unwrap_or, ℕ, ◌++◌, ◌+◌, ◌<◌, ◌∙◌, ◌∷◌, ◌≡◌}
@@ -31,15 +31,15 @@ inverse_of_joined_runs_is_reversed_inverses (e ∷ es) fs ls m h =
 
 -- The entries, the newest first: the edits lead from the first lines to the present ones, what takes them back is the list
 -- of their inverses, and that leads back.
-pub record IsHistoryOfEntries (first : LoadedPolicy) (entries : List JournalEntry) (now : LoadedPolicy) : Type 0 where
+pub record IsHistoryOfEntries (first : LoadedPolicy) (entries : List AppliedEditWithInverse) (now : LoadedPolicy) : Type 0 where
   pub forth : run (edits_of_entries (reverse entries)) first ≡ Some now
-  pub inverses : inv_run (edits_of_entries (reverse entries)) first ≡ flat_map (λ (e : JournalEntry). e.inverse) entries
-  pub back : run (flat_map (λ (e : JournalEntry). e.inverse) entries) now ≡ Some first
+  pub inverses : inv_run (edits_of_entries (reverse entries)) first ≡ flat_map (λ (e : AppliedEditWithInverse). e.inverse) entries
+  pub back : run (flat_map (λ (e : AppliedEditWithInverse). e.inverse) entries) now ≡ Some first
 
-edits_of_newest_entry_are_last : (e : JournalEntry) (es : List JournalEntry) → edits_of_entries (reverse (e ∷ es)) ≡ edits_of_entries (reverse es) ++ e.edit ∷ []
-edits_of_newest_entry_are_last e es = ap edits_of_entries (reverse-append (e ∷ []) es) ∙ map-append (λ (x : JournalEntry). x.edit) (reverse es) (e ∷ [])
+edits_of_newest_entry_are_last : (e : AppliedEditWithInverse) (es : List AppliedEditWithInverse) → edits_of_entries (reverse (e ∷ es)) ≡ edits_of_entries (reverse es) ++ e.edit ∷ []
+edits_of_newest_entry_are_last e es = ap edits_of_entries (reverse-append (e ∷ []) es) ∙ map-append (λ (x : AppliedEditWithInverse). x.edit) (reverse es) (e ∷ [])
 
-pub undoable_journal_has_history : (entries : List JournalEntry) (now : LoadedPolicy) → IsUndoableJournal entries now → IsHistoryOfEntries (policy_before_entries entries now) entries now
+pub undoable_journal_has_history : (entries : List AppliedEditWithInverse) (now : LoadedPolicy) → IsUndoableJournal entries now → IsHistoryOfEntries (policy_before_entries entries now) entries now
 undoable_journal_has_history [] now h = record { forth = refl; inverses = refl; back = refl }
 undoable_journal_has_history (e ∷ es) now h =
     let w = property_of_some_has_value (λ (before : LoadedPolicy). (step e.edit before ≡ Ok now) × (e.inverse ≡ inv e.edit before) × IsUndoableJournal es before) (run e.inverse now) h in
@@ -50,8 +50,8 @@ undoable_journal_has_history (e ∷ es) now h =
     let one : run (e.edit ∷ []) before ≡ Some now = ap (λ (r : Result LoadedPolicy EditFault). option_and_then (run []) (result_ok r)) w.2.0 in
     let edits : edits_of_entries (reverse (e ∷ es)) ≡ edits_of_entries (reverse es) ++ e.edit ∷ [] = edits_of_newest_entry_are_last e es in
     let forth : run (edits_of_entries (reverse (e ∷ es))) first ≡ Some now = ap (λ z. run z first) edits ∙ run_of_joined_edits_is_sequenced (edits_of_entries (reverse es)) (e.edit ∷ []) first ∙ ap (option_and_then (run (e.edit ∷ []))) rest.forth ∙ one in
-    let inverses : inv_run (edits_of_entries (reverse (e ∷ es))) first ≡ e.inverse ++ flat_map (λ (x : JournalEntry). x.inverse) es = ap (λ z. inv_run z first) edits ∙ inverse_of_joined_runs_is_reversed_inverses (edits_of_entries (reverse es)) (e.edit ∷ []) first before rest.forth ∙ ap (λ z. inv e.edit before ++ z) rest.inverses ∙ ap (λ z. z ++ flat_map (λ (x : JournalEntry). x.inverse) es) (sym w.2.1) in
-    let back : run (e.inverse ++ flat_map (λ (x : JournalEntry). x.inverse) es) now ≡ Some first = run_of_joined_edits_is_sequenced e.inverse (flat_map (λ (x : JournalEntry). x.inverse) es) now ∙ ap (option_and_then (run (flat_map (λ (x : JournalEntry). x.inverse) es))) w.1 ∙ rest.back in
+    let inverses : inv_run (edits_of_entries (reverse (e ∷ es))) first ≡ e.inverse ++ flat_map (λ (x : AppliedEditWithInverse). x.inverse) es = ap (λ z. inv_run z first) edits ∙ inverse_of_joined_runs_is_reversed_inverses (edits_of_entries (reverse es)) (e.edit ∷ []) first before rest.forth ∙ ap (λ z. inv e.edit before ++ z) rest.inverses ∙ ap (λ z. z ++ flat_map (λ (x : AppliedEditWithInverse). x.inverse) es) (sym w.2.1) in
+    let back : run (e.inverse ++ flat_map (λ (x : AppliedEditWithInverse). x.inverse) es) now ≡ Some first = run_of_joined_edits_is_sequenced e.inverse (flat_map (λ (x : AppliedEditWithInverse). x.inverse) es) now ∙ ap (option_and_then (run (flat_map (λ (x : AppliedEditWithInverse). x.inverse) es))) w.1 ∙ rest.back in
     subst (λ (f : LoadedPolicy). IsHistoryOfEntries f (e ∷ es) now) (sym begin) (record { forth = forth; inverses = inverses; back = back })
 
 -- a run that nothing refuses is accepted edit by edit
@@ -73,8 +73,8 @@ pub refusal_of_rest_after_accepted_edit : (es : List Edit) (k : ℕ) (d : Edit) 
 refusal_of_rest_after_accepted_edit es k d m n l one =
     ap (λ z. policy_or_first_refusal k z m) (drop_more es k d l) ∙ ap (next_or_placed_refusal (policy_or_first_refusal (k + 1) (drop (k + 1) es)) k) one
 
-pub edits_of_appended_entry_are_appended : (journal : List JournalEntry) (e : JournalEntry) → edits_of_entries (journal ++ e ∷ []) ≡ edits_of_entries journal ++ e.edit ∷ []
-edits_of_appended_entry_are_appended journal e = map-append (λ (x : JournalEntry). x.edit) journal (e ∷ [])
+pub edits_of_appended_entry_are_appended : (journal : List AppliedEditWithInverse) (e : AppliedEditWithInverse) → edits_of_entries (journal ++ e ∷ []) ≡ edits_of_entries journal ++ e.edit ∷ []
+edits_of_appended_entry_are_appended journal e = map-append (λ (x : AppliedEditWithInverse). x.edit) journal (e ∷ [])
 
 -- an editor's list of inverses
 pub undoable_editor_has_history : (d : EditorState) → IsUndoableJournal (reverse d.journal) d.policy → IsHistoryOfEntries (initial_policy_of_editor d) (reverse d.journal) d.policy
@@ -86,7 +86,7 @@ pub record UndoesWholeJournal (d : EditorState) (edits : List Edit) : Type 0 whe
   pub restores : run edits d.policy ≡ Some (initial_policy_of_editor d)
   pub accepted : policy_or_first_refusal 0 edits d.policy ≡ Ok (initial_policy_of_editor d)
 
-pub inverses_of_journal_undo_editor : (d : EditorState) → IsUndoableJournal (reverse d.journal) d.policy → (edits : List Edit) → edits ≡ flat_map (λ (e : JournalEntry). e.inverse) (reverse d.journal) → UndoesWholeJournal d edits
+pub inverses_of_journal_undo_editor : (d : EditorState) → IsUndoableJournal (reverse d.journal) d.policy → (edits : List Edit) → edits ≡ flat_map (λ (e : AppliedEditWithInverse). e.inverse) (reverse d.journal) → UndoesWholeJournal d edits
 inverses_of_journal_undo_editor d h edits is =
     let whole = undoable_editor_has_history d h in
     let back : run edits d.policy ≡ Some (initial_policy_of_editor d) = ap (λ z. run z d.policy) is ∙ whole.back in

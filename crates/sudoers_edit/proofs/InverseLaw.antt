@@ -3,7 +3,7 @@ use Rattle.sudoers_edit.proofs.Common.{AddDef, AddMember, AllByRecursion, Delete
 use Rattle.sudoers_edit.proofs.Common.{Ok, OpenEnd, Prune, PruneRemoval, Rename, Result, Some, [], ap, arith, edit_of_removal, edit_undoing_removal, edits_of_prune, edits_undoing_removals, inv, inv_run, length}
 use Rattle.sudoers_edit.proofs.Common.{length-append, map, named_files_of_policy, next_or_placed_refusal, option_and_then, policy_after_edit_if_accepted, policy_after_removal, policy_or_first_refusal}
 use Rattle.sudoers_edit.proofs.Common.{policy_or_load_fault, prune_removals_of_walk, refl, result_unwrap_or, run, run_result_without_place, step, subst, sym, ℕ, ◌++◌, ◌+◌, ◌∙◌, ◌∷◌, ◌≡◌}
-use Rattle.sudoers_edit.specs.declared.pruning.PruneRemoval.TheVariants as removal
+use Rattle.sudoers_edit.specs.declared.prune_removals.PruneRemoval.TheVariants as removal
 use Rattle.sudoers_edit.proofs.AcceptedLines.{AcceptedEditLaws, IsReversibleStep, IsReversibleWhereAccepted, accepted_insert_is_reversible, accepted_delete_is_reversible, accepted_move_is_reversible, accepted_end_line_is_reversible, accepted_open_end_is_reversible, accepted_rename_makes_files_that_load}
 use Rattle.sudoers_edit.proofs.AcceptedSplices.{accepted_add_def_is_reversible, accepted_drop_def_is_reversible, accepted_add_member_is_reversible, accepted_drop_member_is_reversible}
 use Rattle.sudoers_edit.proofs.HistoryLemmas.{run_of_joined_edits_is_sequenced, run_without_refusal_is_accepted}

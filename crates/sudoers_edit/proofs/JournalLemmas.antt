@@ -1,5 +1,5 @@
 -- The steps of a journal, of which the last is taken back.
-use Rattle.sudoers_edit.proofs.Common.{AreJournalReversals, AreRedoableEdits, Edit, EditFault, IsOkAnd, IsSomeAnd, IsUndoableJournal, JournalEntry, JournalStep, List, LoadedPolicy, Ok, Option, Result, Some, [], ap}
+use Rattle.sudoers_edit.proofs.Common.{AreJournalReversals, AreRedoableEdits, Edit, EditFault, IsOkAnd, IsSomeAnd, IsUndoableJournal, AppliedEditWithInverse, JournalStep, List, LoadedPolicy, Ok, Option, Result, Some, [], ap}
 use Rattle.sudoers_edit.proofs.Common.{arith, entries_of_steps, inv, length, length-append, map-append, refl, reverse, reverse-append, run, slice_get, step, subst, sym, unwrap_or, ◌++◌, ◌-◌, ◌∙◌, ◌∷◌, ◌≡◌}
 use Rattle.std.proofs.lemmas.List.Folds.{flat_map-map}
 use Rattle.std.specs.List.{flat_map}
@@ -30,10 +30,10 @@ entries_of_reversed_steps_are_reversed (one ∷ steps) =
     ∙ sym (reverse-append (one.entry ∷ []) (entries_of_steps steps))
 
 -- what takes the steps back, the last first
-pub inverses_of_steps_are_those_of_entries : (steps : List JournalStep) → flat_map (λ (one : JournalStep). one.entry.inverse) (reverse steps) ≡ flat_map (λ (entry : JournalEntry). entry.inverse) (reverse (entries_of_steps steps))
+pub inverses_of_steps_are_those_of_entries : (steps : List JournalStep) → flat_map (λ (one : JournalStep). one.entry.inverse) (reverse steps) ≡ flat_map (λ (entry : AppliedEditWithInverse). entry.inverse) (reverse (entries_of_steps steps))
 inverses_of_steps_are_those_of_entries steps =
-    sym (flat_map-map (λ (entry : JournalEntry). entry.inverse) (λ (one : JournalStep). one.entry) (reverse steps))
-    ∙ ap (flat_map (λ (entry : JournalEntry). entry.inverse)) (entries_of_reversed_steps_are_reversed steps)
+    sym (flat_map-map (λ (entry : AppliedEditWithInverse). entry.inverse) (λ (one : JournalStep). one.entry) (reverse steps))
+    ∙ ap (flat_map (λ (entry : AppliedEditWithInverse). entry.inverse)) (entries_of_reversed_steps_are_reversed steps)
 
 -- The last step leads back to the new lines, and those before it lead on from there.
 pub record IsLastStepTakenBack (all before : List JournalStep) (last : JournalStep) (now new : LoadedPolicy) : Type 0 where
@@ -64,7 +64,7 @@ undone_last_step_leaves_undoable_journal all before last now new ends undoable b
     stands =
         subst (λ (lines : Option LoadedPolicy). IsSomeAnd lines (λ (old : LoadedPolicy).
         (step last.entry.edit old ≡ Ok now) × (last.entry.inverse ≡ inv last.entry.edit old) × IsUndoableJournal (reverse (entries_of_steps before)) old)) leads
-        (subst (λ (entries : List JournalEntry). IsUndoableJournal entries now) newest undoable)
+        (subst (λ (entries : List AppliedEditWithInverse). IsUndoableJournal entries now) newest undoable)
 
     behind : AreJournalReversals (last ∷ reverse before) now
     behind = subst (λ (steps : List JournalStep). AreJournalReversals steps now) (ap reverse ends ∙ reverse-append before (last ∷ [])) backs

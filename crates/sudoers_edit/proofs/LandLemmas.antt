@@ -1,6 +1,6 @@
 -- Changes of the lines of one file: the files that they make, and the way back.
-use Rattle.sudoers_edit.proofs.Common.{AllByRecursion, AreApplicableChanges, AreChangesInFileOrder, AreChangesInOrder, AreChangesOfEdit, AreChangesOfFile, AreSoundFileLines, Bool, EachIsOneLineWhenCut, Edit}
-use Rattle.sudoers_edit.proofs.Common.{EditFault, EditSetsFileLines, LineChange, LineEditLaws, LineTexts, List, LoadedPolicy, NamedFile, Ok, OpenLine, ParsedFile, Result, Some, [], ap, ap₂, arith}
+use Rattle.sudoers_edit.proofs.Common.{AllByRecursion, AreApplicableChanges, AreFileNumbersOfChangesInOrder, AreChangesInOrder, AreChangesOfEdit, AreApplicableChangesOfFile, AreLogicalLinesOfFileWithinTextLimit, Bool, EachIsOneLineWhenCut, Edit}
+use Rattle.sudoers_edit.proofs.Common.{EditFault, EditSetsFileLines, LineChange, LawsBehindLineEdits, LineTexts, List, LoadedPolicy, NamedFile, Ok, OpenLine, ParsedFile, Result, Some, [], ap, ap₂, arith}
 use Rattle.sudoers_edit.proofs.Common.{changed_files_from_number, changes_of_file, cut_outcome_of_text, eq-eqb, eqb-true, false, file_number_of_change, files_after_changes, files_with_bytes_replaced}
 use Rattle.sudoers_edit.proofs.Common.{has_inner_line_without_lf, if◌then◌else◌, inl, inr, join, length, length-map, line_texts_of_file, lines_after_changes, lines_changed_from_number, lines_of_numbered_file, map}
 use Rattle.sudoers_edit.proofs.Common.{named_files_of_policy, named_of, ne_eqb, policy_of_files_or_refusal, policy_or_edit_fault, policy_or_load_fault, policy_with_file_lines, refl, result_ok, result_unless_refused}
@@ -9,7 +9,7 @@ use Rattle.std.specs.Prelude.{option_and_then}
 use Rattle.sudoers_edit.proofs.PolicyLemmas.{texts_are_as_many_as_lines}
 
 -- what the lines of each file of a policy are
-pub lines_of_loaded_file_are_sound : LineEditLaws → (policy : LoadedPolicy) → policy_or_load_fault (named_files_of_policy policy) ≡ Ok policy → (f : ℕ) → AreSoundFileLines (line_texts_of_file policy f)
+pub lines_of_loaded_file_are_sound : LawsBehindLineEdits → (policy : LoadedPolicy) → policy_or_load_fault (named_files_of_policy policy) ≡ Ok policy → (f : ℕ) → AreLogicalLinesOfFileWithinTextLimit (line_texts_of_file policy f)
 lines_of_loaded_file_are_sound laws policy loaded f =
     let is = laws.cut (named_files_of_policy policy) policy loaded f in
     let all = laws.alone (join (line_texts_of_file policy f)) (line_texts_of_file policy f) is in
@@ -34,7 +34,7 @@ changes_of_other_file_are_none f g (change ∷ changes) are other =
     let elsewhere : (file_number_of_change change == g) ≡ false = ne_eqb (file_number_of_change change) g (λ is. other (sym are.0 ∙ is)) in
     ap (λ t. if t then change ∷ changes_of_file g changes else changes_of_file g changes) elsewhere ∙ changes_of_other_file_are_none f g changes are.1 other
 
-one_file_changes_are_in_file_order : (f n count : ℕ) (changes : List LineChange) → AreChangesOfFileNumber f changes → n ≤ f → f < count → AreChangesInFileOrder n changes count
+one_file_changes_are_in_file_order : (f n count : ℕ) (changes : List LineChange) → AreChangesOfFileNumber f changes → n ≤ f → f < count → AreFileNumbersOfChangesInOrder n changes count
 one_file_changes_are_in_file_order f n count [] are less within = tt
 one_file_changes_are_in_file_order f n count (change ∷ changes) are less within =
     (omega (arith, are.0, less), omega (arith, are.0, within), one_file_changes_are_in_file_order f (file_number_of_change change) count changes are.1 (omega (arith, are.0)) within)
@@ -53,7 +53,7 @@ file_numbers_are_equal_or_not f g = by (f == g) refl
     by false e = inr (λ is. absurd (let t : (f == g) ≡ true = eq-eqb f g is in cc))
 
 -- they can be made, if the lines before and after are no open ones
-pub changes_of_one_file_are_applicable : (f : ℕ) (changes : List LineChange) (policy : LoadedPolicy) → f < length policy.files → AreChangesOfFile f changes (line_texts_of_file policy f)
+pub changes_of_one_file_are_applicable : (f : ℕ) (changes : List LineChange) (policy : LoadedPolicy) → f < length policy.files → AreApplicableChangesOfFile f changes (line_texts_of_file policy f)
     → has_inner_line_without_lf (lines_after_changes changes (line_texts_of_file policy f)) ≡ false → ((g : ℕ) → has_inner_line_without_lf (line_texts_of_file policy g) ≡ false)
     → AreApplicableChanges changes policy.files
 changes_of_one_file_are_applicable f changes policy here fits ended before = record {
@@ -161,7 +161,7 @@ pub accepted_edit_is_accepted_run : (edit : Edit) (policy new : LoadedPolicy) �
 accepted_edit_is_accepted_run edit policy new is = ap (λ (r : Result LoadedPolicy EditFault). option_and_then (run []) (result_ok r)) is
 
 -- the policy with other lines of a file, and back
-pub former_lines_of_file_give_former_policy : LineEditLaws → (policy new : LoadedPolicy) (f : ℕ) (bytes : List ℕ) → policy_or_load_fault (named_files_of_policy policy) ≡ Ok policy
+pub former_lines_of_file_give_former_policy : LawsBehindLineEdits → (policy new : LoadedPolicy) (f : ℕ) (bytes : List ℕ) → policy_or_load_fault (named_files_of_policy policy) ≡ Ok policy
     → policy_or_load_fault (files_with_bytes_replaced f bytes (named_files_of_policy policy)) ≡ Ok new → policy_with_file_lines new f (line_texts_of_file policy f) ≡ Ok policy
 former_lines_of_file_give_former_policy laws policy new f bytes loaded is =
     let old : List ℕ = join (line_texts_of_file policy f) in
@@ -170,13 +170,13 @@ former_lines_of_file_give_former_policy laws policy new f bytes loaded is =
     ended_lines_give_policy_of_loaded_files new f (line_texts_of_file policy f) (lines_of_loaded_file_are_sound laws policy loaded f).ended ∙ ap policy_of_files_or_refusal same ∙ ap policy_or_edit_fault loaded
 
 -- the file has the lines that the changes make, where the files with the changes are loaded
-pub loaded_file_has_changed_lines : LineEditLaws → (policy new : LoadedPolicy) (f : ℕ) (changes : List LineChange) → policy_or_load_fault (named_files_of_policy policy) ≡ Ok policy → AreApplicableChanges changes policy.files
+pub loaded_file_has_changed_lines : LawsBehindLineEdits → (policy new : LoadedPolicy) (f : ℕ) (changes : List LineChange) → policy_or_load_fault (named_files_of_policy policy) ≡ Ok policy → AreApplicableChanges changes policy.files
     → AreChangesOfFileNumber f changes → policy_or_load_fault (files_after_changes changes policy.files) ≡ Ok new → line_texts_of_file new f ≡ lines_after_changes changes (line_texts_of_file policy f)
 loaded_file_has_changed_lines laws policy new f changes loaded can are is =
     laws.lines changes policy new loaded can is f ∙ ap (λ cs. lines_after_changes cs (line_texts_of_file policy f)) (changes_of_own_file_are_all f changes are)
 
 -- the policy with other bytes of a file has as many files
-pub replacement_of_bytes_keeps_loaded_file_count : LineEditLaws → (policy new : LoadedPolicy) (f : ℕ) (bytes : List ℕ) → policy_or_load_fault (files_with_bytes_replaced f bytes (named_files_of_policy policy)) ≡ Ok new
+pub replacement_of_bytes_keeps_loaded_file_count : LawsBehindLineEdits → (policy new : LoadedPolicy) (f : ℕ) (bytes : List ℕ) → policy_or_load_fault (files_with_bytes_replaced f bytes (named_files_of_policy policy)) ≡ Ok new
     → length new.files ≡ length policy.files
 replacement_of_bytes_keeps_loaded_file_count laws policy new f bytes is =
     sym (length-map new.files named_of) ∙ ap length (laws.bytes (files_with_bytes_replaced f bytes (named_files_of_policy policy)) new is)
@@ -195,7 +195,7 @@ file_with_replaced_bytes_has_them (suc f) bytes (new ∷ news) (old ∷ olds) sa
     file_with_replaced_bytes_has_them f bytes news olds rest (omega (arith, here))
 
 -- the lines of a file that is loaded with other bytes are those of the bytes
-pub loaded_lines_are_cut_of_replaced_bytes : LineEditLaws → (policy new : LoadedPolicy) (f : ℕ) (bytes : List ℕ) → f < length policy.files → policy_or_load_fault (files_with_bytes_replaced f bytes (named_files_of_policy policy)) ≡ Ok new
+pub loaded_lines_are_cut_of_replaced_bytes : LawsBehindLineEdits → (policy new : LoadedPolicy) (f : ℕ) (bytes : List ℕ) → f < length policy.files → policy_or_load_fault (files_with_bytes_replaced f bytes (named_files_of_policy policy)) ≡ Ok new
     → (cut_outcome_of_text bytes ≡ Ok (line_texts_of_file new f)) × EachIsOneLineWhenCut (line_texts_of_file new f)
 loaded_lines_are_cut_of_replaced_bytes laws policy new f bytes here is =
     let files : List NamedFile = files_with_bytes_replaced f bytes (named_files_of_policy policy) in
@@ -204,8 +204,8 @@ loaded_lines_are_cut_of_replaced_bytes laws policy new f bytes here is =
     (ap cut_outcome_of_text (sym whole) ∙ cut, (laws.alone (join (line_texts_of_file new f)) (line_texts_of_file new f) cut).0)
 
 -- an edit of one file whose inverse is one edit
-pub one_file_changes_are_those_of_edit : LineEditLaws → (edit back : Edit) (inverse : List Edit) (policy : LoadedPolicy) (f : ℕ) (changes : List LineChange) → policy_or_load_fault (named_files_of_policy policy) ≡ Ok policy
-    → AreChangesOfFile f changes (line_texts_of_file policy f) → EditSetsFileLines edit back inverse policy f (lines_after_changes changes (line_texts_of_file policy f)) → AreChangesOfEdit edit inverse policy changes
+pub one_file_changes_are_those_of_edit : LawsBehindLineEdits → (edit back : Edit) (inverse : List Edit) (policy : LoadedPolicy) (f : ℕ) (changes : List LineChange) → policy_or_load_fault (named_files_of_policy policy) ≡ Ok policy
+    → AreApplicableChangesOfFile f changes (line_texts_of_file policy f) → EditSetsFileLines edit back inverse policy f (lines_after_changes changes (line_texts_of_file policy f)) → AreChangesOfEdit edit inverse policy changes
 one_file_changes_are_those_of_edit laws edit back inverse policy f changes loaded fits to = record {
   fits = can;
   forth = to.forth ∙ changed_lines_give_policy_of_changed_files policy f changes fits.of_file to.ended;

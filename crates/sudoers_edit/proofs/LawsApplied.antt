@@ -1,6 +1,6 @@
 -- The lemmas of edits, each with the laws of the crates below on which it rests.
-use Rattle.sudoers_edit.proofs.Common.{All, All-from_recursion, All-weaker, AreApplicableChanges, AreChangesOfEdit, AreSoundFileLines, Edit, HasRestoringInverse, IsDefinableName, IsFileOrderOfChanges, IsPartialPrune}
-use Rattle.sudoers_edit.proofs.Common.{Kind, LineChange, List, LoadedPolicy, Ok, PlacedDefinition, Prune, PruneRemoval, Rename, RestoreOldPolicy, [], alias_limit, arith, definition_place_of_name}
+use Rattle.sudoers_edit.proofs.Common.{All, All-from_recursion, All-weaker, AreApplicableChanges, AreChangesOfEdit, AreLogicalLinesOfFileWithinTextLimit, Edit, HasRestoringInverse, IsDefinableName, IsFileOrderOfChanges, IsPartialPrune}
+use Rattle.sudoers_edit.proofs.Common.{Kind, LineChange, List, LoadedPolicy, Ok, PlacedDefinition, Prune, PruneRemoval, Rename, RestoreOldPolicy, [], alias_limit_of_each_kind, arith, definition_place_of_name}
 use Rattle.sudoers_edit.proofs.Common.{definitions_of_lines, false, files_after_changes, inverse_of_changes, is_alias_name_in_use, is_line_too_long, is_some, loaded_walk_lines_are_valid, length, line_texts_of_file}
 use Rattle.sudoers_edit.proofs.Common.{lines_of_numbered_file, lines_of_cut_text_are_cut_alone, list_any, named_files_of_policy, no_changes_leave_lines_unchanged, policy_or_first_refusal, policy_or_load_fault, prune_removals_of_walk}
 use Rattle.sudoers_edit.proofs.Common.{rename_changes_in_files, spot_of_walk_line, loaded_walk_lines_are_at_their_spots, text_limit, texts_of_changes, texts_of_renamed_lines, true, ℕ, ◌<◌, ◌^◌, ◌∷◌, ◌≡◌, ◌≤◌}
@@ -22,7 +22,7 @@ use Rattle.sudoers_edit.proofs.RenameOutcomes.{rename_made_is_undone_by_reverse_
 -- THE LINES OF A FILE
 
 -- what they are
-pub loaded_file_lines_are_sound : (policy : LoadedPolicy) → policy_or_load_fault (named_files_of_policy policy) ≡ Ok policy → (f : ℕ) → AreSoundFileLines (line_texts_of_file policy f)
+pub loaded_file_lines_are_sound : (policy : LoadedPolicy) → policy_or_load_fault (named_files_of_policy policy) ≡ Ok policy → (f : ℕ) → AreLogicalLinesOfFileWithinTextLimit (line_texts_of_file policy f)
 loaded_file_lines_are_sound = lines_of_loaded_file_are_sound line_edit_laws_hold
 
 -- they are no more than a text may have bytes
@@ -69,10 +69,10 @@ line_number_of_walk_line_fits_u32 policy n loaded = line_number_of_spot_fits_u32
 -- and those of the definitions in their lines
 pub definition_numbers_of_walk_fit_u32 : (policy : LoadedPolicy) → policy_or_load_fault (named_files_of_policy policy) ≡ Ok policy → All (λ (d : PlacedDefinition). d.place.def < 2 ^ 32) (definitions_of_lines policy.walk.lines)
 definition_numbers_of_walk_fit_u32 policy loaded =
-    All-weaker (λ (d : PlacedDefinition). d.place.def < alias_limit) (λ (d : PlacedDefinition). d.place.def < 2 ^ 32) (λ d less. omega (arith, less))
+    All-weaker (λ (d : PlacedDefinition). d.place.def < alias_limit_of_each_kind) (λ (d : PlacedDefinition). d.place.def < 2 ^ 32) (λ d less. omega (arith, less))
     (definitions_of_lines policy.walk.lines)
-    (All-from_recursion (λ (d : PlacedDefinition). d.place.def < alias_limit) (definitions_of_lines policy.walk.lines)
-    (definition_numbers_of_lines_are_below_most alias_limit 0 policy.walk.lines (loaded_walk_lines_are_valid (named_files_of_policy policy) policy loaded).few))
+    (All-from_recursion (λ (d : PlacedDefinition). d.place.def < alias_limit_of_each_kind) (definitions_of_lines policy.walk.lines)
+    (definition_numbers_of_lines_are_below_most alias_limit_of_each_kind 0 policy.walk.lines (loaded_walk_lines_are_valid (named_files_of_policy policy) policy loaded).few))
 
 -- no removal of a prune is made yet
 pub prune_without_removals_is_partial_prune : (policy : LoadedPolicy) (all : List PruneRemoval) → policy_or_load_fault (named_files_of_policy policy) ≡ Ok policy → all ≡ prune_removals_of_walk policy.walk → IsPartialPrune policy all all [] []

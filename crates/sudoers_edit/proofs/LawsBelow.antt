@@ -1,5 +1,5 @@
 -- The laws of the crates below, gathered for each kind of edit.
-use Rattle.sudoers_edit.proofs.Common.{AreSoundParsedLines, FinalLfLaws, LineEditLaws, List, LoadedPolicy, MemberEditLaws, NamedFile, Ok, PruneEditLaws, RenameSizeLaws, line_cut_as_itself_is_logical_line, loaded_policy_keeps_names_and_bytes, logical_line_is_computed_logical_line, computed_logical_line_is_logical_line}
+use Rattle.sudoers_edit.proofs.Common.{AreSoundParsedLines, LawsBehindFinalLfEdits, LawsBehindLineEdits, List, LoadedPolicy, LawsBehindMemberEdits, NamedFile, Ok, LawsBehindPrunes, TextSizeLawsBehindRenames, line_cut_as_itself_is_logical_line, loaded_policy_keeps_names_and_bytes, logical_line_is_computed_logical_line, computed_logical_line_is_logical_line}
 use Rattle.sudoers_edit.proofs.Common.{loaded_walk_lines_are_valid, join, logical_line_within_limit_is_cut_as_itself, join_is_cut_into_its_lines, lines_of_numbered_file, lines_of_cut_text_are_cut_alone, no_changes_leave_lines_unchanged, computed_line_outcome_is_line_outcome, policy_or_load_fault, loaded_walk_lines_are_at_their_spots, texts_of_lines, ℕ, ◌≡◌}
 use Rattle.sudoers_text.proofs.LastLine.{line_cut_to_itself_is_within_limit, adding_last_lf_keeps_cut_lines, removing_last_lf_keeps_cut_lines}
 use Rattle.sudoers_tree.proofs.WalkOutcomes.{computed_walk_is_walk_of_files}
@@ -10,7 +10,7 @@ use Rattle.sudoers_edit.proofs.LinesBelow.{definitions_of_alias_line_are_ordered
 
 -- EDITS OF LINES
 
-pub line_edit_laws_hold : LineEditLaws
+pub line_edit_laws_hold : LawsBehindLineEdits
 line_edit_laws_hold = record {
   bytes = loaded_policy_keeps_names_and_bytes;
   cut = loaded_lines_are_cut_of_their_text;
@@ -20,7 +20,7 @@ line_edit_laws_hold = record {
   lines = changed_files_have_changed_lines;
 }
 
-pub final_lf_laws_hold : FinalLfLaws
+pub final_lf_laws_hold : LawsBehindFinalLfEdits
 final_lf_laws_hold = record {
   size = line_cut_to_itself_is_within_limit;
   cut = loaded_lines_are_cut_of_replaced_bytes line_edit_laws_hold;
@@ -37,7 +37,7 @@ lines_of_loaded_file_are_sound_parsed files policy loaded f =
     (lines_of_cut_text_are_cut_alone (join (texts_of_lines (lines_of_numbered_file policy.files f))) (texts_of_lines (lines_of_numbered_file policy.files f)) (loaded_lines_are_cut_of_their_text files policy loaded f)).0
     (loaded_file_lines_are_correctly_parsed files policy loaded f)
 
-pub member_edit_laws_hold : MemberEditLaws
+pub member_edit_laws_hold : LawsBehindMemberEdits
 member_edit_laws_hold = record {
   bytes = loaded_policy_keeps_names_and_bytes;
   cut = loaded_lines_are_cut_of_their_text;
@@ -48,7 +48,7 @@ member_edit_laws_hold = record {
 
 -- RENAMES
 
-pub rename_size_laws_hold : RenameSizeLaws
+pub rename_size_laws_hold : TextSizeLawsBehindRenames
 rename_size_laws_hold = record {
   base =
       record {
@@ -86,7 +86,7 @@ rename_size_laws_hold = record {
 
 -- PRUNES
 
-pub prune_edit_laws_hold : PruneEditLaws
+pub prune_edit_laws_hold : LawsBehindPrunes
 prune_edit_laws_hold = record {
   loads = mapped_files_load_with_mapped_walk;
   walk = loaded_walk_lines_are_valid;

@@ -1,6 +1,6 @@
 -- The tokens of a line that ends in LF, one after another, up to one that no alias is made of.
 use Rattle.sudoers_edit.proofs.Common.{AreTokensFrom, Bool, HasTokens, IsTokenOfKindAndSize, LineUnit, List, TokenKind, TokenWithBytes, [], and_parts, ap, arith, drop, drop-drop, ends_in_lf, eqb-true, false, inl}
-use Rattle.sudoers_edit.proofs.Common.{inr, is_line_end_or_empty, is_separator, leading_gap_size, leading_run_size, length, length-drop, ltb-true, nat_lt, quoted_argument_rest_size, refl, subst, sym, take}
+use Rattle.sudoers_edit.proofs.Common.{inr, is_line_end_or_empty, is_comma_colon_or_equals, leading_gap_size, leading_run_size, length, length-drop, ltb-true, nat_lt, quoted_argument_rest_size, refl, subst, sym, take}
 use Rattle.sudoers_edit.proofs.Common.{tokens_with_bytes, true, units_left_of_place, ℕ, ◌+◌, ◌-◌, ◌<◌, ◌||◌, ◌∙◌, ◌∷◌, ◌≡◌, ◌≤◌, ◌⊎◌}
 use Rattle.std.specs.Prelude.{◌==◌}
 use Rattle.sudoers_text.specs.declared.token.Token.{Token}
@@ -19,7 +19,7 @@ EndByLimitUntilLeftOut last (t ∷ ts) = (is_left_out_of_aliases t.kind ≡ true
 
 -- ---- within a quoted argument
 
-separator_is_comma_colon_or_equals : (b : ℕ) → is_separator b ≡ true → ((b ≡ 44) ⊎ (b ≡ 58)) ⊎ (b ≡ 61)
+separator_is_comma_colon_or_equals : (b : ℕ) → is_comma_colon_or_equals b ≡ true → ((b ≡ 44) ⊎ (b ≡ 58)) ⊎ (b ≡ 61)
 separator_is_comma_colon_or_equals b h = by (b == 44) (b == 58) (b == 61) refl refl refl h
   where
     by : (x y z : Bool) → (b == 44) ≡ x → (b == 58) ≡ y → (b == 61) ≡ z → (x || y || z) ≡ true → ((b ≡ 44) ⊎ (b ≡ 58)) ⊎ (b ≡ 61)
@@ -29,7 +29,7 @@ separator_is_comma_colon_or_equals b h = by (b == 44) (b == 58) (b == 61) refl r
     by false false false p q r e = absurd (cc)
 
 -- no blank, and nothing of a quoted part
-separator_begins_no_gap_or_quoted_rest : (b : ℕ) (rest : List ℕ) → is_separator b ≡ true → (leading_gap_size (b ∷ rest) ≡ 0) × (quoted_argument_rest_size (b ∷ rest) ≡ 0)
+separator_begins_no_gap_or_quoted_rest : (b : ℕ) (rest : List ℕ) → is_comma_colon_or_equals b ≡ true → (leading_gap_size (b ∷ rest) ≡ 0) × (quoted_argument_rest_size (b ∷ rest) ≡ 0)
 unfolding leading_run_size quoted_argument_rest_size
 separator_begins_no_gap_or_quoted_rest b rest h = by (separator_is_comma_colon_or_equals b h)
   where

@@ -1,11 +1,11 @@
 -- No fault that the definition of loading gives holds want of memory.
 use Rattle.sudoers_edit.proofs.Common.{Bool, Err, FileVisit, IfErr, IncludeSite, Line, List, LoadFault, LoadedPolicy, NamedFile, None, Ok, Option, ParsedFile, PlacedDefinition, ReadFault, Result, Some, TextFault}
-use Rattle.sudoers_edit.proofs.Common.{WalkLineSpot, WalkState, [], alias_limit, cut_outcome_of_text, definition_count_of_kind, definitions_in_line, definitions_of_lines, empty_walk, false, fault_of_definition_name}
-use Rattle.sudoers_edit.proofs.Common.{fault_of_logical_line, fault_of_numbered_file, file_limit, file_lines_of, files_opened_by_lead, files_unless_missing, files_unless_on_walk, first_definition_fault}
+use Rattle.sudoers_edit.proofs.Common.{WalkLineSpot, WalkState, [], alias_limit_of_each_kind, cut_outcome_of_text, definition_count_of_kind, definitions_in_line, definitions_of_lines, empty_walk, false, fault_of_definition_name}
+use Rattle.sudoers_edit.proofs.Common.{fault_of_logical_line, fault_of_numbered_file, file_limit, file_lines_of, files_opened_by_lead, files_unless_missing_or_on_walk, files_unless_on_walk, first_definition_fault}
 use Rattle.sudoers_edit.proofs.Common.{first_definition_of, first_fault_of_lines, first_fault_of_unreached_file, first_file_on_walk, first_of_two_faults, first_present_fault, first_repeated_file_name, if◌then◌else◌}
 use Rattle.sudoers_edit.proofs.Common.{include_depth_limit, include_site_of_line, is_file_on_walk, is_reserved, is_some, is_unfinished_line, lead_of_file_line, length, lf_count, line_limit, load_result_and_then}
-use Rattle.sudoers_edit.proofs.Common.{logical_lines_of_text, name_of_numbered_file, nat_le, nat_lt, option_map, option_map_or, parsed_file_or_cut_fault, parsed_files_or_cut_fault, policy_of_parsed_files}
-use Rattle.sudoers_edit.proofs.Common.{policy_or_load_fault, repeated_include_fault, reserved_name_fault, reserved_name_fault_in_lines, result_unless_repeated_name, spot_of_file_line, suc, syntax_fault_as_read_fault}
+use Rattle.sudoers_edit.proofs.Common.{logical_lines_of_text, name_of_numbered_file, nat_le, nat_lt, option_map, option_map_or, parsed_file_of_cut_or_fault, parsed_files_or_cut_fault, policy_of_parsed_files}
+use Rattle.sudoers_edit.proofs.Common.{policy_or_load_fault, repeated_include_fault, reserved_name_fault_of_definitions, reserved_name_fault_in_lines, result_unless_repeated_name, spot_of_file_line, suc, syntax_fault_as_read_fault}
 use Rattle.sudoers_edit.proofs.Common.{text_limit, true, value_unless_file_fault, walk_after_file_lines, walk_after_file_visit, walk_after_file_visits, walk_or_fault_of_files, walk_or_first_fault}
 use Rattle.sudoers_edit.proofs.Common.{walk_or_unreached_file_fault, walk_with_file_entered, walk_with_line_appended, zero, ℕ, ◌++◌, ◌+◌, ◌∷◌}
 use Rattle.sudoers_text.specs.declared.fault.TextFault.TheVariants as text
@@ -51,11 +51,11 @@ guarded_fault_gives_no_memory_fault false o fault p q = q
 definition_name_gives_no_memory_fault : (before : List PlacedDefinition) (d : PlacedDefinition) → HasNoMemoryReadFault (fault_of_definition_name before d)
 unfolding fault_of_definition_name
 definition_name_gives_no_memory_fault before d =
-    let many : Option ReadFault = if nat_le alias_limit (definition_count_of_kind d.kind before) then Some (read.TooMany d.kind) else None in
+    let many : Option ReadFault = if nat_le alias_limit_of_each_kind (definition_count_of_kind d.kind before) then Some (read.TooMany d.kind) else None in
     let twice_or : Option ReadFault = if is_some (first_definition_of d.kind d.def.name before) then Some (read.Duplicate d.kind d.def.name) else many in
     guarded_fault_gives_no_memory_fault (is_reserved d.def.name) twice_or (read.Reserved d.kind d.def.name) tt
     (guarded_fault_gives_no_memory_fault (is_some (first_definition_of d.kind d.def.name before)) many (read.Duplicate d.kind d.def.name) tt
-    (guarded_fault_gives_no_memory_fault (nat_le alias_limit (definition_count_of_kind d.kind before)) None (read.TooMany d.kind) tt tt))
+    (guarded_fault_gives_no_memory_fault (nat_le alias_limit_of_each_kind (definition_count_of_kind d.kind before)) None (read.TooMany d.kind) tt tt))
 
 definition_names_give_no_memory_fault : (before ds : List PlacedDefinition) → HasNoMemoryReadFault (first_definition_fault before ds)
 definition_names_give_no_memory_fault before [] = tt
@@ -66,14 +66,14 @@ syntax_fault_gives_no_memory_fault : (o : Option SyntaxFault) → HasNoMemoryRea
 syntax_fault_gives_no_memory_fault None = tt
 syntax_fault_gives_no_memory_fault (Some fault) = tt
 
-reserved_name_gives_no_memory_fault : (ds : List PlacedDefinition) → HasNoMemoryReadFault (reserved_name_fault ds)
+reserved_name_gives_no_memory_fault : (ds : List PlacedDefinition) → HasNoMemoryReadFault (reserved_name_fault_of_definitions ds)
 reserved_name_gives_no_memory_fault [] = tt
-reserved_name_gives_no_memory_fault (d ∷ ds) = guarded_fault_gives_no_memory_fault (is_reserved d.def.name) (reserved_name_fault ds) (read.Reserved d.kind d.def.name) tt (reserved_name_gives_no_memory_fault ds)
+reserved_name_gives_no_memory_fault (d ∷ ds) = guarded_fault_gives_no_memory_fault (is_reserved d.def.name) (reserved_name_fault_of_definitions ds) (read.Reserved d.kind d.def.name) tt (reserved_name_gives_no_memory_fault ds)
 
 reserved_line_names_give_no_memory_fault : (lines : List Line) → HasNoMemoryReadFault (reserved_name_fault_in_lines lines)
 reserved_line_names_give_no_memory_fault [] = tt
 reserved_line_names_give_no_memory_fault (line ∷ lines) =
-    first_of_two_gives_no_memory_fault (reserved_name_fault (definitions_in_line 0 line.node)) (reserved_name_fault_in_lines lines) (reserved_name_gives_no_memory_fault (definitions_in_line 0 line.node)) (reserved_line_names_give_no_memory_fault lines)
+    first_of_two_gives_no_memory_fault (reserved_name_fault_of_definitions (definitions_in_line 0 line.node)) (reserved_name_fault_in_lines lines) (reserved_name_gives_no_memory_fault (definitions_in_line 0 line.node)) (reserved_line_names_give_no_memory_fault lines)
 
 -- THE WALK
 
@@ -87,7 +87,7 @@ files_on_walk_give_no_memory_fault : (files : List ParsedFile) (at : IncludeSite
 files_on_walk_give_no_memory_fault files at inner None = tt
 files_on_walk_give_no_memory_fault files at inner (Some f) = tt
 
-missing_files_give_no_memory_fault : (files : List ParsedFile) (at : IncludeSite) (lead : Lead) (w : WalkState) (o : Option (List ℕ)) → HasNoMemoryLoadFault (files_unless_missing files at lead w o)
+missing_files_give_no_memory_fault : (files : List ParsedFile) (at : IncludeSite) (lead : Lead) (w : WalkState) (o : Option (List ℕ)) → HasNoMemoryLoadFault (files_unless_missing_or_on_walk files at lead w o)
 missing_files_give_no_memory_fault files at lead w None = tt
 missing_files_give_no_memory_fault files at lead w (Some inner) = files_on_walk_give_no_memory_fault files at inner (first_file_on_walk w inner)
 
@@ -174,19 +174,19 @@ fault_of_lines_gives_no_memory_fault number at (line ∷ next ∷ lines) =
     (fault_of_lines_gives_no_memory_fault (number + lf_count line) (at + length line) (next ∷ lines))
 
 named_file_cut_gives_no_memory_fault : (name : List ℕ) (b : Bool) (o : Option TextFault) (lines : List (List ℕ)) → HasNoMemoryTextFault o
-    → HasNoMemoryLoadFault (parsed_file_or_cut_fault name (if b then Err text.TooLarge else option_map_or (λ fault. Err fault) o (Ok lines)))
+    → HasNoMemoryLoadFault (parsed_file_of_cut_or_fault name (if b then Err text.TooLarge else option_map_or (λ fault. Err fault) o (Ok lines)))
 named_file_cut_gives_no_memory_fault name true o lines p = tt
 named_file_cut_gives_no_memory_fault name false None lines p = tt
 named_file_cut_gives_no_memory_fault name false (Some fault) lines p = p
 
-text_cut_gives_no_memory_fault : (name bytes : List ℕ) → HasNoMemoryLoadFault (parsed_file_or_cut_fault name (cut_outcome_of_text bytes))
+text_cut_gives_no_memory_fault : (name bytes : List ℕ) → HasNoMemoryLoadFault (parsed_file_of_cut_or_fault name (cut_outcome_of_text bytes))
 unfolding cut_outcome_of_text
 text_cut_gives_no_memory_fault name bytes = named_file_cut_gives_no_memory_fault name (nat_lt text_limit (length bytes)) (first_fault_of_lines 1 0 (logical_lines_of_text bytes)) (logical_lines_of_text bytes) (fault_of_lines_gives_no_memory_fault 1 0 (logical_lines_of_text bytes))
 
 readings_of_files_give_no_memory_fault : (before : List ParsedFile) (files : List NamedFile) → HasNoMemoryLoadFault (parsed_files_or_cut_fault before files)
 readings_of_files_give_no_memory_fault before [] = tt
 readings_of_files_give_no_memory_fault before (file ∷ files) =
-    sequence_gives_no_memory_fault (parsed_file_or_cut_fault file.name (cut_outcome_of_text file.bytes)) (λ reading. parsed_files_or_cut_fault (before ++ reading ∷ []) files) (text_cut_gives_no_memory_fault file.name file.bytes)
+    sequence_gives_no_memory_fault (parsed_file_of_cut_or_fault file.name (cut_outcome_of_text file.bytes)) (λ reading. parsed_files_or_cut_fault (before ++ reading ∷ []) files) (text_cut_gives_no_memory_fault file.name file.bytes)
     (λ reading. readings_of_files_give_no_memory_fault (before ++ reading ∷ []) files)
 
 -- LOADING

@@ -1,12 +1,12 @@
 -- Members put into the list of an alias in a file of a policy and taken out of it.
-use Rattle.sudoers_edit.proofs.Common.{AddMember, AreLinesAtSpots, Bool, Def, DefinitionFilePlace, DropMember, EditFault, EditReplacesFileLine, Err, HasItemCutOut, HasItemPutIn, IsAliasDefinedAt, Kind, Line}
-use Rattle.sudoers_edit.proofs.Common.{LineTexts, List, LoadedPolicy, MemberEditLaws, NamedFile, Node, None, Ok, Option, ParsedFile, Place, Result, Some, TextFault, WalkLineSpot, WalkState, [], ap, ap₂, arith}
-use Rattle.sudoers_edit.proofs.Common.{bytes_between, bytes_owned_by_alias_member, bytes_owned_by_member, cut_outcome_of_text, definition_place_of_name, definitions_from_line_number, definitions_in_line}
+use Rattle.sudoers_edit.proofs.Common.{AddMember, AreLinesAtSpots, Bool, Def, DefinitionFilePlace, DropMember, EditFault, EditReplacesFileLine, Err, IsLineTextWithItemCutOut, IsLineTextWithItemPutIn, IsAliasDefinedAt, Kind, Line}
+use Rattle.sudoers_edit.proofs.Common.{LineTexts, List, LoadedPolicy, LawsBehindMemberEdits, NamedFile, Node, None, Ok, Option, ParsedFile, Place, Result, Some, TextFault, WalkLineSpot, WalkState, [], ap, ap₂, arith}
+use Rattle.sudoers_edit.proofs.Common.{bytes_between, text_owned_by_alias_member, text_owned_by_member, cut_outcome_of_text, definition_place_of_name, definitions_from_line_number, definitions_in_line}
 use Rattle.sudoers_edit.proofs.Common.{definitions_of_alias_line, definitions_of_lines, edit_result_and_then, eqb-false, eqb-true, extents_of_definition_members, extents_of_members, false, file_names}
 use Rattle.sudoers_edit.proofs.Common.{file_place_of_definition, file_place_of_walk_place, files_with_bytes_replaced, inl, inr, join, lead_of_parsed_line, length, line_texts_of_file, lines_of_numbered_file}
-use Rattle.sudoers_edit.proofs.Common.{lines_with_item_cut_out, lines_with_item_put_in, lines_with_member_added, lines_with_member_dropped, lines_with_one_changed, lines_with_one_replaced, map, name_of_numbered_file}
-use Rattle.sudoers_edit.proofs.Common.{named_files_of_policy, named_of, option_map, owned_bytes_start, owned_bytes_stop, place_of_file_place, policy_or_load_fault, policy_with_alias_file_edited}
-use Rattle.sudoers_edit.proofs.Common.{policy_with_file_lines, refl, result_at_owned_bytes, result_at_splice_offset, result_with_definition_at, slice_get, step, subst, suc, sym, texts_of_lines, true, zero, ℕ, ◌+◌}
+use Rattle.sudoers_edit.proofs.Common.{lines_with_item_cut_out, lines_with_item_put_in, lines_with_member_added, lines_with_member_dropped, replaced_lines_unless_too_long, lines_with_one_replaced, map, name_of_numbered_file}
+use Rattle.sudoers_edit.proofs.Common.{named_files_of_policy, named_of, option_map, owned_bytes_start, owned_bytes_stop, place_within_file_of_definition, policy_or_load_fault, policy_with_file_defining_alias_edited}
+use Rattle.sudoers_edit.proofs.Common.{policy_with_file_lines, refl, result_with_bytes_to_drop_item, result_with_offset_to_add_item, result_with_definition_at, slice_get, step, subst, suc, sym, texts_of_lines, true, zero, ℕ, ◌+◌}
 use Rattle.sudoers_edit.proofs.Common.{◌<◌, ◌==◌, ◌∙◌, ◌∷◌, ◌≡◌, ◌⊎◌}
 use Rattle.std.specs.Prelude.{slice_index_or}
 use Rattle.sudoers_grammar.specs.Node as node
@@ -78,7 +78,7 @@ cut_lines_of_result_are_unique : (a b : List (List ℕ)) (r : Result (List (List
 cut_lines_of_result_are_unique a b r p q = let s : Ok a ≡ r = sym p in cc
 
 -- the lines of the other files stay
-replacement_keeps_lines_of_other_file : MemberEditLaws → (policy after : LoadedPolicy) (f g : ℕ) (bytes : List ℕ) → policy_or_load_fault (named_files_of_policy policy) ≡ Ok policy → policy_or_load_fault (files_with_bytes_replaced f bytes (named_files_of_policy policy)) ≡ Ok after
+replacement_keeps_lines_of_other_file : LawsBehindMemberEdits → (policy after : LoadedPolicy) (f g : ℕ) (bytes : List ℕ) → policy_or_load_fault (named_files_of_policy policy) ≡ Ok policy → policy_or_load_fault (files_with_bytes_replaced f bytes (named_files_of_policy policy)) ≡ Ok after
     → (f ≡ g → ⊥) → lines_of_numbered_file after.files g ≡ lines_of_numbered_file policy.files g
 replacement_keeps_lines_of_other_file laws policy after f g bytes loaded now other =
     let joined : join (texts_of_lines (lines_of_numbered_file after.files g)) ≡ join (texts_of_lines (lines_of_numbered_file policy.files g)) =
@@ -163,7 +163,7 @@ equal_places_give_equal_optional_file_place w v same None = refl
 equal_places_give_equal_optional_file_place w v same (Some p) = ap Some (equal_places_give_equal_file_place w v same p)
 
 -- one line of definitions that keep their kind and names is another: an alias is defined where it was
-pub replaced_definitions_keep_alias_places : MemberEditLaws → (policy after : LoadedPolicy) (f n : ℕ) (bytes : List ℕ) (old new : Line) (j : Kind) (ds es : List Def) → policy_or_load_fault (named_files_of_policy policy) ≡ Ok policy
+pub replaced_definitions_keep_alias_places : LawsBehindMemberEdits → (policy after : LoadedPolicy) (f n : ℕ) (bytes : List ℕ) (old new : Line) (j : Kind) (ds es : List Def) → policy_or_load_fault (named_files_of_policy policy) ≡ Ok policy
     → policy_or_load_fault (files_with_bytes_replaced f bytes (named_files_of_policy policy)) ≡ Ok after → slice_get (lines_of_numbered_file policy.files f) n ≡ Some old → lines_of_numbered_file after.files f ≡ lines_with_line_put n new (lines_of_numbered_file policy.files f)
     → old.node ≡ node.Alias j ds → new.node ≡ node.Alias j es → HaveSameDefinitionNames es ds → (k : Kind) (name : List ℕ) → file_place_of_definition k name after.walk ≡ file_place_of_definition k name policy.walk
 replaced_definitions_keep_alias_places laws policy after f n bytes old new j ds es loaded now here put is was same k name =
@@ -214,28 +214,28 @@ replaced_definitions_keep_alias_places laws policy after f n bytes old new j ds 
 -- WHAT THE CODE MEETS
 
 pub alias_refusal_refuses_member_edits : (k : Kind) (name : List ℕ) (at : ℕ) (s : List ℕ) (policy : LoadedPolicy) (fault : EditFault)
-    → ((next : List Line → Place → Line → Def → Result LineTexts EditFault) → policy_with_alias_file_edited k name policy (λ place lines. result_with_definition_at (Some place) lines (next lines)) ≡ Err fault)
+    → ((next : List Line → Place → Line → Def → Result LineTexts EditFault) → policy_with_file_defining_alias_edited k name policy (λ place lines. result_with_definition_at (Some place) lines (next lines)) ≡ Err fault)
     → (step (AddMember k name at s) policy ≡ Err fault) × (step (DropMember k name at) policy ≡ Err fault)
 unfolding lines_with_member_added lines_with_member_dropped
 alias_refusal_refuses_member_edits k name at s policy fault none = (
-  none (λ lines place line d. result_at_splice_offset at (extents_of_members d.members) (λ from. lines_with_item_put_in (among.Members place.def) at from place.line s line lines)),
-  none (λ lines place line d. result_at_owned_bytes at (extents_of_members d.members) (λ from to. lines_with_item_cut_out (among.Members place.def) at from to place.line line lines)),
+  none (λ lines place line d. result_with_offset_to_add_item at (extents_of_members d.members) (λ from. lines_with_item_put_in (among.Members place.def) at from place.line s line lines)),
+  none (λ lines place line d. result_with_bytes_to_drop_item at (extents_of_members d.members) (λ from to. lines_with_item_cut_out (among.Members place.def) at from to place.line line lines)),
 )
 
 -- what is done at an alias that is there
 pub edit_at_defined_alias_edits_its_file : (k : Kind) (name : List ℕ) (policy : LoadedPolicy) (at : DefinitionFilePlace) (line : Line) (d : Def) (edit : Place → List Line → Result LineTexts EditFault)
-    → IsAliasDefinedAt k name policy at line d → policy_with_alias_file_edited k name policy edit ≡ edit_result_and_then (edit (place_of_file_place at) (lines_of_numbered_file policy.files at.file)) (policy_with_file_lines policy at.file)
+    → IsAliasDefinedAt k name policy at line d → policy_with_file_defining_alias_edited k name policy edit ≡ edit_result_and_then (edit (place_within_file_of_definition at) (lines_of_numbered_file policy.files at.file)) (policy_with_file_lines policy at.file)
 edit_at_defined_alias_edits_its_file k name policy at line d edit is = rw is.named refl
 
 pub member_addition_at_alias_puts_item_in : (at : ℕ) (s : List ℕ) (k : Kind) (name : List ℕ) (policy : LoadedPolicy) (place : DefinitionFilePlace) (line : Line) (d : Def) → IsAliasDefinedAt k name policy place line d
-    → lines_with_member_added (place_of_file_place place) at s (lines_of_numbered_file policy.files place.file)
-    ≡ result_at_splice_offset at (extents_of_members d.members) (λ from. lines_with_item_put_in (among.Members place.def) at from place.line s line (lines_of_numbered_file policy.files place.file))
+    → lines_with_member_added (place_within_file_of_definition place) at s (lines_of_numbered_file policy.files place.file)
+    ≡ result_with_offset_to_add_item at (extents_of_members d.members) (λ from. lines_with_item_put_in (among.Members place.def) at from place.line s line (lines_of_numbered_file policy.files place.file))
 unfolding lines_with_member_added
 member_addition_at_alias_puts_item_in at s k name policy place line d is = rw (is.here, is.makes, is.stands) refl
 
 pub member_drop_at_alias_cuts_item_out : (at : ℕ) (k : Kind) (name : List ℕ) (policy : LoadedPolicy) (place : DefinitionFilePlace) (line : Line) (d : Def) → IsAliasDefinedAt k name policy place line d
-    → lines_with_member_dropped (place_of_file_place place) at (lines_of_numbered_file policy.files place.file)
-    ≡ result_at_owned_bytes at (extents_of_members d.members) (λ from to. lines_with_item_cut_out (among.Members place.def) at from to place.line line (lines_of_numbered_file policy.files place.file))
+    → lines_with_member_dropped (place_within_file_of_definition place) at (lines_of_numbered_file policy.files place.file)
+    ≡ result_with_bytes_to_drop_item at (extents_of_members d.members) (λ from to. lines_with_item_cut_out (among.Members place.def) at from to place.line line (lines_of_numbered_file policy.files place.file))
 unfolding lines_with_member_dropped
 member_drop_at_alias_cuts_item_out at k name policy place line d is = rw (is.here, is.makes, is.stands) refl
 
@@ -249,7 +249,7 @@ file_with_line_has_number_below_count (file ∷ files) (suc f) n line here = ome
 -- THE WAY BACK
 
 -- the alias in the policy after it
-alias_is_defined_after_line_replacement : MemberEditLaws → (k : Kind) (name : List ℕ) (policy after : LoadedPolicy) (bytes : List ℕ) (place : DefinitionFilePlace) (line new : Line) (d e : Def) (j : Kind) (ds es : List Def)
+alias_is_defined_after_line_replacement : LawsBehindMemberEdits → (k : Kind) (name : List ℕ) (policy after : LoadedPolicy) (bytes : List ℕ) (place : DefinitionFilePlace) (line new : Line) (d e : Def) (j : Kind) (ds es : List Def)
     → policy_or_load_fault (named_files_of_policy policy) ≡ Ok policy → policy_or_load_fault (files_with_bytes_replaced place.file bytes (named_files_of_policy policy)) ≡ Ok after → IsAliasDefinedAt k name policy place line d
     → IsLineReplaced (lines_of_numbered_file policy.files place.file) (lines_of_numbered_file after.files place.file) place.line line new → line.node ≡ node.Alias j ds → new.node ≡ node.Alias j es
     → HaveSameDefinitionNames es ds → slice_get es place.def ≡ Some e → IsAliasDefinedAt k name after place new e
@@ -261,9 +261,9 @@ alias_is_defined_after_line_replacement laws k name policy after bytes place lin
   stands = stands;
 }
 
-pub member_addition_replaces_file_line : MemberEditLaws → (k : Kind) (name : List ℕ) (at from : ℕ) (s text : List ℕ) (policy : LoadedPolicy) (place : DefinitionFilePlace) (line : Line) (d : Def)
-    → policy_or_load_fault (named_files_of_policy policy) ≡ Ok policy → IsAliasDefinedAt k name policy place line d → (put : HasItemPutIn (among.Members place.def) at from s line text)
-    → lines_with_member_added (place_of_file_place place) at s (lines_of_numbered_file policy.files place.file) ≡ lines_with_one_changed place.line text (line_texts_of_file policy place.file)
+pub member_addition_replaces_file_line : LawsBehindMemberEdits → (k : Kind) (name : List ℕ) (at from : ℕ) (s text : List ℕ) (policy : LoadedPolicy) (place : DefinitionFilePlace) (line : Line) (d : Def)
+    → policy_or_load_fault (named_files_of_policy policy) ≡ Ok policy → IsAliasDefinedAt k name policy place line d → (put : IsLineTextWithItemPutIn (among.Members place.def) at from s line text)
+    → lines_with_member_added (place_within_file_of_definition place) at s (lines_of_numbered_file policy.files place.file) ≡ replaced_lines_unless_too_long place.line text (line_texts_of_file policy place.file)
     → EditReplacesFileLine (AddMember k name at s) (DropMember k name at) (DropMember k name at ∷ []) policy place.file place.line text
 member_addition_replaces_file_line laws k name at from s text policy place line d loaded is put forth = record {
   here = file_with_line_has_number_below_count policy.files place.file place.line line is.here;
@@ -293,14 +293,14 @@ member_addition_replaces_file_line laws k name at from s text policy place line 
 }
 
 bytes_owned_by_member_are_between_offsets : (k : Kind) (name : List ℕ) (policy : LoadedPolicy) (at from to : ℕ) (place : DefinitionFilePlace) (line : Line) (d : Def) → IsAliasDefinedAt k name policy place line d
-    → owned_bytes_start at (extents_of_members d.members) ≡ Some from → owned_bytes_stop at (extents_of_members d.members) ≡ Some to → bytes_owned_by_alias_member k name at policy ≡ bytes_between from to line.text
-unfolding bytes_owned_by_member
+    → owned_bytes_start at (extents_of_members d.members) ≡ Some from → owned_bytes_stop at (extents_of_members d.members) ≡ Some to → text_owned_by_alias_member k name at policy ≡ bytes_between from to line.text
+unfolding text_owned_by_member
 bytes_owned_by_member_are_between_offsets k name policy at from to place line d is begins stops = rw (is.named, is.here, is.makes, is.stands, begins, stops) refl
 
-pub member_drop_replaces_file_line : MemberEditLaws → (k : Kind) (name : List ℕ) (at from to : ℕ) (s text : List ℕ) (policy : LoadedPolicy) (place : DefinitionFilePlace) (line : Line) (d : Def)
+pub member_drop_replaces_file_line : LawsBehindMemberEdits → (k : Kind) (name : List ℕ) (at from to : ℕ) (s text : List ℕ) (policy : LoadedPolicy) (place : DefinitionFilePlace) (line : Line) (d : Def)
     → policy_or_load_fault (named_files_of_policy policy) ≡ Ok policy → IsAliasDefinedAt k name policy place line d → owned_bytes_start at (extents_of_members d.members) ≡ Some from
-    → owned_bytes_stop at (extents_of_members d.members) ≡ Some to → (cut : HasItemCutOut (among.Members place.def) at from to line text) → s ≡ bytes_between from to line.text
-    → lines_with_member_dropped (place_of_file_place place) at (lines_of_numbered_file policy.files place.file) ≡ lines_with_one_changed place.line text (line_texts_of_file policy place.file)
+    → owned_bytes_stop at (extents_of_members d.members) ≡ Some to → (cut : IsLineTextWithItemCutOut (among.Members place.def) at from to line text) → s ≡ bytes_between from to line.text
+    → lines_with_member_dropped (place_within_file_of_definition place) at (lines_of_numbered_file policy.files place.file) ≡ replaced_lines_unless_too_long place.line text (line_texts_of_file policy place.file)
     → EditReplacesFileLine (DropMember k name at) (AddMember k name at s) (AddMember k name at s ∷ []) policy place.file place.line text
 member_drop_replaces_file_line laws k name at from to s text policy place line d loaded is begins stops cut owned forth = record {
   here = file_with_line_has_number_below_count policy.files place.file place.line line is.here;

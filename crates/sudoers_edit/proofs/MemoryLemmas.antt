@@ -2,21 +2,21 @@
 -- such fault.
 use Rattle.sudoers_edit.proofs.Common.{AddDef, AddMember, BadName, BadSplice, Bool, ByteExtent, Def, DefinitionFilePlace, Delete, DropDef, DropMember, Edit, EditFault, EndLine, Err, IfErr, Insert}
 use Rattle.sudoers_edit.proofs.Common.{IsRefusalOrNoMemory, ItemListKind, Kind, Line, LineTexts, List, LoadFault, LoadedPolicy, Move, NameTaken, NamedFile, NoAlias, NoFile, NoLine, NoPlace, None, NotOneLine, Ok}
-use Rattle.sudoers_edit.proofs.Common.{OnlyOne, OpenEnd, OpenLine, Option, ParsedFile, Place, Prune, PruneRemoval, Rename, Result, Some, TooLarge, [], changed_lines_if_spliced, definition_place_of_name}
+use Rattle.sudoers_edit.proofs.Common.{OnlyOne, OpenEnd, OpenLine, Option, ParsedFile, Place, Prune, PruneRemoval, Rename, Result, Some, TooLarge, [], replaced_lines_unless_bad_splice_or_too_long, definition_place_of_name}
 use Rattle.sudoers_edit.proofs.Common.{definitions_of_alias_line, edit_fault_of_load_fault, edit_result_and_then, extents_of_definitions, extents_of_members, false, file_place_of_definition}
 use Rattle.sudoers_edit.proofs.Common.{files_with_bytes_replaced, has_inner_line_without_lf, has_one_item_more, if◌then◌else◌, inl, inr, insert, is_alias_name_in_use, is_last_line_too_long, is_line_too_long, is_name}
 use Rattle.sudoers_edit.proofs.Common.{is_one_logical_line, is_reserved, is_some, join, length, line_with_lf_added, line_with_lf_removed, line_with_splice, line_without_bytes, lines_after_delete}
-use Rattle.sudoers_edit.proofs.Common.{lines_after_end_change, lines_after_insert, lines_after_move, lines_of_numbered_file, lines_with_definition_added, lines_with_definition_dropped, lines_with_item_cut_out}
-use Rattle.sudoers_edit.proofs.Common.{lines_with_item_put_in, lines_with_last_changed, lines_with_member_added, lines_with_member_dropped, lines_with_one_changed, lines_with_one_moved, lines_with_one_replaced}
-use Rattle.sudoers_edit.proofs.Common.{list_any, named_files_after_rename, named_files_of_policy, nat_le, nat_lt, not, owned_bytes_start, owned_bytes_stop, place_of_file_place, policy_after_removal}
-use Rattle.sudoers_edit.proofs.Common.{policy_after_removals, policy_after_rename, policy_of_files_or_refusal, policy_or_edit_fault, policy_or_load_fault, policy_with_alias_file_edited, policy_with_file_edited}
-use Rattle.sudoers_edit.proofs.Common.{policy_with_file_lines, prune_removals_of_walk, reading_of_single_line, remove, result_at_owned_bytes, result_at_splice_offset, result_or_refusal_if_none, result_unless_refused}
+use Rattle.sudoers_edit.proofs.Common.{changed_lines_unless_last_too_long, lines_after_insert, lines_after_move, lines_of_numbered_file, lines_with_definition_added, lines_with_definition_dropped, lines_with_item_cut_out}
+use Rattle.sudoers_edit.proofs.Common.{lines_with_item_put_in, lines_with_last_changed, lines_with_member_added, lines_with_member_dropped, replaced_lines_unless_too_long, lines_with_one_moved, lines_with_one_replaced}
+use Rattle.sudoers_edit.proofs.Common.{list_any, named_files_after_rename, named_files_of_policy, nat_le, nat_lt, not, owned_bytes_start, owned_bytes_stop, place_within_file_of_definition, policy_after_removal}
+use Rattle.sudoers_edit.proofs.Common.{policy_after_removals, policy_after_rename, policy_of_files_or_refusal, policy_or_edit_fault, policy_or_load_fault, policy_with_file_defining_alias_edited, policy_with_file_edited}
+use Rattle.sudoers_edit.proofs.Common.{policy_with_file_lines, prune_removals_of_walk, reading_of_single_line, remove, result_with_bytes_to_drop_item, result_with_offset_to_add_item, result_or_refusal_if_none, result_unless_refused}
 use Rattle.sudoers_edit.proofs.Common.{result_with_definition_at, result_with_line_definitions, slice_get, step, subst, sym, texts_of_lines, texts_of_renamed_lines, true, ℕ, ◌&&◌, ◌+◌, ◌==◌, ◌||◌, ◌∷◌, ◌≡◌}
 use Rattle.sudoers_text.specs.declared.fault.TextFault.TheVariants as text
 use Rattle.sudoers_tree.specs.declared.fault.ReadFault.TheVariants as read
 use Rattle.sudoers_tree.specs.declared.load_fault.LoadFault.TheVariants as load
 use Rattle.sudoers_edit.specs.declared.extra_item.ItemListKind.TheVariants as among
-use Rattle.sudoers_edit.specs.declared.pruning.PruneRemoval.TheVariants as removal
+use Rattle.sudoers_edit.specs.declared.prune_removals.PruneRemoval.TheVariants as removal
 use Rattle.sudoers_edit.specs.Memory.{IsMemoryFreeLoadFault, HasNoInnerMemoryFault}
 use Rattle.sudoers_edit.proofs.LoadFaults.{HasNoMemoryLoadFault, load_of_files_gives_no_memory_fault}
 
@@ -84,18 +84,18 @@ lines_of_delete_have_no_memory_refusal at lines = choice_has_no_memory_refusal (
 lines_of_move_have_no_memory_refusal : (from to : ℕ) (lines : LineTexts) → HasNoMemoryRefusal (lines_after_move from to lines)
 lines_of_move_have_no_memory_refusal from to lines = choice_has_no_memory_refusal (nat_lt from (length lines) && nat_lt to (length lines)) (Ok (lines_with_one_moved from to lines)) (Err NoLine) tt tt
 
-end_change_lines_have_no_memory_refusal : (changed : Option LineTexts) → HasNoMemoryRefusal (lines_after_end_change changed)
+end_change_lines_have_no_memory_refusal : (changed : Option LineTexts) → HasNoMemoryRefusal (changed_lines_unless_last_too_long changed)
 end_change_lines_have_no_memory_refusal None = tt
 end_change_lines_have_no_memory_refusal (Some lines) = choice_has_no_memory_refusal (is_last_line_too_long lines) (Err TooLarge) (Ok lines) tt tt
 
 -- MEMBERS AND DEFINITIONS
 
-splice_offset_has_no_memory_refusal : (at : ℕ) (xs : List ByteExtent) (next : ℕ → Result LineTexts EditFault) → ((from : ℕ) → HasNoMemoryRefusal (next from)) → HasNoMemoryRefusal (result_at_splice_offset at xs next)
+splice_offset_has_no_memory_refusal : (at : ℕ) (xs : List ByteExtent) (next : ℕ → Result LineTexts EditFault) → ((from : ℕ) → HasNoMemoryRefusal (next from)) → HasNoMemoryRefusal (result_with_offset_to_add_item at xs next)
 splice_offset_has_no_memory_refusal at xs next all =
     choice_has_no_memory_refusal (nat_lt (length xs) at) (Err NoPlace) (result_or_refusal_if_none (owned_bytes_start at xs) BadSplice next) tt (optional_value_has_no_memory_refusal (owned_bytes_start at xs) BadSplice next tt all)
 
 owned_bytes_have_no_memory_refusal : (at : ℕ) (xs : List ByteExtent) (next : ℕ → ℕ → Result LineTexts EditFault) → ((from to : ℕ) → HasNoMemoryRefusal (next from to))
-    → HasNoMemoryRefusal (result_at_owned_bytes at xs next)
+    → HasNoMemoryRefusal (result_with_bytes_to_drop_item at xs next)
 owned_bytes_have_no_memory_refusal at xs next all =
     let by_stop : ℕ → Result LineTexts EditFault = λ from. result_or_refusal_if_none (owned_bytes_stop at xs) BadSplice (λ to. next from to) in
     let by_seam : Result LineTexts EditFault = result_or_refusal_if_none (owned_bytes_start at xs) BadSplice by_stop in
@@ -103,9 +103,9 @@ owned_bytes_have_no_memory_refusal at xs next all =
     (choice_has_no_memory_refusal (length xs == 1) (Err OnlyOne) by_seam tt
     (optional_value_has_no_memory_refusal (owned_bytes_start at xs) BadSplice by_stop tt (λ from. optional_value_has_no_memory_refusal (owned_bytes_stop at xs) BadSplice (λ to. next from to) tt (all from))))
 
-spliced_line_has_no_memory_refusal : (reads : Bool) (at : ℕ) (line : List ℕ) (lines : List Line) → HasNoMemoryRefusal (changed_lines_if_spliced reads at line lines)
+spliced_line_has_no_memory_refusal : (reads : Bool) (at : ℕ) (line : List ℕ) (lines : List Line) → HasNoMemoryRefusal (replaced_lines_unless_bad_splice_or_too_long reads at line lines)
 spliced_line_has_no_memory_refusal reads at line lines =
-    choice_has_no_memory_refusal (not reads) (Err BadSplice) (lines_with_one_changed at line (texts_of_lines lines)) tt
+    choice_has_no_memory_refusal (not reads) (Err BadSplice) (replaced_lines_unless_too_long at line (texts_of_lines lines)) tt
     (choice_has_no_memory_refusal (is_line_too_long line) (Err TooLarge) (Ok (lines_with_one_replaced at line (texts_of_lines lines))) tt tt)
 
 item_put_in_has_no_memory_refusal : (among : ItemListKind) (at from n : ℕ) (splice : List ℕ) (line : Line) (lines : List Line) → HasNoMemoryRefusal (lines_with_item_put_in among at from n splice line lines)
@@ -127,14 +127,14 @@ line_definitions_have_no_memory_refusal n lines next all =
 definition_addition_has_no_memory_refusal : (n at : ℕ) (splice : List ℕ) (lines : List Line) → HasNoMemoryRefusal (lines_with_definition_added n at splice lines)
 unfolding lines_with_definition_added
 definition_addition_has_no_memory_refusal n at splice lines =
-    line_definitions_have_no_memory_refusal n lines (λ line defs. result_at_splice_offset at (extents_of_definitions defs) (λ from. lines_with_item_put_in among.Definitions at from n splice line lines))
+    line_definitions_have_no_memory_refusal n lines (λ line defs. result_with_offset_to_add_item at (extents_of_definitions defs) (λ from. lines_with_item_put_in among.Definitions at from n splice line lines))
     (λ line defs. splice_offset_has_no_memory_refusal at (extents_of_definitions defs) (λ from. lines_with_item_put_in among.Definitions at from n splice line lines)
     (λ from. item_put_in_has_no_memory_refusal among.Definitions at from n splice line lines))
 
 definition_drop_has_no_memory_refusal : (n at : ℕ) (lines : List Line) → HasNoMemoryRefusal (lines_with_definition_dropped n at lines)
 unfolding lines_with_definition_dropped
 definition_drop_has_no_memory_refusal n at lines =
-    line_definitions_have_no_memory_refusal n lines (λ line defs. result_at_owned_bytes at (extents_of_definitions defs) (λ from to. lines_with_item_cut_out among.Definitions at from to n line lines))
+    line_definitions_have_no_memory_refusal n lines (λ line defs. result_with_bytes_to_drop_item at (extents_of_definitions defs) (λ from to. lines_with_item_cut_out among.Definitions at from to n line lines))
     (λ line defs. owned_bytes_have_no_memory_refusal at (extents_of_definitions defs) (λ from to. lines_with_item_cut_out among.Definitions at from to n line lines)
     (λ from to. item_cut_out_has_no_memory_refusal among.Definitions at from to n line lines))
 
@@ -152,7 +152,7 @@ member_addition_has_no_memory_refusal : (place : Place) (at : ℕ) (splice : Lis
 unfolding lines_with_member_added
 member_addition_has_no_memory_refusal place at splice lines =
     let put : Place → Line → ℕ → Result LineTexts EditFault = λ place line from. lines_with_item_put_in (among.Members place.def) at from place.line splice line lines in
-    definition_at_place_has_no_memory_refusal (Some place) lines (λ place line d. result_at_splice_offset at (extents_of_members d.members) (put place line))
+    definition_at_place_has_no_memory_refusal (Some place) lines (λ place line d. result_with_offset_to_add_item at (extents_of_members d.members) (put place line))
     (λ place line d. splice_offset_has_no_memory_refusal at (extents_of_members d.members) (put place line)
     (λ from. item_put_in_has_no_memory_refusal (among.Members place.def) at from place.line splice line lines))
 
@@ -160,7 +160,7 @@ member_drop_has_no_memory_refusal : (place : Place) (at : ℕ) (lines : List Lin
 unfolding lines_with_member_dropped
 member_drop_has_no_memory_refusal place at lines =
     let cut : Place → Line → ℕ → ℕ → Result LineTexts EditFault = λ place line from to. lines_with_item_cut_out (among.Members place.def) at from to place.line line lines in
-    definition_at_place_has_no_memory_refusal (Some place) lines (λ place line d. result_at_owned_bytes at (extents_of_members d.members) (cut place line))
+    definition_at_place_has_no_memory_refusal (Some place) lines (λ place line d. result_with_bytes_to_drop_item at (extents_of_members d.members) (cut place line))
     (λ place line d. owned_bytes_have_no_memory_refusal at (extents_of_members d.members) (cut place line)
     (λ from to. item_cut_out_has_no_memory_refusal (among.Members place.def) at from to place.line line lines))
 
@@ -188,11 +188,11 @@ file_edit_has_no_memory_refusal f policy edit all =
     (λ (file : ParsedFile). sequence_has_no_memory_refusal (edit file.lines) (policy_with_file_lines policy f) (all file.lines) (file_lines_have_no_memory_refusal policy f))
 
 alias_edit_has_no_memory_refusal : (k : Kind) (name : List ℕ) (policy : LoadedPolicy) (edit : Place → List Line → Result LineTexts EditFault)
-    → ((place : Place) (lines : List Line) → HasNoMemoryRefusal (edit place lines)) → HasNoMemoryRefusal (policy_with_alias_file_edited k name policy edit)
+    → ((place : Place) (lines : List Line) → HasNoMemoryRefusal (edit place lines)) → HasNoMemoryRefusal (policy_with_file_defining_alias_edited k name policy edit)
 alias_edit_has_no_memory_refusal k name policy edit all =
-    optional_value_has_no_memory_refusal (file_place_of_definition k name policy.walk) NoAlias (λ (at : DefinitionFilePlace). edit_result_and_then (edit (place_of_file_place at) (lines_of_numbered_file policy.files at.file)) (policy_with_file_lines policy at.file)) tt
-    (λ (at : DefinitionFilePlace). sequence_has_no_memory_refusal (edit (place_of_file_place at) (lines_of_numbered_file policy.files at.file)) (policy_with_file_lines policy at.file)
-    (all (place_of_file_place at) (lines_of_numbered_file policy.files at.file)) (file_lines_have_no_memory_refusal policy at.file))
+    optional_value_has_no_memory_refusal (file_place_of_definition k name policy.walk) NoAlias (λ (at : DefinitionFilePlace). edit_result_and_then (edit (place_within_file_of_definition at) (lines_of_numbered_file policy.files at.file)) (policy_with_file_lines policy at.file)) tt
+    (λ (at : DefinitionFilePlace). sequence_has_no_memory_refusal (edit (place_within_file_of_definition at) (lines_of_numbered_file policy.files at.file)) (policy_with_file_lines policy at.file)
+    (all (place_within_file_of_definition at) (lines_of_numbered_file policy.files at.file)) (file_lines_have_no_memory_refusal policy at.file))
 
 removal_has_no_memory_refusal : (one : PruneRemoval) (policy : LoadedPolicy) → HasNoMemoryRefusal (policy_after_removal one policy)
 removal_has_no_memory_refusal (removal.Line f at) policy = file_edit_has_no_memory_refusal f policy (λ lines. lines_after_delete at (texts_of_lines lines)) (λ lines. lines_of_delete_have_no_memory_refusal at (texts_of_lines lines))
@@ -213,9 +213,9 @@ step_has_no_memory_refusal (AddDef f line at splice) policy = file_edit_has_no_m
 step_has_no_memory_refusal (DropDef f line at) policy = file_edit_has_no_memory_refusal f policy (lines_with_definition_dropped line at) (definition_drop_has_no_memory_refusal line at)
 step_has_no_memory_refusal (Rename k name fresh) policy = rename_has_no_memory_refusal k name fresh policy
 step_has_no_memory_refusal (EndLine f) policy =
-    file_edit_has_no_memory_refusal f policy (λ lines. lines_after_end_change (lines_with_last_changed line_with_lf_added (texts_of_lines lines))) (λ lines. end_change_lines_have_no_memory_refusal (lines_with_last_changed line_with_lf_added (texts_of_lines lines)))
+    file_edit_has_no_memory_refusal f policy (λ lines. changed_lines_unless_last_too_long (lines_with_last_changed line_with_lf_added (texts_of_lines lines))) (λ lines. end_change_lines_have_no_memory_refusal (lines_with_last_changed line_with_lf_added (texts_of_lines lines)))
 step_has_no_memory_refusal (OpenEnd f) policy =
-    file_edit_has_no_memory_refusal f policy (λ lines. lines_after_end_change (lines_with_last_changed line_with_lf_removed (texts_of_lines lines))) (λ lines. end_change_lines_have_no_memory_refusal (lines_with_last_changed line_with_lf_removed (texts_of_lines lines)))
+    file_edit_has_no_memory_refusal f policy (λ lines. changed_lines_unless_last_too_long (lines_with_last_changed line_with_lf_removed (texts_of_lines lines))) (λ lines. end_change_lines_have_no_memory_refusal (lines_with_last_changed line_with_lf_removed (texts_of_lines lines)))
 step_has_no_memory_refusal Prune policy = removals_have_no_memory_refusal (prune_removals_of_walk policy.walk) policy
 
 -- no refusal tells of want of memory

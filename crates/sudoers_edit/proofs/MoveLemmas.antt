@@ -1,5 +1,5 @@
 -- The changes that move a line of a file.
-use Rattle.sudoers_edit.proofs.Common.{AreChangesOfFile, AreSoundFileLines, FirstChangeLaw, IsLogicalLine, LineChange, LineTexts, List, NoChangesLaw, Put, Take, [], ap, arith, drop, false, inl, inr, insert}
+use Rattle.sudoers_edit.proofs.Common.{AreApplicableChangesOfFile, AreLogicalLinesOfFileWithinTextLimit, FirstChangeLaw, IsLogicalLine, LineChange, LineTexts, List, NoChangesLaw, Put, Take, [], ap, arith, drop, false, inl, inr, insert}
 use Rattle.sudoers_edit.proofs.Common.{leb_tells, length, length-drop, line_changes_of_move, lines_after_changes, lines_with_one_moved, nat_lt, refl, remove, slice_index_or, subst, suc, sym, take, true, zero, ℕ}
 use Rattle.sudoers_edit.proofs.Common.{◌++◌, ◌+◌, ◌-◌, ◌<◌, ◌∙◌, ◌∷◌, ◌≡◌, ◌≤◌}
 use Rattle.std.specs.Prelude.{if◌then◌else◌}
@@ -78,10 +78,10 @@ reinserted_removed_line_keeps_lines (l ∷ ls) (suc at) t within is = ap (λ (z 
 
 -- The changes are of this file, and make these lines.
 pub record AreChangesOfMove (f from to : ℕ) (ls : LineTexts) (changes : List LineChange) : Type 0 where
-  pub fits : AreChangesOfFile f changes ls
+  pub fits : AreApplicableChangesOfFile f changes ls
   pub are : lines_after_changes changes ls ≡ lines_with_one_moved from to ls
 
-pub line_changes_of_move_make_moved_lines : NoChangesLaw → FirstChangeLaw → (f from to : ℕ) (ls : LineTexts) → AreSoundFileLines ls → from < length ls → to < length ls
+pub line_changes_of_move_make_moved_lines : NoChangesLaw → FirstChangeLaw → (f from to : ℕ) (ls : LineTexts) → AreLogicalLinesOfFileWithinTextLimit ls → from < length ls → to < length ls
     → AreChangesOfMove f from to ls (line_changes_of_move f from to (slice_index_or ls from []))
 line_changes_of_move_make_moved_lines none first f from to ls sound inside within =
     elim (leb_tells (suc from) to) [

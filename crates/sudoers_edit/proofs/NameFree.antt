@@ -1,7 +1,7 @@
 -- A name that is neither defined nor mentioned in a kind stands in no line as an alias of that kind.
 use Rattle.sudoers_edit.proofs.Common.{AllByRecursion, Atom, Bool, Def, Kind, Line, List, Member, Node, Span, [], alias_offsets_in_node, ap, ap₂, bytes_eq, definitions_from_line_number, definitions_from_place}
 use Rattle.sudoers_edit.proofs.Common.{definitions_in_line, false, flat_map, flat_map-append, if◌then◌else◌, is_equal_kind, length, map, map-append, members_of_kind_in_line, mention_offsets_in_members}
-use Rattle.sudoers_edit.proofs.Common.{mention_span_of_member, mention_spans_among_members, mentions_from_line_number, mentions_in_line, name_offsets_in_definition, name_offsets_in_line, named_alias_of_kind, refl}
+use Rattle.sudoers_edit.proofs.Common.{mention_span_of_member, mention_spans_among_members, mentions_from_line_number, mentions_in_line, name_offsets_in_definition, name_offsets_in_line, named_alias_of_kind_and_name, refl}
 use Rattle.sudoers_edit.proofs.Common.{sym, true, ℕ, ◌&&◌, ◌++◌, ◌+◌, ◌-◌, ◌∙◌, ◌∷◌, ◌≡◌}
 use Rattle.sudoers_grammar.specs.declared.node.Atom.TheVariants as atom
 use Rattle.sudoers_grammar.specs.Node as node
@@ -70,7 +70,7 @@ line_without_name_has_no_offset k name n (node.Defaults scope params) none lack 
 line_without_name_has_no_offset k name n (node.Spec users groups) none lack = members_without_mention_have_no_offset name n (members_of_kind_in_line k (node.Spec users groups)) none
 
 abbrev pub IsLineWithoutAlias : Kind → List ℕ → Line → Type 0
-IsLineWithoutAlias k name line = alias_offsets_in_node (named_alias_of_kind k name) line.node ≡ []
+IsLineWithoutAlias k name line = alias_offsets_in_node (named_alias_of_kind_and_name k name) line.node ≡ []
 
 property_of_joined_list_holds_of_parts : {X : Type 0} (P : X → Type 0) (xs ys : List X) → AllByRecursion P (xs ++ ys) → AllByRecursion P xs × AllByRecursion P ys
 property_of_joined_list_holds_of_parts P [] ys a = (tt, a)

@@ -2,7 +2,7 @@
 use Rattle.sudoers_edit.proofs.Common.{AliasRenaming, Atom, Bool, CmdSpec, Cmnd, Def, Host, HostGroup, Kind, Line, List, Member, Node, None, Runas, RunasSpec, Some, Span, User, [], ap, ap₂, atom_with_alias_renamed}
 use Rattle.sudoers_edit.proofs.Common.{bytes_eq, command_with_alias_renamed, definition_with_alias_renamed, false, flat_map, flat_map-append, host_group_with_alias_renamed, if◌then◌else◌, is_equal_kind, length}
 use Rattle.sudoers_edit.proofs.Common.{lines_after_rename, map, member_with_alias_renamed, members_in_host_group, members_of_runas, members_with_alias_renamed, mention_span_of_member, mention_spans_among_members}
-use Rattle.sudoers_edit.proofs.Common.{mentions_from_line_number, mentions_in_line, named_alias_of_kind, node_with_alias_renamed, refl, renaming_of_alias_in_node, runas_option_with_alias_renamed, true, ℕ, ◌++◌, ◌+◌}
+use Rattle.sudoers_edit.proofs.Common.{mentions_from_line_number, mentions_in_line, named_alias_of_kind_and_name, node_with_alias_renamed, refl, renaming_of_alias_in_node, runas_option_with_alias_renamed, true, ℕ, ◌++◌, ◌+◌}
 use Rattle.sudoers_edit.proofs.Common.{◌-◌, ◌∙◌, ◌∷◌, ◌≡◌}
 use Rattle.std.specs.Prelude.{Option}
 use Rattle.sudoers_grammar.specs.declared.node.Atom.TheVariants as atom
@@ -11,7 +11,7 @@ use Rattle.sudoers_edit.proofs.NameStarts.{flat_map_of_empty_is_empty, flat_map_
 
 -- another name for an alias of this kind
 abbrev pub renaming_of_named_alias : Kind → List ℕ → List ℕ → (ℕ → ℕ) → AliasRenaming
-renaming_of_named_alias k name fresh at = record { old = named_alias_of_kind k name; fresh = fresh; at = at }
+renaming_of_named_alias k name fresh at = record { old = named_alias_of_kind_and_name k name; fresh = fresh; at = at }
 
 -- the mentions of the name in a member
 abbrev mention_spans_of_whole_member : ℕ → List ℕ → Member → List Span
@@ -119,5 +119,5 @@ pub renamed_lines_lack_old_name : (k : Kind) (name fresh : List ℕ) → bytes_e
 renamed_lines_lack_old_name k name fresh differ n [] = refl
 renamed_lines_lack_old_name k name fresh differ n (line ∷ lines) =
     ap₂ (λ (us vs : List Span). us ++ vs)
-    (renamed_line_lacks_old_name k name fresh (renaming_of_alias_in_node (named_alias_of_kind k name) fresh line.node).at differ n line.node)
+    (renamed_line_lacks_old_name k name fresh (renaming_of_alias_in_node (named_alias_of_kind_and_name k name) fresh line.node).at differ n line.node)
     (renamed_lines_lack_old_name k name fresh differ (n + 1) lines)

@@ -2,13 +2,13 @@
 use Rattle.sudoers_edit.proofs.Common.{AddDef, AddMember, BadName, Bool, DefinitionFilePlace, Delete, DropDef, DropMember, Edit, EditFault, EndLine, Err, Insert, Kind, Line, LineTexts, List, LoadFault, LoadedPolicy}
 use Rattle.sudoers_edit.proofs.Common.{Move, NameTaken, NamedFile, NoAlias, NoFile, None, Ok, OpenEnd, OpenLine, Option, ParsedFile, Place, Prune, PruneRemoval, Rename, Result, Some, TooLarge, WalkState, [], ap}
 use Rattle.sudoers_edit.proofs.Common.{definition_place_of_name, edit_result_and_then, false, file_place_of_definition, files_with_bytes_replaced, has_inner_line_without_lf, if◌then◌else◌, is_alias_name_in_use}
-use Rattle.sudoers_edit.proofs.Common.{is_file_on_walk, is_line_too_long, is_name, is_reserved, is_some, join, line_with_lf_added, line_with_lf_removed, lines_after_delete, lines_after_end_change, lines_after_insert}
+use Rattle.sudoers_edit.proofs.Common.{is_file_on_walk, is_line_too_long, is_name, is_reserved, is_some, join, line_with_lf_added, line_with_lf_removed, lines_after_delete, changed_lines_unless_last_too_long, lines_after_insert}
 use Rattle.sudoers_edit.proofs.Common.{lines_after_move, lines_of_numbered_file, lines_with_definition_added, lines_with_definition_dropped, lines_with_last_changed, lines_with_member_added}
-use Rattle.sudoers_edit.proofs.Common.{lines_with_member_dropped, list_any, map, named_file_of_parsed, named_files_after_rename, named_files_of_policy, named_files_renamed_from, names_of_named_files}
-use Rattle.sudoers_edit.proofs.Common.{next_or_placed_refusal, not, place_of_file_place, policy_after_removal, policy_after_removals, policy_after_rename, policy_of_files_or_refusal, policy_or_edit_fault}
-use Rattle.sudoers_edit.proofs.Common.{policy_or_first_refusal, policy_or_load_fault, policy_with_alias_file_edited, policy_with_file_edited, policy_with_file_lines, prune_removals_of_walk, refl}
+use Rattle.sudoers_edit.proofs.Common.{lines_with_member_dropped, list_any, map, named_file_of_parsed, named_files_after_rename, named_files_of_policy, named_files_numbered_from_renamed_if_on_walk, names_of_named_files}
+use Rattle.sudoers_edit.proofs.Common.{next_or_placed_refusal, not, place_within_file_of_definition, policy_after_removal, policy_after_removals, policy_after_rename, policy_of_files_or_refusal, policy_or_edit_fault}
+use Rattle.sudoers_edit.proofs.Common.{policy_or_first_refusal, policy_or_load_fault, policy_with_file_defining_alias_edited, policy_with_file_edited, policy_with_file_lines, prune_removals_of_walk, refl}
 use Rattle.sudoers_edit.proofs.Common.{result_or_refusal_if_none, result_unless_refused, slice_get, step, suc, sym, texts_of_lines, texts_of_renamed_lines, true, zero, ℕ, ◌+◌, ◌||◌, ◌∙◌, ◌∷◌, ◌≡◌}
-use Rattle.sudoers_edit.specs.declared.pruning.PruneRemoval.TheVariants as removal
+use Rattle.sudoers_edit.specs.declared.prune_removals.PruneRemoval.TheVariants as removal
 
 -- what the law says of loaded files
 abbrev pub LoadedFilesAreNamedFiles : Type 0
@@ -47,19 +47,19 @@ file_edit_keeps_file_names law policy f edit = by (slice_get policy.files f)
     by None = λ new is. absurd cc
     by (Some file) = lines_of_file_keep_file_names law policy f (edit file.lines)
 
-alias_edit_keeps_file_names : LoadedFilesAreNamedFiles → (policy : LoadedPolicy) (k : Kind) (name : List ℕ) (edit : Place → List Line → Result LineTexts EditFault) → KeepsFileNames policy (policy_with_alias_file_edited k name policy edit)
+alias_edit_keeps_file_names : LoadedFilesAreNamedFiles → (policy : LoadedPolicy) (k : Kind) (name : List ℕ) (edit : Place → List Line → Result LineTexts EditFault) → KeepsFileNames policy (policy_with_file_defining_alias_edited k name policy edit)
 alias_edit_keeps_file_names law policy k name edit = by (file_place_of_definition k name policy.walk)
   where
-    by : (o : Option DefinitionFilePlace) → KeepsFileNames policy (result_or_refusal_if_none o NoAlias (λ (at : DefinitionFilePlace). edit_result_and_then (edit (place_of_file_place at) (lines_of_numbered_file policy.files at.file)) (policy_with_file_lines policy at.file)))
+    by : (o : Option DefinitionFilePlace) → KeepsFileNames policy (result_or_refusal_if_none o NoAlias (λ (at : DefinitionFilePlace). edit_result_and_then (edit (place_within_file_of_definition at) (lines_of_numbered_file policy.files at.file)) (policy_with_file_lines policy at.file)))
     by None = λ new is. absurd cc
-    by (Some at) = lines_of_file_keep_file_names law policy at.file (edit (place_of_file_place at) (lines_of_numbered_file policy.files at.file))
+    by (Some at) = lines_of_file_keep_file_names law policy at.file (edit (place_within_file_of_definition at) (lines_of_numbered_file policy.files at.file))
 
-renamed_files_keep_names : (n : ℕ) (k : Kind) (name fresh : List ℕ) (w : WalkState) (files : List ParsedFile) → names_of_named_files (named_files_renamed_from n k name fresh w files) ≡ names_of_named_files (map named_file_of_parsed files)
+renamed_files_keep_names : (n : ℕ) (k : Kind) (name fresh : List ℕ) (w : WalkState) (files : List ParsedFile) → names_of_named_files (named_files_numbered_from_renamed_if_on_walk n k name fresh w files) ≡ names_of_named_files (map named_file_of_parsed files)
 renamed_files_keep_names n k name fresh w [] = refl
 renamed_files_keep_names n k name fresh w (file ∷ files) = by (is_file_on_walk w n) (renamed_files_keep_names (n + 1) k name fresh w files)
   where
-    by : (b : Bool) → names_of_named_files (named_files_renamed_from (n + 1) k name fresh w files) ≡ names_of_named_files (map named_file_of_parsed files)
-        → names_of_named_files ((if b then record { name = file.name; bytes = join (texts_of_renamed_lines k name fresh file.lines) } else named_file_of_parsed file) ∷ named_files_renamed_from (n + 1) k name fresh w files)
+    by : (b : Bool) → names_of_named_files (named_files_numbered_from_renamed_if_on_walk (n + 1) k name fresh w files) ≡ names_of_named_files (map named_file_of_parsed files)
+        → names_of_named_files ((if b then record { name = file.name; bytes = join (texts_of_renamed_lines k name fresh file.lines) } else named_file_of_parsed file) ∷ named_files_numbered_from_renamed_if_on_walk (n + 1) k name fresh w files)
         ≡ names_of_named_files (map named_file_of_parsed (file ∷ files))
     by true rest = ap (λ (names : List (List ℕ)). file.name ∷ names) rest
     by false rest = ap (λ (names : List (List ℕ)). file.name ∷ names) rest
@@ -99,8 +99,8 @@ step_keeps_file_names law (DropMember kind name at) policy = alias_edit_keeps_fi
 step_keeps_file_names law (AddDef f line at splice) policy = file_edit_keeps_file_names law policy f (lines_with_definition_added line at splice)
 step_keeps_file_names law (DropDef f line at) policy = file_edit_keeps_file_names law policy f (lines_with_definition_dropped line at)
 step_keeps_file_names law (Rename kind name fresh) policy = rename_keeps_file_names law policy kind name fresh
-step_keeps_file_names law (EndLine f) policy = file_edit_keeps_file_names law policy f (λ lines. lines_after_end_change (lines_with_last_changed line_with_lf_added (texts_of_lines lines)))
-step_keeps_file_names law (OpenEnd f) policy = file_edit_keeps_file_names law policy f (λ lines. lines_after_end_change (lines_with_last_changed line_with_lf_removed (texts_of_lines lines)))
+step_keeps_file_names law (EndLine f) policy = file_edit_keeps_file_names law policy f (λ lines. changed_lines_unless_last_too_long (lines_with_last_changed line_with_lf_added (texts_of_lines lines)))
+step_keeps_file_names law (OpenEnd f) policy = file_edit_keeps_file_names law policy f (λ lines. changed_lines_unless_last_too_long (lines_with_last_changed line_with_lf_removed (texts_of_lines lines)))
 step_keeps_file_names law Prune policy = removals_keep_file_names law (prune_removals_of_walk policy.walk) policy
 
 pub run_keeps_file_names : LoadedFilesAreNamedFiles → (place : ℕ) (edits : List Edit) (policy new : LoadedPolicy) → policy_or_first_refusal place edits policy ≡ Ok new → names_of_named_files (named_files_of_policy new) ≡ names_of_named_files (named_files_of_policy policy)

@@ -6,7 +6,7 @@ use Rattle.sudoers_edit.proofs.Common.{◌≡◌, ◌≤◌}
 use Rattle.std.specs.Prelude.{◌&&◌, Ok}
 use Rattle.sudoers_edit.specs.Named.{HaveSpellableNames, spelling_or_too_many}
 use Rattle.sudoers_edit_script.specs.ScriptReading.{edits_spelled_by_text}
-use Rattle.sudoers_edit.specs.declared.pruning.PruneRemoval.TheVariants as removal
+use Rattle.sudoers_edit.specs.declared.prune_removals.PruneRemoval.TheVariants as removal
 
 -- of two lists that are named the whole is
 joined_edits_have_spellable_names : (edits others : List Edit) → HaveSpellableNames edits → HaveSpellableNames others → HaveSpellableNames (edits ++ others)

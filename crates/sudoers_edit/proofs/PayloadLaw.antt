@@ -2,12 +2,12 @@
 use Rattle.sudoers_edit.proofs.Common.{AddDef, AddMember, AllByRecursion, BadSplice, Bool, Delete, DropDef, DropMember, Edit, EndLine, HasRestoringInverse, Insert, ItemListKind, Line, LineTexts, List, LoadedPolicy}
 use Rattle.sudoers_edit.proofs.Common.{Move, NamedFile, Ok, OpenEnd, ParsedFile, Prune, PruneRemoval, Rename, Some, [], ap, arith, byte_count_of_files, drop, edit_undoing_removal, edits_undoing_removals}
 use Rattle.sudoers_edit.proofs.Common.{extents_of_definitions, extents_of_members, false, files_with_bytes_replaced, has_one_item_more, insert, inv, join, length, length-append, line_texts_of_file, line_with_splice}
-use Rattle.sudoers_edit.proofs.Common.{lines_after_insert, lines_of_numbered_file, lines_with_definition_added, lines_with_item_put_in, lines_with_member_added, lines_with_one_changed, lines_with_one_replaced, map}
+use Rattle.sudoers_edit.proofs.Common.{lines_after_insert, lines_of_numbered_file, lines_with_definition_added, lines_with_item_put_in, lines_with_member_added, replaced_lines_unless_too_long, lines_with_one_replaced, map}
 use Rattle.sudoers_edit.proofs.Common.{named_file_of_parsed, named_files_of_policy, next_or_placed_refusal, not, policy_after_removal, policy_or_first_refusal, policy_or_load_fault, policy_with_file_lines}
 use Rattle.sudoers_edit.proofs.Common.{prune_removals_of_walk, reading_of_single_line, result_unwrap_or, slice_get, step, suc, take, take-append-drop, texts_of_lines, true, zero, ℕ, ◌++◌, ◌+◌, ◌<◌, ◌∷◌, ◌≡◌, ◌≤◌}
 use Rattle.sudoers_edit.specs.declared.extra_item.ItemListKind.TheVariants as among
-use Rattle.sudoers_edit.specs.declared.pruning.PruneRemoval.TheVariants as removal
-use Rattle.sudoers_edit.specs.Payload.{payload_size_of_edit, payload_size_of_edits, is_removing_edit}
+use Rattle.sudoers_edit.specs.declared.prune_removals.PruneRemoval.TheVariants as removal
+use Rattle.sudoers_edit.specs.Payload.{inserted_byte_count_of_edit, inserted_byte_count_of_edits, is_removing_edit}
 use Rattle.sudoers_edit.proofs.AcceptedLines.{accepted_file_edit_has_file_lines, accepted_insert_makes_inserted_lines, accepted_file_lines_are_ended_and_load, accepted_result_is_not_refused}
 use Rattle.sudoers_edit.proofs.AcceptedSplices.{accepted_add_def_has_line_definitions, accepted_add_member_has_alias_definition, accepted_alias_edit_has_lines, accepted_line_change_is_short, accepted_splice_has_start_offset}
 use Rattle.sudoers_edit.proofs.InverseLaw.{accepted_run_begins_with_accepted_step}
@@ -67,7 +67,7 @@ item_put_in_adds_size_of_splice : (a : ItemListKind) (at from n : ℕ) (splice :
 item_put_in_adds_size_of_splice a at from n splice line lines new here is =
     let text : List ℕ = line_with_splice from splice line.text in
     let reads : Bool = has_one_item_more a at from (from + length splice) (reading_of_single_line text) (Some line.node) in
-    let made = accepted_line_change_is_short n text (texts_of_lines lines) new (accepted_result_is_not_refused (not reads) BadSplice (lines_with_one_changed n text (texts_of_lines lines)) new is).1 in
+    let made = accepted_line_change_is_short n text (texts_of_lines lines) new (accepted_result_is_not_refused (not reads) BadSplice (replaced_lines_unless_too_long n text (texts_of_lines lines)) new is).1 in
     let size : length text ≡ length line.text + length splice = splice_adds_its_size_to_line from splice line.text in
     omega (arith, ap (λ (ls : LineTexts). length (join ls)) made.1, replacement_changes_size_by_texts lines n text line here, size)
 
@@ -88,7 +88,7 @@ larger_lines_enlarge_policy_as_much law policy new f more lines here is size =
 
 -- ---- one edit
 
-putting_edit_enlarges_files_by_payload : LoadedFilesHaveGivenBytes → (edit : Edit) → IsPuttingEdit edit → (policy new : LoadedPolicy) → step edit policy ≡ Ok new → byte_count_of_files (named_files_of_policy new) ≡ byte_count_of_files (named_files_of_policy policy) + payload_size_of_edit edit
+putting_edit_enlarges_files_by_payload : LoadedFilesHaveGivenBytes → (edit : Edit) → IsPuttingEdit edit → (policy new : LoadedPolicy) → step edit policy ≡ Ok new → byte_count_of_files (named_files_of_policy new) ≡ byte_count_of_files (named_files_of_policy policy) + inserted_byte_count_of_edit edit
 putting_edit_enlarges_files_by_payload law (Insert f at text) puts policy new is =
     let i = accepted_file_edit_has_file_lines f policy new (λ lines. lines_after_insert at text (texts_of_lines lines)) is in
     let p = accepted_insert_makes_inserted_lines at text (line_texts_of_file policy f) i.lines i.made in
@@ -121,7 +121,7 @@ putting_edit_enlarges_files_by_payload law Prune puts policy new is = absurd put
 -- ---- edits
 
 putting_edits_enlarge_files_by_payloads : LoadedFilesHaveGivenBytes → (edits : List Edit) → AllByRecursion IsPuttingEdit edits → (place : ℕ) (policy new : LoadedPolicy) → policy_or_first_refusal place edits policy ≡ Ok new
-    → byte_count_of_files (named_files_of_policy new) ≡ byte_count_of_files (named_files_of_policy policy) + payload_size_of_edits edits
+    → byte_count_of_files (named_files_of_policy new) ≡ byte_count_of_files (named_files_of_policy policy) + inserted_byte_count_of_edits edits
 putting_edits_enlarge_files_by_payloads law [] all place policy new is =
     let same : policy ≡ new = cc in
     omega (arith, ap (λ (p : LoadedPolicy). byte_count_of_files (named_files_of_policy p)) same)
@@ -154,12 +154,12 @@ inverse_of_removing_edit_is_putting (EndLine file) policy out = absurd cc
 inverse_of_removing_edit_is_putting (OpenEnd file) policy out = absurd cc
 
 pub inverse_payload_is_size_taken_out : LoadedFilesHaveGivenBytes → AcceptedEditsAreRestored → (edit : Edit) (policy new : LoadedPolicy) → is_removing_edit edit ≡ true → policy_or_load_fault (named_files_of_policy policy) ≡ Ok policy
-    → step edit policy ≡ Ok new → byte_count_of_files (named_files_of_policy new) + payload_size_of_edits (inv edit policy) ≡ byte_count_of_files (named_files_of_policy policy)
+    → step edit policy ≡ Ok new → byte_count_of_files (named_files_of_policy new) + inserted_byte_count_of_edits (inv edit policy) ≡ byte_count_of_files (named_files_of_policy policy)
 inverse_payload_is_size_taken_out law leads edit policy new out loaded is =
     let taken = leads (edit ∷ []) policy new loaded (ap (next_or_placed_refusal (policy_or_first_refusal 1 []) 0) is) in
     omega (arith, putting_edits_enlarge_files_by_payloads law (inv edit policy) (inverse_of_removing_edit_is_putting edit policy out) 0 new policy taken.back)
 
-pub inverse_of_keeping_edit_has_no_payload : (edit : Edit) (policy : LoadedPolicy) → is_removing_edit edit ≡ false → payload_size_of_edits (inv edit policy) ≡ 0
+pub inverse_of_keeping_edit_has_no_payload : (edit : Edit) (policy : LoadedPolicy) → is_removing_edit edit ≡ false → inserted_byte_count_of_edits (inv edit policy) ≡ 0
 inverse_of_keeping_edit_has_no_payload (Insert file at text) policy none = omega arith
 inverse_of_keeping_edit_has_no_payload (Move file from to) policy none = omega arith
 inverse_of_keeping_edit_has_no_payload (AddMember kind name at splice) policy none = omega arith

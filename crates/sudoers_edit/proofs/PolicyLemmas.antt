@@ -1,5 +1,5 @@
 -- A policy line by line, from the laws of logical lines.
-use Rattle.sudoers_edit.proofs.Common.{EachIsOneLineWhenCut, IsSingleLineCut, Line, List, Ok, Some, [], ap, append-nil, arith, cut_outcome_of_text, false, has_inner_line_without_lf, join, length, refl, slice_get}
+use Rattle.sudoers_edit.proofs.Common.{EachIsOneLineWhenCut, SplitsIntoItselfAsOnlyLine, Line, List, Ok, Some, [], ap, append-nil, arith, cut_outcome_of_text, false, has_inner_line_without_lf, join, length, refl, slice_get}
 use Rattle.sudoers_edit.proofs.Common.{slice_index_or, suc, sym, text_limit, texts_of_lines, zero, ℕ, ◌∙◌, ◌∷◌, ◌≡◌, ◌≤◌}
 
 -- what the laws say
@@ -13,7 +13,7 @@ only_line_of_text_is_text (line ∷ []) text one same = ap (λ (t : List ℕ). t
 only_line_of_text_is_text (line ∷ next ∷ lines) text one same = absurd (omega arith)
 
 -- a text that is cut into one line is that line
-pub text_with_one_line_is_single_line : CutLinesStandAlone → (text : List ℕ) (lines : List (List ℕ)) → cut_outcome_of_text text ≡ Ok lines → length lines ≡ 1 → IsSingleLineCut text
+pub text_with_one_line_is_single_line : CutLinesStandAlone → (text : List ℕ) (lines : List (List ℕ)) → cut_outcome_of_text text ≡ Ok lines → length lines ≡ 1 → SplitsIntoItselfAsOnlyLine text
 text_with_one_line_is_single_line law text lines is one = is ∙ ap (λ (ls : List (List ℕ)). Ok ls) (only_line_of_text_is_text lines text one (law text lines is).2)
 
 pub found_line_is_line_at_index : (lines : List (List ℕ)) (at : ℕ) (line d : List ℕ) → slice_get lines at ≡ Some line → slice_index_or lines at d ≡ line

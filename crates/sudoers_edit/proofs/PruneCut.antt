@@ -1,7 +1,7 @@
 -- A definition cut out of a line of a file.
-use Rattle.sudoers_edit.proofs.Common.{AreOrderedAliasDefinitions, BadSplice, Bool, ByteExtent, Def, EditFault, Err, HasItemCutOut, IsDefinitionCut, IsRefusalOrNoMemory, Kind, Line, LineTexts, List, NoAlias, NoPlace}
+use Rattle.sudoers_edit.proofs.Common.{AreOrderedAliasDefinitions, BadSplice, Bool, ByteExtent, Def, EditFault, Err, IsLineTextWithItemCutOut, IsDefinitionCut, IsRefusalOrNoMemory, Kind, Line, LineTexts, List, NoAlias, NoPlace}
 use Rattle.sudoers_edit.proofs.Common.{Node, None, Ok, OnlyOne, Option, Result, Some, [], ap, arith, bytes_between, definitions_of_alias_line, eqb-false, extents_of_definitions, false, leb-false, length}
-use Rattle.sudoers_edit.proofs.Common.{lines_with_definition_dropped, lines_with_item_cut_out, lines_with_one_changed, nat_le, owned_bytes_start, owned_bytes_stop, reading_of_single_line, refl, result_at_owned_bytes}
+use Rattle.sudoers_edit.proofs.Common.{lines_with_definition_dropped, lines_with_item_cut_out, replaced_lines_unless_too_long, nat_le, owned_bytes_start, owned_bytes_stop, reading_of_single_line, refl, result_with_bytes_to_drop_item}
 use Rattle.sudoers_edit.proofs.Common.{result_or_refusal_if_none, result_unless_refused, slice_get, subst, sym, texts_of_lines, true, ℕ, ◌<◌, ◌∙◌, ◌≡◌, ◌≤◌}
 use Rattle.std.specs.Prelude.{◌==◌}
 use Rattle.sudoers_grammar.specs.Node as node
@@ -13,7 +13,7 @@ pub equal_text_reads_as_node_of_line : (line : Line) (text : List ℕ) (o : Opti
 equal_text_reads_as_node_of_line line text o says same is = is ∙ ap reading_of_single_line (sym same) ∙ says
 
 pub definition_drop_cuts_at_owned_bytes : (n at : ℕ) (lines : List Line) (line : Line) (defs : List Def) → slice_get lines n ≡ Some line → definitions_of_alias_line line.node ≡ Some defs
-    → lines_with_definition_dropped n at lines ≡ result_at_owned_bytes at (extents_of_definitions defs) (λ from to. lines_with_item_cut_out among.Definitions at from to n line lines)
+    → lines_with_definition_dropped n at lines ≡ result_with_bytes_to_drop_item at (extents_of_definitions defs) (λ from to. lines_with_item_cut_out among.Definitions at from to n line lines)
 unfolding lines_with_definition_dropped
 definition_drop_cuts_at_owned_bytes n at lines line defs here is = rw (here, is) refl
 
@@ -27,7 +27,7 @@ unrefused_lines_are_accepted true f r new e = absurd (cc)
 unrefused_lines_are_accepted false f r new e = (refl, e)
 
 -- where a definition may be dropped, there are several, and it is one of them
-pub droppable_definition_is_one_of_several : (at from to : ℕ) (xs : List ByteExtent) → ((next : ℕ → ℕ → Result LineTexts EditFault) → result_at_owned_bytes at xs next ≡ next from to)
+pub droppable_definition_is_one_of_several : (at from to : ℕ) (xs : List ByteExtent) → ((next : ℕ → ℕ → Result LineTexts EditFault) → result_with_bytes_to_drop_item at xs next ≡ next from to)
     → (at < length xs) × (2 ≤ length xs)
 droppable_definition_is_one_of_several at from to xs drops =
     let next : ℕ → ℕ → Result LineTexts EditFault = λ a b. Ok [] in
@@ -42,9 +42,9 @@ droppable_definition_is_one_of_several at from to xs drops =
 pub definition_cut_out_is_definition_cut : (lines : List Line) (n at from to : ℕ) (line : Line) (kind : Kind) (defs : List Def) (text splice : List ℕ)
     → slice_get lines n ≡ Some line → line.node ≡ node.Alias kind defs → at < length defs → 2 ≤ length defs
     → owned_bytes_start at (extents_of_definitions defs) ≡ Some from → owned_bytes_stop at (extents_of_definitions defs) ≡ Some to
-    → result_at_owned_bytes at (extents_of_definitions defs) (λ a b. lines_with_item_cut_out among.Definitions at a b n line lines) ≡ lines_with_item_cut_out among.Definitions at from to n line lines
-    → HasItemCutOut among.Definitions at from to line text → splice ≡ bytes_between from to line.text
-    → lines_with_item_cut_out among.Definitions at from to n line lines ≡ lines_with_one_changed n text (texts_of_lines lines)
+    → result_with_bytes_to_drop_item at (extents_of_definitions defs) (λ a b. lines_with_item_cut_out among.Definitions at a b n line lines) ≡ lines_with_item_cut_out among.Definitions at from to n line lines
+    → IsLineTextWithItemCutOut among.Definitions at from to line text → splice ≡ bytes_between from to line.text
+    → lines_with_item_cut_out among.Definitions at from to n line lines ≡ replaced_lines_unless_too_long n text (texts_of_lines lines)
     → IsDefinitionCut n at lines line text splice
 definition_cut_out_is_definition_cut lines n at from to line kind defs text splice here makes inside many begins stops place cut owned told = record {
   kind = kind;
@@ -75,7 +75,7 @@ line_of_equal_text_has_read_node lines n line text says o known here same is som
 
 -- a drop that has no place, or whose line would not read as it should
 pub refused_cut_refuses_definition_drop : (lines : List Line) (n at : ℕ) (line : Line) (defs : List Def) (fault : EditFault) → slice_get lines n ≡ Some line → definitions_of_alias_line line.node ≡ Some defs
-    → IsRefusalOrNoMemory fault (result_at_owned_bytes at (extents_of_definitions defs) (λ a b. lines_with_item_cut_out among.Definitions at a b n line lines)) → IsRefusalOrNoMemory fault (lines_with_definition_dropped n at lines)
+    → IsRefusalOrNoMemory fault (result_with_bytes_to_drop_item at (extents_of_definitions defs) (λ a b. lines_with_item_cut_out among.Definitions at a b n line lines)) → IsRefusalOrNoMemory fault (lines_with_definition_dropped n at lines)
 refused_cut_refuses_definition_drop lines n at line defs fault here is refuses = subst (IsRefusalOrNoMemory fault) (sym (definition_drop_cuts_at_owned_bytes n at lines line defs here is)) refuses
 
 -- the bytes that go with a definition are within the line

@@ -1,11 +1,11 @@
 -- A prune of several files, removal by removal: what its changes make so far, and where all of them lead.
-use Rattle.sudoers_edit.proofs.Common.{AreAllowedRemovals, AreChangesInOrder, AreChangesOfEdit, AreLinesAtSpots, Edit, EditFault, Err, IsFileOrderOfChanges, IsPartialPrune, IsRefusalOrNoMemory, IsRemovalMade}
+use Rattle.sudoers_edit.proofs.Common.{AreRemovalsBelowLimitsInTurn, AreChangesInOrder, AreChangesOfEdit, AreLinesAtSpots, Edit, EditFault, Err, IsFileOrderOfChanges, IsPartialPrune, IsRefusalOrNoMemory, IsRemovalMade}
 use Rattle.sudoers_edit.proofs.Common.{LineChange, List, LoadFault, LoadedPolicy, NamedFile, NoChangesLaw, Ok, ParsedFile, Prune, PruneRemoval, Result, Some, [], ap, append-nil, append_assoc, ap₂, arith}
 use Rattle.sudoers_edit.proofs.Common.{changed_files_from_number, changes_of_file, edit_of_removal, edits_undoing_removals, false, file_names, files_after_changes, has_inner_line_without_lf, inl, inr, inv}
 use Rattle.sudoers_edit.proofs.Common.{is_line_cut_by_removal, join, length, lines_after_changes, lines_of_numbered_file, map, named_file_of_parsed, named_files_of_policy, option_and_then, policy_after_removals}
 use Rattle.sudoers_edit.proofs.Common.{policy_of_files_or_refusal, policy_or_edit_fault, policy_or_load_fault, prune_removals_of_walk, refl, removal_limits_after, result_ok, run, step, subst, suc, sym}
 use Rattle.sudoers_edit.proofs.Common.{texts_of_lines, walk_or_fault_of_files, ℕ, ◌++◌, ◌+◌, ◌∙◌, ◌∷◌, ◌≡◌}
-use Rattle.sudoers_edit.specs.declared.pruning.PruneRemoval.TheVariants as removal
+use Rattle.sudoers_edit.specs.declared.prune_removals.PruneRemoval.TheVariants as removal
 use Rattle.sudoers_edit.proofs.DraftLemmas.{order_of_changes_holds_from_lower_number}
 use Rattle.sudoers_edit.proofs.PruneFalls.{prune_removals_of_walk_are_allowed}
 
@@ -47,7 +47,7 @@ unstarted_prune_is_partial_prune none policy all loaded stand walk are = record 
   cut = λ f n. false;
   draft = record { loaded = loaded; names = refl; made = λ f. sym (none 0 (texts_of_lines (lines_of_numbered_file policy.files f))); on = refl; inside = tt; whole = tt };
   ready = record { order = λ f. omega arith; last = λ f n is. absurd (cc) };
-  falls = subst (AreAllowedRemovals policy (λ f. length (lines_of_numbered_file policy.files f)) (λ f n. false)) (sym are) (prune_removals_of_walk_are_allowed policy stand walk);
+  falls = subst (AreRemovalsBelowLimitsInTurn policy (λ f. length (lines_of_numbered_file policy.files f)) (λ f n. false)) (sym are) (prune_removals_of_walk_are_allowed policy stand walk);
   forth = refl;
   back = append-nil (edits_undoing_removals all policy);
   again = refl;

@@ -1,10 +1,10 @@
 -- What a prune takes out of each file goes from its last line to its first.
-use Rattle.sudoers_edit.proofs.Common.{AllByRecursion, AreAllowedRemovals, AreLinesAtSpots, Bool, IsAliasLineOnWalk, Line, List, LoadedPolicy, Node, Ok, ParsedFile, PlacedDefinition, PruneRemoval, Some, WalkLineSpot}
+use Rattle.sudoers_edit.proofs.Common.{AllByRecursion, AreRemovalsBelowLimitsInTurn, AreLinesAtSpots, Bool, IsAliasLineOnWalk, Line, List, LoadedPolicy, Node, Ok, ParsedFile, PlacedDefinition, PruneRemoval, Some, WalkLineSpot}
 use Rattle.sudoers_edit.proofs.Common.{WalkState, [], ap, append-nil, append_assoc, arith, definitions_in_line, eq-eqb, eqb-true, false, filter, if◌then◌else◌, inl, inr, is_file_on_walk, is_line_cut_by_removal}
-use Rattle.sudoers_edit.proofs.Common.{is_unused, length, length-append, limit_lowered_for_file, lines_of_numbered_file, map, prune_removals_of_walk, refl, removals_from_line_number, removals_of_line, reverse}
+use Rattle.sudoers_edit.proofs.Common.{is_unused, length, length-append, limits_with_limit_of_file_set, lines_of_numbered_file, map, prune_removals_of_walk, refl, removals_from_line_number, removals_of_line, reverse}
 use Rattle.sudoers_edit.proofs.Common.{slice_get, slice_index_or, spot_of_walk_line, subst, sym, true, walk_or_fault_of_files, ℕ, ◌++◌, ◌+◌, ◌<◌, ◌==◌, ◌∙◌, ◌∷◌, ◌≡◌, ◌⊎◌}
 use Rattle.sudoers_grammar.specs.Node as node
-use Rattle.sudoers_edit.specs.declared.pruning.PruneRemoval.TheVariants as removal
+use Rattle.sudoers_edit.specs.declared.prune_removals.PruneRemoval.TheVariants as removal
 use Rattle.sudoers_edit.proofs.PrunePlaces.{number_of_found_item_is_below_length}
 use Rattle.sudoers_edit.proofs.PruneWalk.{AreAscendingSpots, IsEarlierInSameFile, IsOrderedWalk, walk_of_files_is_ordered}
 
@@ -14,7 +14,7 @@ AreSpotsBelowFileLimits below spots = AllByRecursion (λ (at : WalkLineSpot). at
 
 -- The removals may go where nothing of these spots is changed.
 abbrev AreAllowedBehindSpots : LoadedPolicy → List WalkLineSpot → List PruneRemoval → Type 0
-AreAllowedBehindSpots policy earlier rest = (below : ℕ → ℕ) (cut : ℕ → ℕ → Bool) → AreSpotsBelowFileLimits below earlier → AreAllowedRemovals policy below cut rest
+AreAllowedBehindSpots policy earlier rest = (below : ℕ → ℕ) (cut : ℕ → ℕ → Bool) → AreSpotsBelowFileLimits below earlier → AreRemovalsBelowLimitsInTurn policy below cut rest
 
 pub property_of_joined_list_holds_of_both : {X : Type 0} (P : X → Type 0) (xs ys : List X) → AllByRecursion P (xs ++ ys) → AllByRecursion P xs × AllByRecursion P ys
 property_of_joined_list_holds_of_both P [] ys a = (tt, a)
@@ -22,7 +22,7 @@ property_of_joined_list_holds_of_both P (x ∷ xs) ys a = let rest = property_of
 
 -- spots before a line that goes
 lowered_limit_keeps_earlier_spots_below : (at : WalkLineSpot) (below : ℕ → ℕ) (earlier : List WalkLineSpot) → AllByRecursion (IsEarlierInSameFile at) earlier → AreSpotsBelowFileLimits below earlier
-    → AreSpotsBelowFileLimits (limit_lowered_for_file at.file at.line below) earlier
+    → AreSpotsBelowFileLimits (limits_with_limit_of_file_set at.file at.line below) earlier
 lowered_limit_keeps_earlier_spots_below at below [] before under = tt
 lowered_limit_keeps_earlier_spots_below at below (s ∷ earlier) before under = (by (s.file == at.file) refl, lowered_limit_keeps_earlier_spots_below at below earlier before.1 under.1)
   where
@@ -35,13 +35,13 @@ lowered_limit_keeps_earlier_spots_below at below (s ∷ earlier) before under = 
 removals_of_definitions_are_allowed : (policy : LoadedPolicy) (earlier : List WalkLineSpot) (at : WalkLineSpot) (rest : List PruneRemoval) → IsAliasLineOnWalk policy at.file at.line → AllByRecursion (IsEarlierInSameFile at) earlier
     → AreAllowedBehindSpots policy earlier rest → (ds : List PlacedDefinition) (below : ℕ → ℕ) (cut : ℕ → ℕ → Bool) → AreSpotsBelowFileLimits below earlier
     → (at.line < below at.file) ⊎ (cut at.file at.line ≡ true)
-    → AreAllowedRemovals policy below cut (map (λ (d : PlacedDefinition). removal.Def at.file at.line d.place.def) ds ++ rest)
+    → AreRemovalsBelowLimitsInTurn policy below cut (map (λ (d : PlacedDefinition). removal.Def at.file at.line d.place.def) ds ++ rest)
 removals_of_definitions_are_allowed policy earlier at rest alias before next [] below cut under may = next below cut under
 removals_of_definitions_are_allowed policy earlier at rest alias before next (d ∷ ds) below cut under may =
     let same : is_line_cut_by_removal (removal.Def at.file at.line d.place.def) at.file at.line ≡ true =
     rw (eq-eqb at.file at.file refl, eq-eqb at.line at.line refl) refl in (
       (may, alias),
-      removals_of_definitions_are_allowed policy earlier at rest alias before next ds (limit_lowered_for_file at.file at.line below) (is_line_cut_by_removal (removal.Def at.file at.line d.place.def))
+      removals_of_definitions_are_allowed policy earlier at rest alias before next ds (limits_with_limit_of_file_set at.file at.line below) (is_line_cut_by_removal (removal.Def at.file at.line d.place.def))
           (lowered_limit_keeps_earlier_spots_below at below earlier before under) (inr same),
     )
 
@@ -52,11 +52,11 @@ removals_of_line_are_allowed_behind_spots policy earlier at count unused rest al
     parts : AreSpotsBelowFileLimits below earlier × AreSpotsBelowFileLimits below (at ∷ [])
     parts = property_of_joined_list_holds_of_both (λ (s : WalkLineSpot). s.line < below s.file) earlier (at ∷ []) under
 
-    by : (none all : Bool) → AreAllowedRemovals policy below cut ((if none then [] else (if all then removal.Line at.file at.line ∷ []
+    by : (none all : Bool) → AreRemovalsBelowLimitsInTurn policy below cut ((if none then [] else (if all then removal.Line at.file at.line ∷ []
         else map (λ (d : PlacedDefinition). removal.Def at.file at.line d.place.def) (reverse unused))) ++ rest)
     by true all = next below cut parts.0
     by false true =
-        ((parts.1.0, alias), next (limit_lowered_for_file at.file at.line below) (is_line_cut_by_removal (removal.Line at.file at.line)) (lowered_limit_keeps_earlier_spots_below at below earlier before parts.0))
+        ((parts.1.0, alias), next (limits_with_limit_of_file_set at.file at.line below) (is_line_cut_by_removal (removal.Line at.file at.line)) (lowered_limit_keeps_earlier_spots_below at below earlier before parts.0))
     by false false = removals_of_definitions_are_allowed policy earlier at rest alias before next (reverse unused) below cut parts.0 (inl parts.1.0)
 
 -- a line that defines nothing
@@ -112,10 +112,10 @@ spots_of_files_are_below_line_counts files (at ∷ spots) (line ∷ lines) stand
     (number_of_found_item_is_below_length (lines_of_numbered_file files at.file) at.line line stand.0.is_line, spots_of_files_are_below_line_counts files spots lines stand.1)
 
 pub prune_removals_of_walk_are_allowed : (policy : LoadedPolicy) → AreLinesAtSpots policy.files policy.walk.spots policy.walk.lines → walk_or_fault_of_files policy.files ≡ Ok policy.walk
-    → AreAllowedRemovals policy (λ f. length (lines_of_numbered_file policy.files f)) (λ f n. false) (prune_removals_of_walk policy.walk)
+    → AreRemovalsBelowLimitsInTurn policy (λ f. length (lines_of_numbered_file policy.files f)) (λ f n. false) (prune_removals_of_walk policy.walk)
 unfolding prune_removals_of_walk
 prune_removals_of_walk_are_allowed policy stand walk =
     let ordered : IsOrderedWalk policy.walk = walk_of_files_is_ordered policy.files policy.walk walk in
-    subst (AreAllowedRemovals policy (λ f. length (lines_of_numbered_file policy.files f)) (λ f n. false)) (append-nil (removals_from_line_number policy.walk 0 policy.walk.lines))
+    subst (AreRemovalsBelowLimitsInTurn policy (λ f. length (lines_of_numbered_file policy.files f)) (λ f n. false)) (append-nil (removals_from_line_number policy.walk 0 policy.walk.lines))
     (removals_from_line_number_are_allowed policy 0 [] policy.walk.spots policy.walk.lines [] refl refl stand ordered.on ordered.ascend (λ below cut under. tt)
     (λ f. length (lines_of_numbered_file policy.files f)) (λ f n. false) (spots_of_files_are_below_line_counts policy.files policy.walk.spots policy.walk.lines stand))

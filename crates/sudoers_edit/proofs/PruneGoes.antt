@@ -1,7 +1,7 @@
 -- A line or a definition taken out of a file of a policy: what is left is a policy again, and one edit leads back.
 use Rattle.sudoers_edit.proofs.Common.{AddDef, AllByRecursion, Bool, CanRemoveDefinition, CanRemoveLine, Def, DiffersOnlyInFileLines, EachIsOneLineWhenCut, Edit, EditFault, Err, Insert, IsCorrectlyParsed}
-use Rattle.sudoers_edit.proofs.Common.{IsDefinitionCut, Kind, Line, LineReadsAsNode, LineTexts, List, LoadedPolicy, Node, None, Ok, ParsedFile, PlacedDefinition, PruneEditLaws, Result, Some, [], parsed_lines_are_read_as_single_lines, ap}
-use Rattle.sudoers_edit.proofs.Common.{append-nil, ap₂, arith, bytes_between, bytes_owned_by_definition, cut_outcome_of_text, definitions_in_line, definitions_of_alias_line, edit_result_and_then, ends_in_lf}
+use Rattle.sudoers_edit.proofs.Common.{IsDefinitionCut, Kind, Line, LineReadsAsNode, LineTexts, List, LoadedPolicy, Node, None, Ok, ParsedFile, PlacedDefinition, LawsBehindPrunes, Result, Some, [], parsed_lines_are_read_as_single_lines, ap}
+use Rattle.sudoers_edit.proofs.Common.{append-nil, ap₂, arith, bytes_between, text_owned_by_definition, cut_outcome_of_text, definitions_in_line, definitions_of_alias_line, edit_result_and_then, ends_in_lf}
 use Rattle.sudoers_edit.proofs.Common.{extents_of_definitions, false, file_names, has_inner_line_without_lf, has_one_item_more, if◌then◌else◌, insert, is_file_on_walk, is_logical_line, is_one_logical_line, le-ltb}
 use Rattle.sudoers_edit.proofs.Common.{lead_of_parsed_line, length, length-append, line_limit, line_text_in_file, line_with_splice, lines_after_delete, lines_after_insert, lines_of_numbered_file}
 use Rattle.sudoers_edit.proofs.Common.{lines_of_optional_file, lines_with_definition_added, lines_with_definition_dropped, lines_with_item_put_in, lines_with_one_replaced, lt-ltb, named_files_of_policy, not}
@@ -116,7 +116,7 @@ no_lines_fit_for_leadless_line line after nowhere = record {
 }
 
 -- A line that leads nowhere goes.
-pub leadless_line_can_be_removed : PruneEditLaws → (policy : LoadedPolicy) (f n : ℕ) (line : Line) → policy_or_load_fault (named_files_of_policy policy) ≡ Ok policy
+pub leadless_line_can_be_removed : LawsBehindPrunes → (policy : LoadedPolicy) (f n : ℕ) (line : Line) → policy_or_load_fault (named_files_of_policy policy) ≡ Ok policy
     → is_file_on_walk policy.walk f ≡ true → slice_get (lines_of_numbered_file policy.files f) n ≡ Some line → ((name : List ℕ) → lead_of_parsed_line name line.node ≡ None)
     → CanRemoveLine f n policy
 leadless_line_can_be_removed l policy f n line loaded on here nowhere = record {
@@ -195,8 +195,8 @@ single_reading_is_reading_of_text text says outcome is = by (is_logical_line tex
     by false r reads e = absurd (cc)
 
 owned_bytes_of_definition_are_between_offsets : (lines : List Line) (n at from to : ℕ) (line : Line) (defs : List Def) → slice_get lines n ≡ Some line → definitions_of_alias_line line.node ≡ Some defs
-    → owned_bytes_start at (extents_of_definitions defs) ≡ Some from → owned_bytes_stop at (extents_of_definitions defs) ≡ Some to → bytes_owned_by_definition n at lines ≡ bytes_between from to line.text
-unfolding bytes_owned_by_definition
+    → owned_bytes_start at (extents_of_definitions defs) ≡ Some from → owned_bytes_stop at (extents_of_definitions defs) ≡ Some to → text_owned_by_definition n at lines ≡ bytes_between from to line.text
+unfolding text_owned_by_definition
 owned_bytes_of_definition_are_between_offsets lines n at from to line defs here is begins stops = rw (here, is, begins, stops) refl
 
 -- a definition put in where it reads as it should
@@ -224,7 +224,7 @@ pub record IsKnownSingleLine (line : Line) : Type 0 where
   pub reads : LineReadsAsNode line.text line.node
   pub says : reading_of_single_line line.text ≡ Some line.node
 
-pub line_of_loaded_file_is_known : PruneEditLaws → (policy : LoadedPolicy) (f n : ℕ) (line : Line) → policy_or_load_fault (named_files_of_policy policy) ≡ Ok policy → slice_get (lines_of_numbered_file policy.files f) n ≡ Some line → IsKnownSingleLine line
+pub line_of_loaded_file_is_known : LawsBehindPrunes → (policy : LoadedPolicy) (f n : ℕ) (line : Line) → policy_or_load_fault (named_files_of_policy policy) ≡ Ok policy → slice_get (lines_of_numbered_file policy.files f) n ≡ Some line → IsKnownSingleLine line
 line_of_loaded_file_is_known l policy f n line loaded here =
     let lines : AreValidFileLines (lines_of_numbered_file policy.files f) = lines_of_loaded_file_are_valid l policy f loaded in
     let c : IsSplitAtLine (lines_of_numbered_file policy.files f) n line = lines_are_split_at_numbered_line (lines_of_numbered_file policy.files f) n line here in
@@ -232,7 +232,7 @@ line_of_loaded_file_is_known l policy f n line loaded here =
     let reads = (parts_of_correctly_parsed_lines_are_so c.front (line ∷ c.after) (subst (AllByRecursion IsCorrectlyParsed) c.is lines.says)).1.0 in
     record { alone = alone; reads = reads; says = (parsed_lines_are_read_as_single_lines l.whole l.outcome l.reading l.faultless (line ∷ []) (alone, tt) (reads, tt)).0 }
 
-pub cut_definition_can_be_removed : PruneEditLaws → (policy : LoadedPolicy) (f n at : ℕ) (line : Line) (text splice : List ℕ) → policy_or_load_fault (named_files_of_policy policy) ≡ Ok policy
+pub cut_definition_can_be_removed : LawsBehindPrunes → (policy : LoadedPolicy) (f n at : ℕ) (line : Line) (text splice : List ℕ) → policy_or_load_fault (named_files_of_policy policy) ≡ Ok policy
     → is_file_on_walk policy.walk f ≡ true → slice_get (lines_of_numbered_file policy.files f) n ≡ Some line → IsDefinitionCut n at (lines_of_numbered_file policy.files f) line text splice
     → CanRemoveDefinition f n at policy text splice
 cut_definition_can_be_removed l policy f n at line text splice loaded on here d = record {
@@ -348,6 +348,6 @@ cut_definition_can_be_removed l policy f n at line text splice loaded on here d 
         ∙ ap (λ (ls : LineTexts). Ok ls) restored
 
 -- a line of a file says what its bytes say
-pub loaded_line_reads_as_its_node : PruneEditLaws → (policy : LoadedPolicy) (f n : ℕ) (line : Line) → policy_or_load_fault (named_files_of_policy policy) ≡ Ok policy
+pub loaded_line_reads_as_its_node : LawsBehindPrunes → (policy : LoadedPolicy) (f n : ℕ) (line : Line) → policy_or_load_fault (named_files_of_policy policy) ≡ Ok policy
     → slice_get (lines_of_numbered_file policy.files f) n ≡ Some line → reading_of_single_line line.text ≡ Some line.node
 loaded_line_reads_as_its_node l policy f n line loaded here = (line_of_loaded_file_is_known l policy f n line loaded here).says

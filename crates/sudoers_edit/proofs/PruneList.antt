@@ -2,7 +2,7 @@
 use Rattle.sudoers_edit.proofs.Common.{EditFault, Err, List, LoadedPolicy, Ok, Prune, PruneRemoval, Result, [], ap, edit_of_removal, edit_result_and_then, edit_undoing_removal, edits_of_prune, edits_undoing_removals}
 use Rattle.sudoers_edit.proofs.Common.{inv, inv_run, map, next_or_placed_refusal, policy_after_removal, policy_after_removals, policy_or_first_refusal, prune_removals_of_walk, refl, result_unwrap_or}
 use Rattle.sudoers_edit.proofs.Common.{run_result_without_place, step, ℕ, ◌++◌, ◌+◌, ◌∷◌, ◌≡◌}
-use Rattle.sudoers_edit.specs.declared.pruning.PruneRemoval.TheVariants as removal
+use Rattle.sudoers_edit.specs.declared.prune_removals.PruneRemoval.TheVariants as removal
 
 removals_after_first_are_run_of_edits : (rs : List PruneRemoval) (place : ℕ) → ((policy : LoadedPolicy) → policy_after_removals rs policy ≡ run_result_without_place (policy_or_first_refusal (place + 1) (map edit_of_removal rs) policy))
     → (r : Result LoadedPolicy EditFault) → edit_result_and_then r (policy_after_removals rs) ≡ run_result_without_place (next_or_placed_refusal (policy_or_first_refusal (place + 1) (map edit_of_removal rs)) place r)

@@ -1,5 +1,5 @@
 -- Files of which one has other lines, and lines of which one has others in its place.
-use Rattle.sudoers_edit.proofs.Common.{AllByRecursion, Bool, EachIsOneLineWhenCut, IsCorrectlyParsed, Line, LineMapping, List, NamedFile, None, ParsedFile, Some, [], ap, ap₂, arith, eq-eqb, eqb-true, false}
+use Rattle.sudoers_edit.proofs.Common.{AllByRecursion, Bool, EachIsOneLineWhenCut, IsCorrectlyParsed, Line, LineToLinesMapping, List, NamedFile, None, ParsedFile, Some, [], ap, ap₂, arith, eq-eqb, eqb-true, false}
 use Rattle.sudoers_edit.proofs.Common.{fault_of_numbered_file, file_names, files_with_bytes_replaced, if◌then◌else◌, join, length, length-append, lines_of_numbered_file, map, mapped_lines_from_number}
 use Rattle.sudoers_edit.proofs.Common.{named_file_of_parsed, refl, slice_get, suc, texts_of_lines, true, zero, ℕ, ◌&&◌, ◌++◌, ◌+◌, ◌==◌, ◌∙◌, ◌∷◌, ◌≡◌, ◌≤◌}
 
@@ -62,7 +62,7 @@ former_bytes_are_restored (suc f) lines (first ∷ files) = ap (λ (fs : List Na
 -- ---- one line of a file
 
 -- these lines come of the line n of the file f, and each other line stays
-abbrev pub mapping_of_one_line : ℕ → ℕ → List Line → LineMapping
+abbrev pub mapping_of_one_line : ℕ → ℕ → List Line → LineToLinesMapping
 mapping_of_one_line f n news = λ e m line. if (e == f) && (m == n) then news else line ∷ []
 
 other_line_is_mapped_to_itself : (f n : ℕ) (news : List Line) (e m : ℕ) (line : Line) → ((e ≡ f) → (m ≡ n) → ⊥) → mapping_of_one_line f n news e m line ≡ line ∷ []

@@ -5,7 +5,7 @@ use Rattle.sudoers_edit.proofs.Common.{removals_along_places, removals_from_line
 use Rattle.sudoers_edit.proofs.Common.{◌+◌, ◌∙◌, ◌∷◌, ◌≡◌, ◌≤◌}
 use Rattle.std.proofs.Common.{ne_eqb}
 use Rattle.std.specs.Prelude.{◌==◌}
-use Rattle.sudoers_edit.specs.declared.pruning.PruneRemoval.TheVariants as removal
+use Rattle.sudoers_edit.specs.declared.prune_removals.PruneRemoval.TheVariants as removal
 use Rattle.sudoers_edit.proofs.PrunePlaces.{kind_and_place_of_definition, property_of_values_holds_of_map, property_of_list_holds_of_filtered, map_of_reverse_is_reverse_of_map, map_of_map_is_map_of_composition, definitions_of_line_are_placed_in_it, definitions_of_lines_are_placed_from_number, leading_places_in_line_are_counted}
 
 removals_of_spot_reversed_are_of_line : (at : WalkLineSpot) (count : ℕ) (ds : List PlacedDefinition) → reverse (removals_of_spot_and_places at count (map kind_and_place_of_definition ds)) ≡ removals_of_line at count ds

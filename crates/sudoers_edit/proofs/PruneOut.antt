@@ -1,13 +1,13 @@
 -- A line or a definition taken out of a draft of several files.
 use Rattle.sudoers_edit.proofs.Common.{AddDef, AllByRecursion, AreChangesInOrder, Bool, CanRemoveDefinition, CanRemoveLine, Delete, DropDef, EditFault, FirstChangeLaw, Insert, IsAliasLineOnWalk, IsDefinitionCut}
-use Rattle.sudoers_edit.proofs.Common.{IsLogicalLine, IsReadyForRemoval, IsRefusalOrNoMemory, IsRemovalMade, IsResultOfChanges, Line, LineChange, LineTexts, List, LoadedPolicy, NoChangesLaw, None, Ok, Option, Put}
-use Rattle.sudoers_edit.proofs.Common.{ReplacesLineFirst, Some, Swap, Take, [], and_parts, ap, arith, changes_of_file, changes_without_replacement, edit_result_and_then, eq-eqb, eqb-false, eqb-true, false}
-use Rattle.sudoers_edit.proofs.Common.{file_number_of_change, if◌then◌else◌, inl, inr, is_file_on_walk, lead_of_parsed_line, length, limit_lowered_for_file, line_text_in_file, lines_after_changes}
+use Rattle.sudoers_edit.proofs.Common.{IsLogicalLine, LeavesLinesBelowLimitsUnchanged, IsRefusalOrNoMemory, IsRemovalMade, IsResultOfChanges, Line, LineChange, LineTexts, List, LoadedPolicy, NoChangesLaw, None, Ok, Option, Put}
+use Rattle.sudoers_edit.proofs.Common.{BeginsWithReplacementOfLine, Some, Swap, Take, [], and_parts, ap, arith, changes_of_file, changes_without_first_if_it_replaces_line, edit_result_and_then, eq-eqb, eqb-false, eqb-true, false}
+use Rattle.sudoers_edit.proofs.Common.{file_number_of_change, if◌then◌else◌, inl, inr, is_file_on_walk, lead_of_parsed_line, length, limits_with_limit_of_file_set, line_text_in_file, lines_after_changes}
 use Rattle.sudoers_edit.proofs.Common.{lines_of_numbered_file, lines_with_definition_dropped, lines_with_one_replaced, list_any, named_files_of_policy, nat_eq, ne_eqb, option_or, policy_or_load_fault}
-use Rattle.sudoers_edit.proofs.Common.{policy_with_file_lines, reading_of_single_line, refl, remove, replacement_text_of_line, slice_get, slice_get_within, step, subst, suc, sym, texts_of_changes, texts_of_lines}
+use Rattle.sudoers_edit.proofs.Common.{policy_with_file_lines, reading_of_single_line, refl, remove, replacement_text_by_first_change, slice_get, slice_get_within, step, subst, suc, sym, texts_of_changes, texts_of_lines}
 use Rattle.sudoers_edit.proofs.Common.{true, zero, ℕ, ◌&&◌, ◌+◌, ◌<◌, ◌==◌, ◌∙◌, ◌∷◌, ◌≡◌, ◌⊎◌}
 use Rattle.sudoers_grammar.specs.Node as node
-use Rattle.sudoers_edit.specs.declared.pruning.PruneRemoval.TheVariants as removal
+use Rattle.sudoers_edit.specs.declared.prune_removals.PruneRemoval.TheVariants as removal
 use Rattle.sudoers_edit.specs.internal.Made.{IsEditMade}
 use Rattle.sudoers_edit.proofs.DraftLemmas.{second_swap_replaces_swapped_line, swap_before_changes_replaces_line, take_before_changes_removes_line, line_before_changes_is_unchanged, order_of_changes_holds_from_lower_number, swapped_line_is_its_new_text}
 use Rattle.sudoers_edit.proofs.PolicyLemmas.{found_line_is_line_at_index, texts_are_as_many_as_lines}
@@ -38,10 +38,10 @@ changes_of_file_begin_with_own_change f change changes is = rw (eq-eqb (file_num
 changes_of_file_skip_other_change : (e : ℕ) (change : LineChange) (changes : List LineChange) → (file_number_of_change change ≡ e → ⊥) → changes_of_file e (change ∷ changes) ≡ changes_of_file e changes
 changes_of_file_skip_other_change e change changes other = rw (ne_eqb (file_number_of_change change) e (λ same. absurd (other same))) refl
 
-lowered_limit_of_file_is_its_number : (f n : ℕ) (below : ℕ → ℕ) → limit_lowered_for_file f n below f ≡ n
+lowered_limit_of_file_is_its_number : (f n : ℕ) (below : ℕ → ℕ) → limits_with_limit_of_file_set f n below f ≡ n
 lowered_limit_of_file_is_its_number f n below = rw (eq-eqb f f refl) refl
 
-lowered_limit_of_other_file_is_kept : (f n e : ℕ) (below : ℕ → ℕ) → (e ≡ f → ⊥) → limit_lowered_for_file f n below e ≡ below e
+lowered_limit_of_other_file_is_kept : (f n e : ℕ) (below : ℕ → ℕ) → (e ≡ f → ⊥) → limits_with_limit_of_file_set f n below e ≡ below e
 lowered_limit_of_other_file_is_kept f n e below other = rw (ne_eqb e f (λ same. absurd (other same))) refl
 
 -- one change more is in order
@@ -49,13 +49,13 @@ added_change_keeps_order_in_each_file : (policy : LoadedPolicy) (f n : ℕ) (bel
     → AreChangesInOrder n (change ∷ changes_of_file f rest) (length (lines_of_numbered_file policy.files f))
     → ((e : ℕ) → (e ≡ f → ⊥) → changes_of_file e rest ≡ changes_of_file e changes)
     → ((e : ℕ) → AreChangesInOrder (below e) (changes_of_file e changes) (length (lines_of_numbered_file policy.files e)))
-    → (e : ℕ) → AreChangesInOrder (limit_lowered_for_file f n below e) (changes_of_file e (change ∷ rest)) (length (lines_of_numbered_file policy.files e))
+    → (e : ℕ) → AreChangesInOrder (limits_with_limit_of_file_set f n below e) (changes_of_file e (change ∷ rest)) (length (lines_of_numbered_file policy.files e))
 added_change_keeps_order_in_each_file policy f n below change rest changes own here others order e = by (e == f) refl
   where
-    by : (b : Bool) → (e == f) ≡ b → AreChangesInOrder (limit_lowered_for_file f n below e) (changes_of_file e (change ∷ rest)) (length (lines_of_numbered_file policy.files e))
+    by : (b : Bool) → (e == f) ≡ b → AreChangesInOrder (limits_with_limit_of_file_set f n below e) (changes_of_file e (change ∷ rest)) (length (lines_of_numbered_file policy.files e))
     by true is =
         let same : f ≡ e = sym (eqb-true e f is) in
-        subst (λ e. AreChangesInOrder (limit_lowered_for_file f n below e) (changes_of_file e (change ∷ rest)) (length (lines_of_numbered_file policy.files e))) same
+        subst (λ e. AreChangesInOrder (limits_with_limit_of_file_set f n below e) (changes_of_file e (change ∷ rest)) (length (lines_of_numbered_file policy.files e))) same
         (subst (λ m. AreChangesInOrder m (changes_of_file f (change ∷ rest)) (length (lines_of_numbered_file policy.files f))) (sym (lowered_limit_of_file_is_its_number f n below))
         (subst (λ cs. AreChangesInOrder n cs (length (lines_of_numbered_file policy.files f))) (sym (changes_of_file_begin_with_own_change f change rest own)) here))
     by false is =
@@ -104,7 +104,7 @@ file_on_walk_is_on_equal_walk policy now f same on = ap (list_any (nat_eq f)) sa
 -- ---- a line
 
 pub allowed_line_removal_is_made : NoChangesLaw → FirstChangeLaw → LeadlessLineCanBeRemoved → LoadedLineReadsAsItsNode → (policy now : LoadedPolicy) (changes : List LineChange) (f at : ℕ) (below : ℕ → ℕ) (cut : ℕ → ℕ → Bool)
-    (text : List ℕ) → policy_or_load_fault (named_files_of_policy policy) ≡ Ok policy → IsResultOfChanges policy changes now → IsReadyForRemoval policy below cut changes → at < below f → IsAliasLineOnWalk policy f at
+    (text : List ℕ) → policy_or_load_fault (named_files_of_policy policy) ≡ Ok policy → IsResultOfChanges policy changes now → LeavesLinesBelowLimitsUnchanged policy below cut changes → at < below f → IsAliasLineOnWalk policy f at
     → slice_get (texts_of_lines (lines_of_numbered_file policy.files f)) at ≡ Some text → IsRemovalMade policy (removal.Line f at) below now (Take f at ∷ changes) (Insert f at text)
 allowed_line_removal_is_made none first line_law said_law policy now changes f at below cut text loaded draft ready may alias here = record {
   next = goes.next;
@@ -173,20 +173,20 @@ removable_alias_line_is_present policy f at alias is =
 
 -- The line with this number of the file has this text in the draft. What replaces it makes the lines of the draft with that line replaced.
 pub record HasTextInDraft (policy now : LoadedPolicy) (changes : List LineChange) (f n : ℕ) (text : List ℕ) : Type 0 where
-  pub order : AreChangesInOrder (n + 1) (changes_of_file f (changes_without_replacement f n changes)) (length (lines_of_numbered_file policy.files f))
-  pub others : (e : ℕ) → (e ≡ f → ⊥) → changes_of_file e (changes_without_replacement f n changes) ≡ changes_of_file e changes
-  pub inside : AllByRecursion (λ (change : LineChange). file_number_of_change change < length policy.files) (changes_without_replacement f n changes)
-  pub whole : AllByRecursion IsLogicalLine (texts_of_changes (changes_without_replacement f n changes))
+  pub order : AreChangesInOrder (n + 1) (changes_of_file f (changes_without_first_if_it_replaces_line f n changes)) (length (lines_of_numbered_file policy.files f))
+  pub others : (e : ℕ) → (e ≡ f → ⊥) → changes_of_file e (changes_without_first_if_it_replaces_line f n changes) ≡ changes_of_file e changes
+  pub inside : AllByRecursion (λ (change : LineChange). file_number_of_change change < length policy.files) (changes_without_first_if_it_replaces_line f n changes)
+  pub whole : AllByRecursion IsLogicalLine (texts_of_changes (changes_without_first_if_it_replaces_line f n changes))
   pub line : Line
   pub here : slice_get (lines_of_numbered_file now.files f) n ≡ Some line
   pub says : line.text ≡ text
-  pub made : (other : List ℕ) → lines_after_changes (Swap f n other ∷ changes_of_file f (changes_without_replacement f n changes)) (texts_of_lines (lines_of_numbered_file policy.files f))
+  pub made : (other : List ℕ) → lines_after_changes (Swap f n other ∷ changes_of_file f (changes_without_first_if_it_replaces_line f n changes)) (texts_of_lines (lines_of_numbered_file policy.files f))
       ≡ lines_with_one_replaced n other (texts_of_lines (lines_of_numbered_file now.files f))
 
 -- a line that no change replaces
 unchanged_line_has_text_in_draft : NoChangesLaw → FirstChangeLaw → (policy now : LoadedPolicy) (changes : List LineChange) (f n : ℕ) (below : ℕ → ℕ) (cut : ℕ → ℕ → Bool) (text : List ℕ)
-    → IsResultOfChanges policy changes now → IsReadyForRemoval policy below cut changes → n < below f → slice_get (texts_of_lines (lines_of_numbered_file policy.files f)) n ≡ Some text
-    → changes_without_replacement f n changes ≡ changes → HasTextInDraft policy now changes f n text
+    → IsResultOfChanges policy changes now → LeavesLinesBelowLimitsUnchanged policy below cut changes → n < below f → slice_get (texts_of_lines (lines_of_numbered_file policy.files f)) n ≡ Some text
+    → changes_without_first_if_it_replaces_line f n changes ≡ changes → HasTextInDraft policy now changes f n text
 unchanged_line_has_text_in_draft none first policy now changes f n below cut text draft ready under here all =
     let lines : LineTexts = texts_of_lines (lines_of_numbered_file policy.files f) in
     let own : List LineChange = changes_of_file f changes in
@@ -221,7 +221,7 @@ equal_line_number_is_below_other_count ls ms n less same = by (slice_get ls n) r
 
 -- one that the first change replaces
 swapped_line_has_text_in_draft : NoChangesLaw → FirstChangeLaw → (policy now : LoadedPolicy) (rest : List LineChange) (f n : ℕ) (below : ℕ → ℕ) (cut : ℕ → ℕ → Bool) (text : List ℕ)
-    → IsResultOfChanges policy (Swap f n text ∷ rest) now → IsReadyForRemoval policy below cut (Swap f n text ∷ rest) → changes_without_replacement f n (Swap f n text ∷ rest) ≡ rest
+    → IsResultOfChanges policy (Swap f n text ∷ rest) now → LeavesLinesBelowLimitsUnchanged policy below cut (Swap f n text ∷ rest) → changes_without_first_if_it_replaces_line f n (Swap f n text ∷ rest) ≡ rest
     → HasTextInDraft policy now (Swap f n text ∷ rest) f n text
 swapped_line_has_text_in_draft none first policy now rest f n below cut text draft ready less =
     let lines : LineTexts = texts_of_lines (lines_of_numbered_file policy.files f) in
@@ -249,12 +249,12 @@ swapped_line_has_text_in_draft none first policy now rest f n below cut text dra
 
 -- the line so far, whatever the first change is
 pub removable_line_has_text_in_draft : NoChangesLaw → FirstChangeLaw → (policy now : LoadedPolicy) (changes : List LineChange) (f n : ℕ) (below : ℕ → ℕ) (cut : ℕ → ℕ → Bool) (text : List ℕ)
-    → IsResultOfChanges policy changes now → IsReadyForRemoval policy below cut changes → (n < below f) ⊎ (cut f n ≡ true)
-    → option_or (replacement_text_of_line f n changes) (slice_get (texts_of_lines (lines_of_numbered_file policy.files f)) n) ≡ Some text → HasTextInDraft policy now changes f n text
+    → IsResultOfChanges policy changes now → LeavesLinesBelowLimitsUnchanged policy below cut changes → (n < below f) ⊎ (cut f n ≡ true)
+    → option_or (replacement_text_by_first_change f n changes) (slice_get (texts_of_lines (lines_of_numbered_file policy.files f)) n) ≡ Some text → HasTextInDraft policy now changes f n text
 removable_line_has_text_in_draft none first policy now changes f n below cut text draft ready may is = by_may may
   where
-    by_first : (cs : List LineChange) → IsResultOfChanges policy cs now → IsReadyForRemoval policy below cut cs → (n < below f) ⊎ ReplacesLineFirst f n cs
-        → option_or (replacement_text_of_line f n cs) (slice_get (texts_of_lines (lines_of_numbered_file policy.files f)) n) ≡ Some text → HasTextInDraft policy now cs f n text
+    by_first : (cs : List LineChange) → IsResultOfChanges policy cs now → LeavesLinesBelowLimitsUnchanged policy below cut cs → (n < below f) ⊎ BeginsWithReplacementOfLine f n cs
+        → option_or (replacement_text_by_first_change f n cs) (slice_get (texts_of_lines (lines_of_numbered_file policy.files f)) n) ≡ Some text → HasTextInDraft policy now cs f n text
     by_first [] d r (inl under) told = unchanged_line_has_text_in_draft none first policy now [] f n below cut text d r under told refl
     by_first [] d r (inr same) told = absurd same
     by_first (Put file at other ∷ cs) d r (inl under) told = unchanged_line_has_text_in_draft none first policy now (Put file at other ∷ cs) f n below cut text d r under told refl
@@ -264,7 +264,7 @@ removable_line_has_text_in_draft none first policy now changes f n below cut tex
     by_first (Swap file at other ∷ cs) d r which told = by ((file == f) && (at == n)) refl told
       where
         last : LineChange → Type 0
-        last change = IsResultOfChanges policy (change ∷ cs) now × IsReadyForRemoval policy below cut (change ∷ cs)
+        last change = IsResultOfChanges policy (change ∷ cs) now × LeavesLinesBelowLimitsUnchanged policy below cut (change ∷ cs)
 
         by_same : file ≡ f → at ≡ n → other ≡ text → HasTextInDraft policy now (Swap file at other ∷ cs) f n text
         by_same here there says =
@@ -294,9 +294,9 @@ removable_line_has_text_in_draft none first policy now changes f n below cut tex
     by_may (inr last) = by_first changes draft ready (inr (ready.last f n last)) is
 
 pub allowed_definition_removal_is_made : CutDefinitionCanBeRemoved → (policy now : LoadedPolicy) (changes : List LineChange) (f n at : ℕ) (below : ℕ → ℕ) (cut : ℕ → ℕ → Bool) (old text splice : List ℕ)
-    → IsResultOfChanges policy changes now → IsReadyForRemoval policy below cut changes → IsAliasLineOnWalk policy f n → (d : HasTextInDraft policy now changes f n old)
+    → IsResultOfChanges policy changes now → LeavesLinesBelowLimitsUnchanged policy below cut changes → IsAliasLineOnWalk policy f n → (d : HasTextInDraft policy now changes f n old)
     → IsDefinitionCut n at (lines_of_numbered_file now.files f) d.line text splice
-    → IsRemovalMade policy (removal.Def f n at) below now (Swap f n text ∷ changes_without_replacement f n changes) (AddDef f n at splice)
+    → IsRemovalMade policy (removal.Def f n at) below now (Swap f n text ∷ changes_without_first_if_it_replaces_line f n changes) (AddDef f n at splice)
 allowed_definition_removal_is_made def_law policy now changes f n at below cut old text splice draft ready alias d gone =
     let goes : CanRemoveDefinition f n at now text splice =
     def_law now f n at d.line text splice draft.loaded (file_on_walk_is_on_equal_walk policy now f draft.on alias.on) d.here gone in
@@ -306,7 +306,7 @@ allowed_definition_removal_is_made def_law policy now changes f n at below cut o
           record {
             loaded = goes.left.loaded;
             names = goes.left.names ∙ draft.names;
-            made = added_change_makes_lines_of_each_file policy now goes.next f (Swap f n text) (changes_without_replacement f n changes) changes refl (goes.left.here ∙ sym (d.made text)) goes.left.there
+            made = added_change_makes_lines_of_each_file policy now goes.next f (Swap f n text) (changes_without_first_if_it_replaces_line f n changes) changes refl (goes.left.here ∙ sym (d.made text)) goes.left.there
                 d.others draft.made;
             on = goes.left.on ∙ draft.on;
             inside = (file_with_line_is_below_count policy.files f n alias.line alias.here, d.inside);
@@ -314,7 +314,7 @@ allowed_definition_removal_is_made def_law policy now changes f n at below cut o
           };
       ready =
           record {
-            order = added_change_keeps_order_in_each_file policy f n below (Swap f n text) (changes_without_replacement f n changes) changes refl (omega arith, d.order) d.others ready.order;
+            order = added_change_keeps_order_in_each_file policy f n below (Swap f n text) (changes_without_first_if_it_replaces_line f n changes) changes refl (omega arith, d.order) d.others ready.order;
             last = λ e m is.
                 let both = and_parts (e == f) (m == n) is in
                 (sym (eqb-true e f both.0), sym (eqb-true m n both.1));
@@ -332,16 +332,16 @@ refused_lines_refuse_drop_def now f n at line fault here (inr is) =
 
 -- a line of which a definition may go is there
 pub line_with_removable_definition_is_present : (policy : LoadedPolicy) (changes : List LineChange) (f n : ℕ) → IsAliasLineOnWalk policy f n
-    → option_or (replacement_text_of_line f n changes) (slice_get (texts_of_lines (lines_of_numbered_file policy.files f)) n) ≡ None → ⊥
+    → option_or (replacement_text_by_first_change f n changes) (slice_get (texts_of_lines (lines_of_numbered_file policy.files f)) n) ≡ None → ⊥
 line_with_removable_definition_is_present policy changes f n alias is =
-    removable_alias_line_is_present policy f n alias (no_line (replacement_text_of_line f n changes) (slice_get (texts_of_lines (lines_of_numbered_file policy.files f)) n) is)
+    removable_alias_line_is_present policy f n alias (no_line (replacement_text_by_first_change f n changes) (slice_get (texts_of_lines (lines_of_numbered_file policy.files f)) n) is)
   where
     no_line : (o p : Option (List ℕ)) → option_or o p ≡ None → p ≡ None
     no_line None p is = is
     no_line (Some x) p is = absurd (cc)
 
 -- the first change alone decides
-pub first_change_decides_replacement_text : (f n : ℕ) (change : LineChange) (changes : List LineChange) → replacement_text_of_line f n (change ∷ changes) ≡ replacement_text_of_line f n (change ∷ [])
+pub first_change_decides_replacement_text : (f n : ℕ) (change : LineChange) (changes : List LineChange) → replacement_text_by_first_change f n (change ∷ changes) ≡ replacement_text_by_first_change f n (change ∷ [])
 first_change_decides_replacement_text f n (Put file at text) changes = refl
 first_change_decides_replacement_text f n (Swap file at text) changes = refl
 first_change_decides_replacement_text f n (Take file at) changes = refl

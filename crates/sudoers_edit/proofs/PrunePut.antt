@@ -1,6 +1,6 @@
 -- A line of a file on the walk, in whose place other lines stand: the changed files are a policy again.
 use Rattle.sudoers_edit.proofs.Common.{AllByRecursion, AreDefinedNamesValid, AreFilesMapped, AreLinesAtSpots, AreValidWalkLines, Bool, CanReplaceFiles, EachIsOneLineWhenCut, IsCorrectlyParsed, IsMappedWalk}
-use Rattle.sudoers_edit.proofs.Common.{KeepIncludeLeads, KeepsIncludeLead, Line, LineMapping, List, LoadedPolicy, NamedFile, None, Ok, ParsedFile, PruneEditLaws, Some, WalkLineSpot, WalkState, [], and_parts, ap, ap₂}
+use Rattle.sudoers_edit.proofs.Common.{KeepIncludeLeads, KeepsIncludeLead, Line, LineToLinesMapping, List, LoadedPolicy, NamedFile, None, Ok, ParsedFile, LawsBehindPrunes, Some, WalkLineSpot, WalkState, [], and_parts, ap, ap₂}
 use Rattle.sudoers_edit.proofs.Common.{arith, cut_outcome_of_text, definitions_from_line_number, definitions_in_line, definitions_of_lines, eqb-false, eqb-true, false, files_with_bytes_replaced}
 use Rattle.sudoers_edit.proofs.Common.{has_inner_line_without_lf, if◌then◌else◌, is_file_on_walk, join, lead_of_parsed_line, length, length-append, lines_of_numbered_file, lines_of_optional_file, map}
 use Rattle.sudoers_edit.proofs.Common.{mapped_lines_at_spots, mapped_lines_from_number, name_of_numbered_file, named_file_of_parsed, named_files_of_policy, nowhere, one, policy_or_load_fault, policy_with_file_lines}
@@ -17,7 +17,7 @@ pub record AreValidFileLines (lines : List Line) : Type 0 where
   pub fits : length (join (texts_of_lines lines)) ≤ text_limit
   pub says : AllByRecursion IsCorrectlyParsed lines
 
-pub lines_of_loaded_file_are_valid : PruneEditLaws → (policy : LoadedPolicy) (f : ℕ) → policy_or_load_fault (named_files_of_policy policy) ≡ Ok policy → AreValidFileLines (lines_of_numbered_file policy.files f)
+pub lines_of_loaded_file_are_valid : LawsBehindPrunes → (policy : LoadedPolicy) (f : ℕ) → policy_or_load_fault (named_files_of_policy policy) ≡ Ok policy → AreValidFileLines (lines_of_numbered_file policy.files f)
 lines_of_loaded_file_are_valid l policy f loaded =
     let lines : List Line = lines_of_numbered_file policy.files f in
     let a = l.alone (join (texts_of_lines lines)) (texts_of_lines lines) (l.cut (named_files_of_policy policy) policy loaded f) in
@@ -135,7 +135,7 @@ fitting_lines_keep_include_leads policy f n line after news here fits e m l on t
     by false is =
         subst (KeepsIncludeLead (name_of_numbered_file policy.files e) l) (sym (ap (λ t. if t then news else l ∷ []) is)) (one l refl)
 
-pub fitting_lines_are_put_in_policy : PruneEditLaws → (policy : LoadedPolicy) (f : ℕ) (front : List Line) (line : Line) (after news : List Line) → policy_or_load_fault (named_files_of_policy policy) ≡ Ok policy
+pub fitting_lines_are_put_in_policy : LawsBehindPrunes → (policy : LoadedPolicy) (f : ℕ) (front : List Line) (line : Line) (after news : List Line) → policy_or_load_fault (named_files_of_policy policy) ≡ Ok policy
     → is_file_on_walk policy.walk f ≡ true → lines_of_numbered_file policy.files f ≡ front ++ line ∷ after → FitInPlaceOfLine line after news → IsPolicyWithLinesPut policy f front after news
 fitting_lines_are_put_in_policy l policy f front line after news loaded on was fits = record {
   next = next;
@@ -151,7 +151,7 @@ fitting_lines_are_put_in_policy l policy f front line after news loaded on was f
     n : ℕ
     n = length front
 
-    g : LineMapping
+    g : LineToLinesMapping
     g = mapping_of_one_line f n news
 
     new : List Line

@@ -1,5 +1,5 @@
 -- Changes sorted by their files.
-use Rattle.sudoers_edit.proofs.Common.{All-from_recursion, AllByRecursion, AreChangesInFileOrder, Bool, IsFileOrderOfChanges, IsLogicalLine, LineChange, List, Take, [], ap₂, arith, changes_of_file, eqb-false}
+use Rattle.sudoers_edit.proofs.Common.{All-from_recursion, AllByRecursion, AreFileNumbersOfChangesInOrder, Bool, IsFileOrderOfChanges, IsLogicalLine, LineChange, List, Take, [], ap₂, arith, changes_of_file, eqb-false}
 use Rattle.sudoers_edit.proofs.Common.{eqb-true, false, file_number_of_change, filter, if◌then◌else◌, inl, inr, le-ltb, leb_tells, length, lt-ltb, nat_lt, not, option_to_list, recursion_from_All, refl}
 use Rattle.sudoers_edit.proofs.Common.{slice_index_or, suc, sym, text_of_change, texts_of_changes, true, ℕ, ◌&&◌, ◌++◌, ◌<◌, ◌==◌, ◌∙◌, ◌∷◌, ◌≡◌, ◌≤◌}
 use Rattle.std.proofs.lemmas.List.Sorted.{All-permutation}
@@ -48,7 +48,7 @@ changes_tied_with_file_are_its_changes f (change ∷ changes) =
 
 -- changes whose files do not fall
 nondecreasing_changes_are_in_file_order : (f count : ℕ) (changes : List LineChange) → ((d : LineChange) → 0 < length changes → f ≤ file_number_of_change (slice_index_or changes 0 d))
-    → IsNonDecreasingBy file_number_of_change changes → AllByRecursion (λ (change : LineChange). file_number_of_change change < count) changes → AreChangesInFileOrder f changes count
+    → IsNonDecreasingBy file_number_of_change changes → AllByRecursion (λ (change : LineChange). file_number_of_change change < count) changes → AreFileNumbersOfChangesInOrder f changes count
 nondecreasing_changes_are_in_file_order f count [] from up inside = tt
 nondecreasing_changes_are_in_file_order f count (change ∷ changes) from up inside = (
   from change (omega arith),

@@ -1,5 +1,5 @@
 -- Lines of the files of a policy are taken out or replaced: which lines have come of which.
-use Rattle.sudoers_edit.proofs.Common.{AllByRecursion, Bool, DiffersOnlyInFileLines, IsCorrectlyParsed, KeepIncludeLeads, KeepsIncludeLead, Line, LineMapping, List, LoadedPolicy, NamedFile, None, Ok, Some, []}
+use Rattle.sudoers_edit.proofs.Common.{AllByRecursion, Bool, DiffersOnlyInFileLines, IsCorrectlyParsed, KeepIncludeLeads, KeepsIncludeLead, Line, LineToLinesMapping, List, LoadedPolicy, NamedFile, None, Ok, Some, []}
 use Rattle.sudoers_edit.proofs.Common.{and_parts, ap, ap₂, arith, eq-eqb, eqb-false, eqb-true, false, file_names, if◌then◌else◌, is_file_on_walk, lead_of_parsed_line, length, lines_of_numbered_file}
 use Rattle.sudoers_edit.proofs.Common.{mapped_lines_from_number, name_of_numbered_file, named_files_of_policy, nowhere, one, policy_or_load_fault, refl, slice_get, subst, sym, texts_of_lines, true, ℕ, ◌&&◌, ◌++◌}
 use Rattle.sudoers_edit.proofs.Common.{◌+◌, ◌<◌, ◌==◌, ◌∙◌, ◌∷◌, ◌≡◌, ◌≤◌}
@@ -9,13 +9,13 @@ use Rattle.sudoers_edit.proofs.PruneLists.{joined_lines_are_correctly_parsed, pa
 -- ---- mappings
 
 -- these lines come of the line n of the file f, and of each other line what comes of it by g
-abbrev pub mapping_with_line_renewed : LineMapping → ℕ → ℕ → List Line → LineMapping
+abbrev pub mapping_with_line_renewed : LineToLinesMapping → ℕ → ℕ → List Line → LineToLinesMapping
 mapping_with_line_renewed g f n news = λ e m line. if (e == f) && (m == n) then news else g e m line
 
-pub renewed_line_is_mapped_to_new_lines : (g : LineMapping) (f n : ℕ) (news : List Line) (line : Line) → mapping_with_line_renewed g f n news f n line ≡ news
+pub renewed_line_is_mapped_to_new_lines : (g : LineToLinesMapping) (f n : ℕ) (news : List Line) (line : Line) → mapping_with_line_renewed g f n news f n line ≡ news
 renewed_line_is_mapped_to_new_lines g f n news line = rw (eq-eqb f f refl, eq-eqb n n refl) refl
 
-pub other_line_is_mapped_as_before : (g : LineMapping) (f n : ℕ) (news : List Line) (e m : ℕ) (line : Line) → ((e ≡ f) → (m ≡ n) → ⊥) → mapping_with_line_renewed g f n news e m line ≡ g e m line
+pub other_line_is_mapped_as_before : (g : LineToLinesMapping) (f n : ℕ) (news : List Line) (e m : ℕ) (line : Line) → ((e ≡ f) → (m ≡ n) → ⊥) → mapping_with_line_renewed g f n news e m line ≡ g e m line
 other_line_is_mapped_as_before g f n news e m line other = by (e == f) refl (m == n) refl
   where
     by : (a : Bool) → (e == f) ≡ a → (b : Bool) → (m == n) ≡ b → (if (e == f) && (m == n) then news else g e m line) ≡ g e m line
@@ -24,16 +24,16 @@ other_line_is_mapped_as_before g f n news e m line other = by (e == f) refl (m =
     by false x b y = rw x refl
 
 -- each line of the file f before the line n is as it was
-abbrev pub KeepsLinesBefore : LineMapping → ℕ → ℕ → Type 0
+abbrev pub KeepsLinesBefore : LineToLinesMapping → ℕ → ℕ → Type 0
 KeepsLinesBefore g f n = (m : ℕ) (line : Line) → m < n → g f m line ≡ line ∷ []
 
 -- mappings that agree on the lines of the file f from the line m on
-agreeing_mappings_map_lines_equally : (g h : LineMapping) (f m : ℕ) (lines : List Line) → ((i : ℕ) (line : Line) → m ≤ i → g f i line ≡ h f i line) → mapped_lines_from_number g f m lines ≡ mapped_lines_from_number h f m lines
+agreeing_mappings_map_lines_equally : (g h : LineToLinesMapping) (f m : ℕ) (lines : List Line) → ((i : ℕ) (line : Line) → m ≤ i → g f i line ≡ h f i line) → mapped_lines_from_number g f m lines ≡ mapped_lines_from_number h f m lines
 agreeing_mappings_map_lines_equally g h f m [] same = refl
 agreeing_mappings_map_lines_equally g h f m (line ∷ lines) same =
     ap₂ (λ (xs ys : List Line). xs ++ ys) (same m line (omega arith)) (agreeing_mappings_map_lines_equally g h f (m + 1) lines (λ i l less. same i l (omega (arith, less))))
 
-mapped_lines_keep_front_before_number : (g : LineMapping) (f n m : ℕ) (front : List Line) (line : Line) (after : List Line) → KeepsLinesBefore g f n → m + length front ≡ n
+mapped_lines_keep_front_before_number : (g : LineToLinesMapping) (f n m : ℕ) (front : List Line) (line : Line) (after : List Line) → KeepsLinesBefore g f n → m + length front ≡ n
     → mapped_lines_from_number g f m (front ++ line ∷ after) ≡ front ++ (g f n line ++ mapped_lines_from_number g f (n + 1) after)
 mapped_lines_keep_front_before_number g f n m [] line after kept place =
     ap (λ i. g f i line ++ mapped_lines_from_number g f (i + 1) after) (let e : m ≡ n = omega (arith, place) in e)
@@ -43,14 +43,14 @@ mapped_lines_keep_front_before_number g f n m (first ∷ front) line after kept 
 -- ---- stages
 
 -- The lines of the policy `now` are those that come of the lines of the policy, and each keeps its lead.
-pub record IsPolicyOfMappedLines (policy now : LoadedPolicy) (g : LineMapping) : Type 0 where
+pub record IsPolicyOfMappedLines (policy now : LoadedPolicy) (g : LineToLinesMapping) : Type 0 where
   pub loaded : policy_or_load_fault (named_files_of_policy now) ≡ Ok now
   pub names : file_names now.files ≡ file_names policy.files
   pub on : now.walk.on ≡ policy.walk.on
   pub lines : (f : ℕ) → lines_of_numbered_file now.files f ≡ mapped_lines_from_number g f 0 (lines_of_numbered_file policy.files f)
   pub leads : KeepIncludeLeads g policy.files policy.walk
 
-abbrev pub identity_line_mapping : LineMapping
+abbrev pub identity_line_mapping : LineToLinesMapping
 identity_line_mapping f n line = line ∷ []
 
 identity_mapping_keeps_lines : (f n : ℕ) (lines : List Line) → lines ≡ mapped_lines_from_number identity_line_mapping f n lines
@@ -67,7 +67,7 @@ policy_is_mapped_from_itself policy loaded = record {
 }
 
 -- the lines of the file at a stage
-pub mapped_file_lines_are_split_at_line : (policy now : LoadedPolicy) (g : LineMapping) (f n : ℕ) (line : Line) (c : IsSplitAtLine (lines_of_numbered_file policy.files f) n line) → IsPolicyOfMappedLines policy now g → KeepsLinesBefore g f n
+pub mapped_file_lines_are_split_at_line : (policy now : LoadedPolicy) (g : LineToLinesMapping) (f n : ℕ) (line : Line) (c : IsSplitAtLine (lines_of_numbered_file policy.files f) n line) → IsPolicyOfMappedLines policy now g → KeepsLinesBefore g f n
     → lines_of_numbered_file now.files f ≡ c.front ++ (g f n line ++ mapped_lines_from_number g f (n + 1) c.after)
 mapped_file_lines_are_split_at_line policy now g f n line c stage kept =
     stage.lines f ∙ ap (mapped_lines_from_number g f 0) c.is ∙ mapped_lines_keep_front_before_number g f n 0 c.front line c.after kept (omega (arith, c.place))
@@ -79,7 +79,7 @@ abbrev pub LoadedLinesAreCorrectlyParsed : Type 0
 LoadedLinesAreCorrectlyParsed = (files : List NamedFile) (policy : LoadedPolicy) → policy_or_load_fault files ≡ Ok policy → (f : ℕ) → AllByRecursion IsCorrectlyParsed (lines_of_numbered_file policy.files f)
 
 -- These lines have come of a line of the file f, and nothing else has changed.
-pub renewed_line_makes_policy_of_mapped_lines : ParsedLinesAreToldByTexts → LoadedLinesAreCorrectlyParsed → (policy now next : LoadedPolicy) (g : LineMapping) (f n : ℕ) (line : Line) (news : List Line) (lines : List (List ℕ))
+pub renewed_line_makes_policy_of_mapped_lines : ParsedLinesAreToldByTexts → LoadedLinesAreCorrectlyParsed → (policy now next : LoadedPolicy) (g : LineToLinesMapping) (f n : ℕ) (line : Line) (news : List Line) (lines : List (List ℕ))
     → slice_get (lines_of_numbered_file policy.files f) n ≡ Some line → IsPolicyOfMappedLines policy now g → KeepsLinesBefore g f n → DiffersOnlyInFileLines f lines now next → AllByRecursion IsCorrectlyParsed news
     → ((name : List ℕ) → lead_of_parsed_line name line.node ≡ None) → ((name : List ℕ) → AllByRecursion (λ (new : Line). lead_of_parsed_line name new.node ≡ None) news)
     → (((front after : List Line) → lines_of_numbered_file now.files f ≡ front ++ (g f n line ++ after) → length front ≡ n → lines ≡ texts_of_lines (front ++ (news ++ after))))
@@ -92,7 +92,7 @@ renewed_line_makes_policy_of_mapped_lines tell said policy now next g f n line n
   leads = λ e m l on there. by_line e m l on there ((e == f) && (m == n)) refl;
 }
   where
-    h : LineMapping
+    h : LineToLinesMapping
     h = mapping_with_line_renewed g f n news
 
     c : IsSplitAtLine (lines_of_numbered_file policy.files f) n line

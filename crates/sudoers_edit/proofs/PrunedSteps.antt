@@ -1,12 +1,12 @@
 -- What comes of one removal, and of those of one line.
-use Rattle.sudoers_edit.proofs.Common.{BadSplice, Bool, CanRemoveDefinition, CanRemoveLine, Def, EditFault, Err, IsDefinitionCut, Kind, Line, LineMapping, List, LoadedPolicy, Node, None, Ok, PlacedDefinition}
-use Rattle.sudoers_edit.proofs.Common.{PruneEditLaws, PruneRemoval, Result, Some, [], ap, append_assoc, ap₂, are_lists_alike, arith, definitions_from_place, edit_result_and_then, false, filter, has_one_item_more}
+use Rattle.sudoers_edit.proofs.Common.{BadSplice, Bool, CanRemoveDefinition, CanRemoveLine, Def, EditFault, Err, IsDefinitionCut, Kind, Line, LineToLinesMapping, List, LoadedPolicy, Node, None, Ok, PlacedDefinition}
+use Rattle.sudoers_edit.proofs.Common.{LawsBehindPrunes, PruneRemoval, Result, Some, [], ap, append_assoc, ap₂, are_lists_alike, arith, definitions_from_place, edit_result_and_then, false, filter, has_one_item_more}
 use Rattle.sudoers_edit.proofs.Common.{if◌then◌else◌, is_file_on_walk, is_same_def, lead_of_parsed_line, length, length-append, lines_of_numbered_file, lines_with_one_replaced, map, map-append}
 use Rattle.sudoers_edit.proofs.Common.{mapped_lines_from_number, named_files_of_policy, not, policy_after_removal, policy_after_removals, policy_or_load_fault, refl, remove, reverse, reverse-append, slice_get, subst}
 use Rattle.sudoers_edit.proofs.Common.{sym, texts_of_lines, true, ℕ, ◌++◌, ◌+◌, ◌∙◌, ◌∷◌, ◌≡◌, ◌≤◌}
 use Rattle.sudoers_grammar.specs.Node as node
 use Rattle.sudoers_edit.specs.declared.extra_item.ItemListKind.TheVariants as among
-use Rattle.sudoers_edit.specs.declared.pruning.PruneRemoval.TheVariants as removal
+use Rattle.sudoers_edit.specs.declared.prune_removals.PruneRemoval.TheVariants as removal
 use Rattle.sudoers_edit.proofs.DropDef.{ReadsWithoutOneDefinition, line_with_one_less_reads_without_definition}
 use Rattle.sudoers_edit.proofs.Whole.{item_behind_front_is_at_front_length}
 use Rattle.sudoers_edit.proofs.PruneGoes.{IsSplitAtLine, leadless_line_can_be_removed, replacement_behind_front_sets_line_text, single_reading_is_reading_of_text, lines_are_split_at_numbered_line, removal_behind_front_leaves_other_texts}
@@ -16,16 +16,16 @@ use Rattle.sudoers_edit.proofs.PrunedAlike.{alike_lists_have_equal_length, defin
 use Rattle.sudoers_edit.proofs.PrunedStage.{KeepsLinesBefore, IsPolicyOfMappedLines, ParsedLinesAreToldByTexts, mapped_file_lines_are_split_at_line, mapping_with_line_renewed, renewed_line_is_mapped_to_new_lines, other_line_is_mapped_as_before, renewed_line_makes_policy_of_mapped_lines}
 
 -- the policy is at a stage of which this holds, or the refusal is for a splice
-abbrev pub IsMappedOutcomeOrBadSplice : LoadedPolicy → (LineMapping → Type 0) → Result LoadedPolicy EditFault → Type 0
-IsMappedOutcomeOrBadSplice policy P (Ok now) = (g : LineMapping) × IsPolicyOfMappedLines policy now g × P g
+abbrev pub IsMappedOutcomeOrBadSplice : LoadedPolicy → (LineToLinesMapping → Type 0) → Result LoadedPolicy EditFault → Type 0
+IsMappedOutcomeOrBadSplice policy P (Ok now) = (g : LineToLinesMapping) × IsPolicyOfMappedLines policy now g × P g
 IsMappedOutcomeOrBadSplice policy P (Err fault) = fault ≡ BadSplice
 
-pub mapped_outcomes_are_sequenced : (policy : LoadedPolicy) (P Q : LineMapping → Type 0) (r : Result LoadedPolicy EditFault) (next : LoadedPolicy → Result LoadedPolicy EditFault) → IsMappedOutcomeOrBadSplice policy P r
-    → ((now : LoadedPolicy) (g : LineMapping) → IsPolicyOfMappedLines policy now g → P g → IsMappedOutcomeOrBadSplice policy Q (next now)) → IsMappedOutcomeOrBadSplice policy Q (edit_result_and_then r next)
+pub mapped_outcomes_are_sequenced : (policy : LoadedPolicy) (P Q : LineToLinesMapping → Type 0) (r : Result LoadedPolicy EditFault) (next : LoadedPolicy → Result LoadedPolicy EditFault) → IsMappedOutcomeOrBadSplice policy P r
+    → ((now : LoadedPolicy) (g : LineToLinesMapping) → IsPolicyOfMappedLines policy now g → P g → IsMappedOutcomeOrBadSplice policy Q (next now)) → IsMappedOutcomeOrBadSplice policy Q (edit_result_and_then r next)
 mapped_outcomes_are_sequenced policy P Q (Ok now) next a more = more now a.0 a.1 a.2
 mapped_outcomes_are_sequenced policy P Q (Err fault) next a more = a
 
-pub mapped_outcome_implies_weaker_outcome : (policy : LoadedPolicy) (P Q : LineMapping → Type 0) (r : Result LoadedPolicy EditFault) → IsMappedOutcomeOrBadSplice policy P r → ((g : LineMapping) → P g → Q g) → IsMappedOutcomeOrBadSplice policy Q r
+pub mapped_outcome_implies_weaker_outcome : (policy : LoadedPolicy) (P Q : LineToLinesMapping → Type 0) (r : Result LoadedPolicy EditFault) → IsMappedOutcomeOrBadSplice policy P r → ((g : LineToLinesMapping) → P g → Q g) → IsMappedOutcomeOrBadSplice policy Q r
 mapped_outcome_implies_weaker_outcome policy P Q (Ok now) a more = (a.0, a.1, more a.0 a.2)
 mapped_outcome_implies_weaker_outcome policy P Q (Err fault) a more = a
 
@@ -55,11 +55,11 @@ pub record IsLeadlessLineOnWalk (policy : LoadedPolicy) (f n : ℕ) (line : Line
   pub nowhere : (name : List ℕ) → lead_of_parsed_line name line.node ≡ None
 
 -- two mappings agree on each other line
-abbrev pub AgreeOnOtherLines : LineMapping → LineMapping → ℕ → ℕ → Type 0
+abbrev pub AgreeOnOtherLines : LineToLinesMapping → LineToLinesMapping → ℕ → ℕ → Type 0
 AgreeOnOtherLines g h f n = (e m : ℕ) (line : Line) → ((e ≡ f) → (m ≡ n) → ⊥) → h e m line ≡ g e m line
 
 -- the line that has come of this one stands in its place
-line_mapped_to_one_stays_in_place : (policy now : LoadedPolicy) (g : LineMapping) (f n : ℕ) (line cur : Line) → IsLeadlessLineOnWalk policy f n line → IsPolicyOfMappedLines policy now g → KeepsLinesBefore g f n → g f n line ≡ cur ∷ []
+line_mapped_to_one_stays_in_place : (policy now : LoadedPolicy) (g : LineToLinesMapping) (f n : ℕ) (line cur : Line) → IsLeadlessLineOnWalk policy f n line → IsPolicyOfMappedLines policy now g → KeepsLinesBefore g f n → g f n line ≡ cur ∷ []
     → slice_get (lines_of_numbered_file now.files f) n ≡ Some cur
 line_mapped_to_one_stays_in_place policy now g f n line cur s stage kept is =
     let c : IsSplitAtLine (lines_of_numbered_file policy.files f) n line = lines_are_split_at_numbered_line (lines_of_numbered_file policy.files f) n line s.here in
@@ -67,7 +67,7 @@ line_mapped_to_one_stays_in_place policy now g f n line cur s stage kept is =
     ap (λ ls. slice_get ls n) (mapped_file_lines_are_split_at_line policy now g f n line c stage kept ∙ ap (λ (xs : List Line). c.front ++ (xs ++ rest)) is)
     ∙ ap (slice_get (c.front ++ cur ∷ rest)) (sym c.place) ∙ item_behind_front_is_at_front_length c.front cur rest
 
-pub line_removal_has_mapped_outcome : PruneEditLaws → ParsedLinesAreToldByTexts → (policy now : LoadedPolicy) (g : LineMapping) (f n : ℕ) (line : Line) → IsLeadlessLineOnWalk policy f n line → IsPolicyOfMappedLines policy now g → KeepsLinesBefore g f n
+pub line_removal_has_mapped_outcome : LawsBehindPrunes → ParsedLinesAreToldByTexts → (policy now : LoadedPolicy) (g : LineToLinesMapping) (f n : ℕ) (line : Line) → IsLeadlessLineOnWalk policy f n line → IsPolicyOfMappedLines policy now g → KeepsLinesBefore g f n
     → g f n line ≡ line ∷ [] → IsMappedOutcomeOrBadSplice policy (λ h. (h f n line ≡ []) × AgreeOnOtherLines g h f n) (policy_after_removals (removal.Line f n ∷ []) now)
 line_removal_has_mapped_outcome l tell policy now g f n line s stage kept is =
     subst (IsMappedOutcomeOrBadSplice policy (λ h. (h f n line ≡ []) × AgreeOnOtherLines g h f n)) (sym (removals_of_one_are_that_removal (removal.Line f n) now ∙ goes.made.forth))
@@ -83,17 +83,17 @@ line_removal_has_mapped_outcome l tell policy now g f n line s stage kept is =
         ap₂ (λ ls m. remove (texts_of_lines ls) m) (was ∙ ap (λ (xs : List Line). front ++ (xs ++ after)) is) (sym place) ∙ removal_behind_front_leaves_other_texts front line after)
 
 -- Of the line a line with these definitions has come, or with such as are alike.
-pub record HasAlikeDefinitionsLeft (g : LineMapping) (f n : ℕ) (line : Line) (k : Kind) (defs : List Def) : Type 0 where
+pub record HasAlikeDefinitionsLeft (g : LineToLinesMapping) (f n : ℕ) (line : Line) (k : Kind) (defs : List Def) : Type 0 where
   pub cur : Line
   pub left : List Def
   pub is : g f n line ≡ cur ∷ []
   pub makes : cur.node ≡ node.Alias k left
   pub alike : are_lists_alike is_same_def defs left ≡ true
 
-abbrev pub LeavesAlikeDefinitionsInLine : LineMapping → ℕ → ℕ → Line → Kind → List Def → LineMapping → Type 0
+abbrev pub LeavesAlikeDefinitionsInLine : LineToLinesMapping → ℕ → ℕ → Line → Kind → List Def → LineToLinesMapping → Type 0
 LeavesAlikeDefinitionsInLine g f n line k defs h = HasAlikeDefinitionsLeft h f n line k defs × AgreeOnOtherLines g h f n
 
-pub definition_removal_has_mapped_outcome : PruneEditLaws → ParsedLinesAreToldByTexts → (policy now : LoadedPolicy) (g : LineMapping) (f n : ℕ) (line : Line) (k : Kind) (front : List Def) (d : Def) (rest : List Def)
+pub definition_removal_has_mapped_outcome : LawsBehindPrunes → ParsedLinesAreToldByTexts → (policy now : LoadedPolicy) (g : LineToLinesMapping) (f n : ℕ) (line : Line) (k : Kind) (front : List Def) (d : Def) (rest : List Def)
     → IsLeadlessLineOnWalk policy f n line → IsPolicyOfMappedLines policy now g → KeepsLinesBefore g f n → HasAlikeDefinitionsLeft g f n line k (front ++ d ∷ rest) → 1 ≤ length front + length rest
     → IsMappedOutcomeOrBadSplice policy (LeavesAlikeDefinitionsInLine g f n line k (front ++ rest)) (policy_after_removals (removal.Def f n (length front) ∷ []) now)
 definition_removal_has_mapped_outcome l tell policy now g f n line k front d rest s stage kept has many =
@@ -102,7 +102,7 @@ definition_removal_has_mapped_outcome l tell policy now g f n line k front d res
     at : ℕ
     at = length front
 
-    P : LineMapping → Type 0
+    P : LineToLinesMapping → Type 0
     P = LeavesAlikeDefinitionsInLine g f n line k (front ++ rest)
 
     here : slice_get (lines_of_numbered_file now.files f) n ≡ Some has.cur
@@ -149,7 +149,7 @@ definitions_failing_test test k number i defs = map (λ (d : PlacedDefinition). 
 abbrev pub removals_of_definitions_passing_test : (PlacedDefinition → Bool) → ℕ → ℕ → Kind → ℕ → ℕ → List Def → List PruneRemoval
 removals_of_definitions_passing_test test f n k number i defs = map (λ (d : PlacedDefinition). removal.Def f n d.place.def) (reverse (filter test (definitions_from_place k number i defs)))
 
-pub definition_removals_have_mapped_outcome : PruneEditLaws → ParsedLinesAreToldByTexts → (policy now : LoadedPolicy) (g : LineMapping) (f n : ℕ) (line : Line) (test : PlacedDefinition → Bool) (k : Kind) (number i : ℕ)
+pub definition_removals_have_mapped_outcome : LawsBehindPrunes → ParsedLinesAreToldByTexts → (policy now : LoadedPolicy) (g : LineToLinesMapping) (f n : ℕ) (line : Line) (test : PlacedDefinition → Bool) (k : Kind) (number i : ℕ)
     (front defs : List Def) → IsLeadlessLineOnWalk policy f n line → IsPolicyOfMappedLines policy now g → KeepsLinesBefore g f n → length front ≡ i → HasAlikeDefinitionsLeft g f n line k (front ++ defs)
     → 1 ≤ length front + length (definitions_failing_test test k number i defs)
     → IsMappedOutcomeOrBadSplice policy (LeavesAlikeDefinitionsInLine g f n line k (front ++ definitions_failing_test test k number i defs)) (policy_after_removals (removals_of_definitions_passing_test test f n k number i defs) now)
@@ -171,7 +171,7 @@ definition_removals_have_mapped_outcome l tell policy now g f n line test k numb
     used : List Def
     used = definitions_failing_test test k number (i + 1) defs
 
-    kept_too : (h : LineMapping) → AgreeOnOtherLines g h f n → KeepsLinesBefore h f n
+    kept_too : (h : LineToLinesMapping) → AgreeOnOtherLines g h f n → KeepsLinesBefore h f n
     kept_too h same m x less = same f m x (λ a b. omega (arith, less, b)) ∙ kept m x less
 
     by : (b : Bool) → 1 ≤ length front + length (map (λ (d : PlacedDefinition). d.def) (if not b then one ∷ filter (λ d. not (test d)) ds else filter (λ d. not (test d)) ds))

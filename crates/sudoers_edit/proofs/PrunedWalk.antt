@@ -1,12 +1,12 @@
 -- What a prune leaves of each line of the walk, and why it is refused.
-use Rattle.sudoers_edit.proofs.Common.{AllByRecursion, AreFilesMapped, AreLinesAtSpots, BadSplice, Bool, Def, EditFault, Err, IsMappedWalk, Kind, Line, LineMapping, List, LoadedPolicy, Node, Ok, ParsedFile}
-use Rattle.sudoers_edit.proofs.Common.{PlacedDefinition, Prune, PruneEditLaws, PruneRemoval, Some, WalkLineSpot, WalkState, [], ap, append_assoc, ap₂, arith, definitions_from_place, definitions_in_line}
+use Rattle.sudoers_edit.proofs.Common.{AllByRecursion, AreFilesMapped, AreLinesAtSpots, BadSplice, Bool, Def, EditFault, Err, IsMappedWalk, Kind, Line, LineToLinesMapping, List, LoadedPolicy, Node, Ok, ParsedFile}
+use Rattle.sudoers_edit.proofs.Common.{PlacedDefinition, Prune, LawsBehindPrunes, PruneRemoval, Some, WalkLineSpot, WalkState, [], ap, append_assoc, ap₂, arith, definitions_from_place, definitions_in_line}
 use Rattle.sudoers_edit.proofs.Common.{edit_result_and_then, eqb-false, eqb-true, false, filter, if◌then◌else◌, is_file_on_walk, is_unused, length, length-append, length-map, lines_of_numbered_file, map}
 use Rattle.sudoers_edit.proofs.Common.{mapped_lines_at_spots, named_files_of_policy, not, policy_after_removals, policy_or_load_fault, prune_removals_of_walk, refl, removals_from_line_number, removals_of_line}
 use Rattle.sudoers_edit.proofs.Common.{reverse, slice_get, slice_index_or, spot_of_walk_line, step, subst, sym, true, walk_or_fault_of_files, ℕ, ◌++◌, ◌+◌, ◌<◌, ◌==◌, ◌∙◌, ◌∷◌, ◌≡◌, ◌≤◌}
 use Rattle.sudoers_grammar.specs.Node as node
-use Rattle.sudoers_edit.specs.declared.pruning.PruneRemoval.TheVariants as removal
-use Rattle.sudoers_edit.specs.Pruned.{ArePrunedLines, IsPrunedLine, gone, kept, less, unused_definitions_of_line, used_definitions_of_line}
+use Rattle.sudoers_edit.specs.declared.prune_removals.PruneRemoval.TheVariants as removal
+use Rattle.sudoers_edit.specs.Pruned.{ArePrunedLines, AreLinesLeftOfPrunedLine, gone, kept, less, unused_definitions_of_line, used_definitions_of_line}
 use Rattle.sudoers_edit.proofs.PruneFalls.{property_of_joined_list_holds_of_both, spot_behind_earlier_spots_is_numbered}
 use Rattle.sudoers_edit.proofs.PruneGoes.{alias_line_has_no_include_lead}
 use Rattle.sudoers_edit.proofs.PruneLists.{faultless_files_have_no_numbered_fault}
@@ -37,15 +37,15 @@ counts_passing_and_failing_make_length test (x ∷ xs) = by (test x) (counts_pas
     by false is = omega (arith, is)
 
 -- This is left of the line, and each other line is as before.
-abbrev IsLeftOfPrunedLine : List Line → ℕ → Line → ℕ → ℕ → LineMapping → LineMapping → Type 0
-IsLeftOfPrunedLine lines number line f n g h = IsPrunedLine lines number line (h f n line) × AgreeOnOtherLines g h f n
+abbrev IsLeftOfPrunedLine : List Line → ℕ → Line → ℕ → ℕ → LineToLinesMapping → LineToLinesMapping → Type 0
+IsLeftOfPrunedLine lines number line f n g h = AreLinesLeftOfPrunedLine lines number line (h f n line) × AgreeOnOtherLines g h f n
 
-line_without_unused_is_left_unchanged : (policy now : LoadedPolicy) (g : LineMapping) (lines : List Line) (number : ℕ) (line : Line) (f n : ℕ) → IsPolicyOfMappedLines policy now g → g f n line ≡ line ∷ []
+line_without_unused_is_left_unchanged : (policy now : LoadedPolicy) (g : LineToLinesMapping) (lines : List Line) (number : ℕ) (line : Line) (f n : ℕ) → IsPolicyOfMappedLines policy now g → g f n line ≡ line ∷ []
     → unused_definitions_of_line lines number line ≡ [] → IsMappedOutcomeOrBadSplice policy (IsLeftOfPrunedLine lines number line f n g) (Ok now)
 line_without_unused_is_left_unchanged policy now g lines number line f n stage is none =
-    (g, stage, (subst (IsPrunedLine lines number line) (sym is) (kept none), λ e m x other. refl))
+    (g, stage, (subst (AreLinesLeftOfPrunedLine lines number line) (sym is) (kept none), λ e m x other. refl))
 
-prune_of_alias_line_leaves_pruned_line : PruneEditLaws → ParsedLinesAreToldByTexts → (policy now : LoadedPolicy) (g : LineMapping) (lines : List Line) (number : ℕ) (line : Line) (at : WalkLineSpot) (k : Kind) (defs : List Def)
+prune_of_alias_line_leaves_pruned_line : LawsBehindPrunes → ParsedLinesAreToldByTexts → (policy now : LoadedPolicy) (g : LineToLinesMapping) (lines : List Line) (number : ℕ) (line : Line) (at : WalkLineSpot) (k : Kind) (defs : List Def)
     → IsLeadlessLineOnWalk policy at.file at.line line → IsPolicyOfMappedLines policy now g → KeepsLinesBefore g at.file (at.line + 1) → line.node ≡ node.Alias k defs
     → IsMappedOutcomeOrBadSplice policy (IsLeftOfPrunedLine lines number line at.file at.line g)
     (policy_after_removals (removals_of_line at (length (definitions_from_place k number 0 defs)) (filter (is_unused lines) (definitions_from_place k number 0 defs))) now)
@@ -63,7 +63,7 @@ prune_of_alias_line_leaves_pruned_line l tell policy now g lines number line at 
     unused : List PlacedDefinition
     unused = filter (is_unused lines) ds
 
-    P : LineMapping → Type 0
+    P : LineToLinesMapping → Type 0
     P = IsLeftOfPrunedLine lines number line f n g
 
     in_line : definitions_in_line number line.node ≡ ds
@@ -89,7 +89,7 @@ prune_of_alias_line_leaves_pruned_line l tell policy now g lines number line at 
         mapped_outcome_implies_weaker_outcome policy (λ h. (h f n line ≡ []) × AgreeOnOtherLines g h f n) P (policy_after_removals (removal.Line f n ∷ []) now)
         (line_removal_has_mapped_outcome l tell policy now g f n line s stage before_too here)
         (λ h p. (
-          subst (IsPrunedLine lines number line) (sym p.0)
+          subst (AreLinesLeftOfPrunedLine lines number line) (sym p.0)
               (gone (some_unused none)
               (ap length unused_are ∙ eqb-true (length unused) (length ds) e ∙ ap length (sym in_line))),
           p.1,
@@ -106,9 +106,9 @@ prune_of_alias_line_leaves_pruned_line l tell policy now g lines number line at 
         (policy_after_removals (map (λ (d : PlacedDefinition). removal.Def at.file at.line d.place.def) (reverse unused)) now)
         (definition_removals_have_mapped_outcome l tell policy now g f n line (is_unused lines) k number 0 [] defs s stage before_too refl
         (record { cur = line; left = defs; is = here; makes = makes; alike = definitions_are_alike_themselves defs }) (omega (arith, some)))
-        (λ h p. (subst (IsPrunedLine lines number line) (sym p.0.is) (less k defs p.0.left p.0.cur (some_unused none) makes p.0.makes p.0.alike), p.1))
+        (λ h p. (subst (AreLinesLeftOfPrunedLine lines number line) (sym p.0.is) (less k defs p.0.left p.0.cur (some_unused none) makes p.0.makes p.0.alike), p.1))
 
-prune_of_walk_line_leaves_pruned_line : PruneEditLaws → ParsedLinesAreToldByTexts → (policy now : LoadedPolicy) (g : LineMapping) (lines : List Line) (number : ℕ) (line : Line) (at : WalkLineSpot)
+prune_of_walk_line_leaves_pruned_line : LawsBehindPrunes → ParsedLinesAreToldByTexts → (policy now : LoadedPolicy) (g : LineToLinesMapping) (lines : List Line) (number : ℕ) (line : Line) (at : WalkLineSpot)
     → policy_or_load_fault (named_files_of_policy policy) ≡ Ok policy → is_file_on_walk policy.walk at.file ≡ true → slice_get (lines_of_numbered_file policy.files at.file) at.line ≡ Some line
     → IsPolicyOfMappedLines policy now g → KeepsLinesBefore g at.file (at.line + 1) → (says : Node) → line.node ≡ says
     → IsMappedOutcomeOrBadSplice policy (IsLeftOfPrunedLine lines number line at.file at.line g)
@@ -133,14 +133,14 @@ prune_of_walk_line_leaves_pruned_line l tell policy now g lines number line at l
 -- ---- all lines
 
 -- The lines of these spots are as they were, and those before them in their files.
-abbrev KeepsLinesUpToSpots : LineMapping → List WalkLineSpot → Type 0
+abbrev KeepsLinesUpToSpots : LineToLinesMapping → List WalkLineSpot → Type 0
 KeepsLinesUpToSpots g spots = AllByRecursion (λ (s : WalkLineSpot). KeepsLinesBefore g s.file (s.line + 1)) spots
 
 identity_mapping_keeps_lines_up_to_spots : (spots : List WalkLineSpot) → KeepsLinesUpToSpots identity_line_mapping spots
 identity_mapping_keeps_lines_up_to_spots [] = tt
 identity_mapping_keeps_lines_up_to_spots (s ∷ spots) = (λ m line under. refl, identity_mapping_keeps_lines_up_to_spots spots)
 
-change_of_later_line_keeps_earlier_lines : (g h : LineMapping) (at : WalkLineSpot) (earlier : List WalkLineSpot) → AgreeOnOtherLines g h at.file at.line → AllByRecursion (IsEarlierInSameFile at) earlier → KeepsLinesUpToSpots g earlier
+change_of_later_line_keeps_earlier_lines : (g h : LineToLinesMapping) (at : WalkLineSpot) (earlier : List WalkLineSpot) → AgreeOnOtherLines g h at.file at.line → AllByRecursion (IsEarlierInSameFile at) earlier → KeepsLinesUpToSpots g earlier
     → KeepsLinesUpToSpots h earlier
 change_of_later_line_keeps_earlier_lines g h at [] same before kept_g = tt
 change_of_later_line_keeps_earlier_lines g h at (s ∷ earlier) same before kept_g = (
@@ -159,7 +159,7 @@ spots_behind_spot_are_other at earlier (s ∷ spots) among ascend = (
   spots_behind_spot_are_other at (earlier ++ s ∷ []) spots (λ P all. among P (property_of_joined_list_holds_of_both P earlier (s ∷ []) all).0) ascend.1,
 )
 
-line_change_keeps_mapping_at_other_spots : (g h : LineMapping) (at : WalkLineSpot) (spots : List WalkLineSpot) (lines : List Line) → AgreeOnOtherLines g h at.file at.line → AreOtherSpots at spots
+line_change_keeps_mapping_at_other_spots : (g h : LineToLinesMapping) (at : WalkLineSpot) (spots : List WalkLineSpot) (lines : List Line) → AgreeOnOtherLines g h at.file at.line → AreOtherSpots at spots
     → mapped_lines_at_spots h spots lines ≡ mapped_lines_at_spots g spots lines
 line_change_keeps_mapping_at_other_spots g h at [] lines same others = refl
 line_change_keeps_mapping_at_other_spots g h at (s ∷ spots) [] same others = refl
@@ -167,10 +167,10 @@ line_change_keeps_mapping_at_other_spots g h at (s ∷ spots) (line ∷ lines) s
     ap₂ (λ (xs ys : List Line). xs ++ ys) (same s.file s.line line others.0) (line_change_keeps_mapping_at_other_spots g h at spots lines same others.1)
 
 -- the lines before are untouched, and this is left of these
-abbrev LeavesPrunedLinesFromNumber : LoadedPolicy → List WalkLineSpot → ℕ → List WalkLineSpot → List Line → LineMapping → Type 0
+abbrev LeavesPrunedLinesFromNumber : LoadedPolicy → List WalkLineSpot → ℕ → List WalkLineSpot → List Line → LineToLinesMapping → Type 0
 LeavesPrunedLinesFromNumber policy earlier n spots lines g = KeepsLinesUpToSpots g earlier × ArePrunedLines policy.walk.lines n lines (mapped_lines_at_spots g spots lines)
 
-removals_from_number_leave_pruned_lines : PruneEditLaws → ParsedLinesAreToldByTexts → (policy : LoadedPolicy) → policy_or_load_fault (named_files_of_policy policy) ≡ Ok policy → (n : ℕ) (earlier spots : List WalkLineSpot) (lines : List Line)
+removals_from_number_leave_pruned_lines : LawsBehindPrunes → ParsedLinesAreToldByTexts → (policy : LoadedPolicy) → policy_or_load_fault (named_files_of_policy policy) ≡ Ok policy → (n : ℕ) (earlier spots : List WalkLineSpot) (lines : List Line)
     → policy.walk.spots ≡ earlier ++ spots → length earlier ≡ n → AreLinesAtSpots policy.files spots lines
     → AllByRecursion (λ (at : WalkLineSpot). is_file_on_walk policy.walk at.file ≡ true) spots → AreAscendingSpots earlier spots
     → IsMappedOutcomeOrBadSplice policy (LeavesPrunedLinesFromNumber policy earlier n spots lines) (policy_after_removals (removals_from_line_number policy.walk n lines) policy)
@@ -182,8 +182,8 @@ removals_from_number_leave_pruned_lines l tell policy loaded n earlier (at ∷ s
     let here : WalkLineSpot → List PruneRemoval = λ s. removals_of_line s (length (definitions_in_line n line.node)) (filter (is_unused w.lines) (definitions_in_line n line.node)) in
     let spot : spot_of_walk_line w n ≡ at =
     ap (λ ss. slice_index_or ss n (record { file = 0; line = 0; row = 1 })) are ∙ spot_behind_earlier_spots_is_numbered earlier at spots n (record { file = 0; line = 0; row = 1 }) count in
-    let P : LineMapping → Type 0 = LeavesPrunedLinesFromNumber policy (earlier ++ at ∷ []) (n + 1) spots lines in
-    let Q : LineMapping → Type 0 = LeavesPrunedLinesFromNumber policy earlier n (at ∷ spots) (line ∷ lines) in
+    let P : LineToLinesMapping → Type 0 = LeavesPrunedLinesFromNumber policy (earlier ++ at ∷ []) (n + 1) spots lines in
+    let Q : LineToLinesMapping → Type 0 = LeavesPrunedLinesFromNumber policy earlier n (at ∷ spots) (line ∷ lines) in
     let others : AreOtherSpots at spots = spots_behind_spot_are_other at (earlier ++ at ∷ []) spots (λ S all. (property_of_joined_list_holds_of_both S earlier (at ∷ []) all).1.0) ascend.1 in
     subst (IsMappedOutcomeOrBadSplice policy Q) (sym (removals_of_joined_lists_are_sequenced (removals_from_line_number w (n + 1) lines) (here (spot_of_walk_line w n)) policy))
     (subst (λ s. IsMappedOutcomeOrBadSplice policy Q (edit_result_and_then (policy_after_removals (removals_from_line_number w (n + 1) lines) policy) (policy_after_removals (here s)))) (sym spot)
@@ -207,23 +207,23 @@ removals_from_number_leave_pruned_lines l tell policy loaded n earlier (at ∷ s
 
 -- ---- a prune
 
-pub step_of_prune_has_pruned_outcome : PruneEditLaws → ParsedLinesAreToldByTexts → (policy : LoadedPolicy) → policy_or_load_fault (named_files_of_policy policy) ≡ Ok policy → walk_or_fault_of_files policy.files ≡ Ok policy.walk
+pub step_of_prune_has_pruned_outcome : LawsBehindPrunes → ParsedLinesAreToldByTexts → (policy : LoadedPolicy) → policy_or_load_fault (named_files_of_policy policy) ≡ Ok policy → walk_or_fault_of_files policy.files ≡ Ok policy.walk
     → IsMappedOutcomeOrBadSplice policy (LeavesPrunedLinesFromNumber policy [] 0 policy.walk.spots policy.walk.lines) (step Prune policy)
 unfolding prune_removals_of_walk
 step_of_prune_has_pruned_outcome l tell policy loaded walk =
     let ordered : IsOrderedWalk policy.walk = walk_of_files_is_ordered policy.files policy.walk walk in
     removals_from_number_leave_pruned_lines l tell policy loaded 0 [] policy.walk.spots policy.walk.lines refl refl (l.stand (named_files_of_policy policy) policy loaded) ordered.on ordered.ascend
 
-pub refused_prune_is_bad_splice : PruneEditLaws → ParsedLinesAreToldByTexts → (policy : LoadedPolicy) (fault : EditFault) → policy_or_load_fault (named_files_of_policy policy) ≡ Ok policy → walk_or_fault_of_files policy.files ≡ Ok policy.walk
+pub refused_prune_is_bad_splice : LawsBehindPrunes → ParsedLinesAreToldByTexts → (policy : LoadedPolicy) (fault : EditFault) → policy_or_load_fault (named_files_of_policy policy) ≡ Ok policy → walk_or_fault_of_files policy.files ≡ Ok policy.walk
     → step Prune policy ≡ Err fault → fault ≡ BadSplice
 refused_prune_is_bad_splice l tell policy fault loaded walk is =
     subst (IsMappedOutcomeOrBadSplice policy (LeavesPrunedLinesFromNumber policy [] 0 policy.walk.spots policy.walk.lines)) is (step_of_prune_has_pruned_outcome l tell policy loaded walk)
 
 abbrev pub WalkOfMappedFilesIsMapped : Type 0
-WalkOfMappedFilesIsMapped = (g : LineMapping) (files others : List ParsedFile) (w other : WalkState) → walk_or_fault_of_files files ≡ Ok w → AreFilesMapped g files others w
+WalkOfMappedFilesIsMapped = (g : LineToLinesMapping) (files others : List ParsedFile) (w other : WalkState) → walk_or_fault_of_files files ≡ Ok w → AreFilesMapped g files others w
     → walk_or_fault_of_files others ≡ Ok other → IsMappedWalk g w other
 
-pub accepted_prune_leaves_pruned_lines : PruneEditLaws → ParsedLinesAreToldByTexts → WalkOfMappedFilesIsMapped → (policy new : LoadedPolicy) → policy_or_load_fault (named_files_of_policy policy) ≡ Ok policy
+pub accepted_prune_leaves_pruned_lines : LawsBehindPrunes → ParsedLinesAreToldByTexts → WalkOfMappedFilesIsMapped → (policy new : LoadedPolicy) → policy_or_load_fault (named_files_of_policy policy) ≡ Ok policy
     → ((now : LoadedPolicy) → policy_or_load_fault (named_files_of_policy now) ≡ Ok now → walk_or_fault_of_files now.files ≡ Ok now.walk) → step Prune policy ≡ Ok new
     → ArePrunedLines policy.walk.lines 0 policy.walk.lines new.walk.lines
 accepted_prune_leaves_pruned_lines l tell agree policy new loaded walk is =

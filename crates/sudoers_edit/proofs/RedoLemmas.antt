@@ -1,8 +1,8 @@
 -- Undone edits, and an edit that is taken back and then made again.
-use Rattle.sudoers_edit.proofs.Common.{Edit, EditFault, EditorState, JournalEntry, List, LoadedPolicy, Ok, RedoesLastUndone, Result, [], ap, inv, refl, step, sym, undone_edits_after_edits, ◌++◌, ◌∙◌, ◌∷◌, ◌≡◌}
+use Rattle.sudoers_edit.proofs.Common.{Edit, EditFault, EditorState, AppliedEditWithInverse, List, LoadedPolicy, Ok, RedoesLastUndone, Result, [], ap, inv, refl, step, sym, undone_edits_after_edits, ◌++◌, ◌∙◌, ◌∷◌, ◌≡◌}
 use Rattle.sudoers_edit.specs.Undoing.{UndoesLastEdit}
 
-abbrev editor_of_policy_and_journal : LoadedPolicy → List JournalEntry → List Edit → EditorState
+abbrev editor_of_policy_and_journal : LoadedPolicy → List AppliedEditWithInverse → List Edit → EditorState
 editor_of_policy_and_journal lines journal undone = record { policy = lines; journal = journal; undone = undone }
 
 editors_of_equal_parts_are_equal : (a b : EditorState) → a.policy ≡ b.policy → a.journal ≡ b.journal → a.undone ≡ b.undone → a ≡ b
@@ -12,7 +12,7 @@ editors_of_equal_parts_are_equal a b lines journal undone =
 abbrev accepted_policy : LoadedPolicy → Result LoadedPolicy EditFault
 accepted_policy lines = Ok lines
 
-abbrev journal_entry_of_edit : Edit → List Edit → JournalEntry
+abbrev journal_entry_of_edit : Edit → List Edit → AppliedEditWithInverse
 journal_entry_of_edit edit inverse = record { edit = edit; inverse = inverse }
 
 -- an edit that is taken back and then made again leaves all as it was

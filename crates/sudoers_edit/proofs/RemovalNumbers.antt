@@ -1,8 +1,8 @@
 -- The numbers of what Prune takes out fit the words for them.
-use Rattle.sudoers_edit.proofs.Common.{AllByRecursion, AreValidWalkLines, Bool, Edit, HaveFittingNumbers, Line, List, PlacedDefinition, WalkLineSpot, WalkState, [], alias_limit, arith, definitions_from_line_number}
+use Rattle.sudoers_edit.proofs.Common.{AllByRecursion, AreValidWalkLines, Bool, Edit, HaveFittingNumbers, Line, List, PlacedDefinition, WalkLineSpot, WalkState, [], alias_limit_of_each_kind, arith, definitions_from_line_number}
 use Rattle.sudoers_edit.proofs.Common.{definitions_in_line, edit_of_removal, false, filter, if◌then◌else◌, is_unused, length, map, map-append, prune_removals_of_walk, removals_from_line_number, removals_of_line}
 use Rattle.sudoers_edit.proofs.Common.{reverse, reverse-append, spot_of_walk_line, subst, sym, true, ℕ, ◌++◌, ◌+◌, ◌<◌, ◌==◌, ◌^◌, ◌∷◌}
-use Rattle.sudoers_edit.specs.declared.pruning.PruneRemoval.TheVariants as removal
+use Rattle.sudoers_edit.specs.declared.prune_removals.PruneRemoval.TheVariants as removal
 use Rattle.sudoers_edit.proofs.PrunePlaces.{property_of_lists_holds_of_their_join, property_of_list_holds_of_filtered, definition_numbers_of_lines_are_below_most}
 
 pub joined_edits_have_fitting_numbers : (edits others : List Edit) → HaveFittingNumbers edits → HaveFittingNumbers others → HaveFittingNumbers (edits ++ others)
@@ -19,7 +19,7 @@ property_of_list_holds_of_reverse P (x ∷ xs) a =
     subst (AllByRecursion P) (sym (reverse-append (x ∷ []) xs)) (property_of_lists_holds_of_their_join P (reverse xs) (x ∷ []) (property_of_list_holds_of_reverse P xs a.1) (a.0, tt))
 
 abbrev HasDefinitionNumberBelowLimit : PlacedDefinition → Type 0
-HasDefinitionNumberBelowLimit d = d.place.def < alias_limit
+HasDefinitionNumberBelowLimit d = d.place.def < alias_limit_of_each_kind
 
 -- the numbers of a line of the walk fit
 abbrev pub HasFittingSpotNumbers : WalkLineSpot → Type 0
@@ -29,7 +29,7 @@ removals_of_definitions_have_fitting_numbers : (at : WalkLineSpot) (ds : List Pl
     → HaveFittingNumbers (map edit_of_removal (map (λ (d : PlacedDefinition). removal.Def at.file at.line d.place.def) ds))
 removals_of_definitions_have_fitting_numbers at [] fits near = tt
 removals_of_definitions_have_fitting_numbers at (d ∷ ds) fits near =
-    let first : d.place.def < alias_limit = near.0 in
+    let first : d.place.def < alias_limit_of_each_kind = near.0 in
     ((omega (arith, fits.0), omega (arith, fits.1), omega (arith, first)), removals_of_definitions_have_fitting_numbers at ds fits near.1)
 
 removals_of_line_have_fitting_numbers : (at : WalkLineSpot) (count : ℕ) (unused : List PlacedDefinition) → HasFittingSpotNumbers at → AllByRecursion HasDefinitionNumberBelowLimit unused → HaveFittingNumbers (map edit_of_removal (removals_of_line at count unused))
@@ -55,4 +55,4 @@ removals_from_number_have_fitting_numbers w n (line ∷ lines) fits near =
 
 pub prune_removals_have_fitting_numbers : (w : WalkState) → AreValidWalkLines w.lines → ((n : ℕ) → HasFittingSpotNumbers (spot_of_walk_line w n)) → HaveFittingNumbers (map edit_of_removal (prune_removals_of_walk w))
 unfolding prune_removals_of_walk
-prune_removals_have_fitting_numbers w is fits = removals_from_number_have_fitting_numbers w 0 w.lines fits (definition_numbers_of_lines_are_below_most alias_limit 0 w.lines is.few)
+prune_removals_have_fitting_numbers w is fits = removals_from_number_have_fitting_numbers w 0 w.lines fits (definition_numbers_of_lines_are_below_most alias_limit_of_each_kind 0 w.lines is.few)

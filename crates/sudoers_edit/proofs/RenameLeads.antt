@@ -1,5 +1,5 @@
 -- Where a rename over the files of a policy leads, and that one rename leads back.
-use Rattle.sudoers_edit.proofs.Common.{AreChangesOfEdit, BadName, Bool, Edit, EditFault, Err, IsDefinableName, Kind, Line, LineChange, List, LoadedPolicy, LoadedRenameLaws, NameTaken, NoAlias, Ok, Rename, Some}
+use Rattle.sudoers_edit.proofs.Common.{AreChangesOfEdit, BadName, Bool, Edit, EditFault, Err, IsDefinableName, Kind, Line, LineChange, List, LoadedPolicy, LoadedFileLawsBehindRenames, NameTaken, NoAlias, Ok, Rename, Some}
 use Rattle.sudoers_edit.proofs.Common.{TooLarge, [], ap, ap₂, definition_place_of_name, false, files_after_changes, is_alias_name_in_use, is_line_too_long, is_name, is_reserved, is_some, lines_after_rename, list_any}
 use Rattle.sudoers_edit.proofs.Common.{named_files_after_rename, named_files_of_policy, not, policy_after_rename, policy_of_files_or_refusal, policy_or_edit_fault, policy_or_load_fault, refl, rename_changes_in_files}
 use Rattle.sudoers_edit.proofs.Common.{result_ok, run, step, subst, sym, texts_of_lines, texts_of_renamed_lines, true, ℕ, ◌||◌, ◌∙◌, ◌∷◌, ◌≡◌}
@@ -30,7 +30,7 @@ accepted_edit_is_run_alone : (e : Edit) (policy new : LoadedPolicy) → step e p
 accepted_edit_is_run_alone e policy new is = ap (λ (r : Result LoadedPolicy EditFault). option_and_then (run []) (result_ok r)) is
 
 -- one rename leads back
-pub reverse_rename_leads_back : LoadedRenameLaws → (k : Kind) (name fresh : List ℕ) (policy new : LoadedPolicy) → CanRenameOnWalk k name fresh policy
+pub reverse_rename_leads_back : LoadedFileLawsBehindRenames → (k : Kind) (name fresh : List ℕ) (policy new : LoadedPolicy) → CanRenameOnWalk k name fresh policy
     → policy_or_load_fault (files_after_changes (rename_changes_of_policy k name fresh policy) policy.files) ≡ Ok new → policy_after_rename k fresh name new ≡ Ok policy
 reverse_rename_leads_back l k name fresh policy new f told =
     let lines : List Line = policy.walk.lines in
@@ -46,7 +46,7 @@ reverse_rename_leads_back l k name fresh policy new f told =
     ∙ ap policy_of_files_or_refusal (reverse_rename_restores_files l k name fresh policy new r b.without)
     ∙ ap policy_or_edit_fault f.loaded
 
-pub rename_changes_make_edit_of_rename : LoadedRenameLaws → (k : Kind) (name fresh : List ℕ) (policy : LoadedPolicy) (changes : List LineChange) → CanRenameOnWalk k name fresh policy
+pub rename_changes_make_edit_of_rename : LoadedFileLawsBehindRenames → (k : Kind) (name fresh : List ℕ) (policy : LoadedPolicy) (changes : List LineChange) → CanRenameOnWalk k name fresh policy
     → list_any is_line_too_long (texts_of_renamed_lines k name fresh policy.walk.lines) ≡ false → changes ≡ rename_changes_in_files 0 k name fresh policy.walk policy.files
     → AreChangesOfEdit (Rename k name fresh) (Rename k fresh name ∷ []) policy changes
 rename_changes_make_edit_of_rename l k name fresh policy changes f short are =

@@ -2,7 +2,7 @@
 use Rattle.sudoers_edit.proofs.Common.{AllByRecursion, AreValidWalkLines, Bool, EachIsOneLineWhenCut, IsCorrectlyParsed, IsDefinableName, IsLogicalLine, Kind, Line, LineChange, LineReadsAsNode, List, NamedAlias}
 use Rattle.sudoers_edit.proofs.Common.{ParsedFile, PlacedDefinition, RenamedLineLaws, WalkState, [], alias_offsets_in_node, ap, ap₂, arith, bytes_eq, bytes_eq-Decides, definition_place_of_name, definitions_of_lines}
 use Rattle.sudoers_edit.proofs.Common.{false, has_inner_line_without_lf, if◌then◌else◌, is_alias_name_in_use, is_file_on_walk, is_some, length, line_after_rename, line_replaced_at_offsets, line_text_after_rename}
-use Rattle.sudoers_edit.proofs.Common.{lines_after_rename, lines_of_numbered_file, ltb-false, map, mentions_in_lines, name_offsets_in_line, named_alias_of_kind, nat_lt, nil_from_length, not, or_false, refl}
+use Rattle.sudoers_edit.proofs.Common.{lines_after_rename, lines_of_numbered_file, ltb-false, map, mentions_in_lines, name_offsets_in_line, named_alias_of_kind_and_name, nat_lt, nil_from_length, not, or_false, refl}
 use Rattle.sudoers_edit.proofs.Common.{rename_change_in_line, rename_changes_in_file, rename_changes_in_files, subst, suc, sym, texts_of_changes, texts_of_lines, texts_of_renamed_lines, true, ℕ, ◌++◌, ◌+◌, ◌||◌, ◌∙◌}
 use Rattle.sudoers_edit.proofs.Common.{◌∷◌, ◌≡◌}
 use Rattle.sudoers_edit.proofs.NameFree.{IsLineWithoutAlias, lines_not_naming_alias_are_without_it}
@@ -17,10 +17,10 @@ use Rattle.sudoers_edit.proofs.RenamedTexts.{renamed_texts_are_texts_of_renamed_
 -- ---- the texts
 
 name_replaced_at_offsets_is_renamed_text : RenamedLineLaws → (k : Kind) (name fresh : List ℕ) (line : Line) → LineReadsAsNode line.text line.node
-    → line_replaced_at_offsets 0 (length name) fresh (name_offsets_in_line k name line.node) line.text ≡ line_text_after_rename (named_alias_of_kind k name) fresh line.node line.text
+    → line_replaced_at_offsets 0 (length name) fresh (name_offsets_in_line k name line.node) line.text ≡ line_text_after_rename (named_alias_of_kind_and_name k name) fresh line.node line.text
 name_replaced_at_offsets_is_renamed_text l k name fresh line says =
     ap (λ (starts : List ℕ). line_replaced_at_offsets 0 (length name) fresh starts line.text) (sym (alias_offsets_of_node_are_name_offsets k name line.node))
-    ∙ replacement_at_once_is_replacement_in_turn (length name) fresh line.text (alias_offsets_in_node (named_alias_of_kind k name) line.node) (l.ascend (named_alias_of_kind k name) line.text line.node says)
+    ∙ replacement_at_once_is_replacement_in_turn (length name) fresh line.text (alias_offsets_in_node (named_alias_of_kind_and_name k name) line.node) (l.ascend (named_alias_of_kind_and_name k name) line.text line.node says)
 
 -- only the last line may lack LF, if that was so before
 pub renamed_lines_keep_inner_lf : RenamedLineLaws → (alias : NamedAlias) (fresh : List ℕ) → IsDefinableName alias.name → IsDefinableName fresh → (lines : List Line)
@@ -46,7 +46,7 @@ rename_changes_in_file_bring_logical_lines l f n k name fresh old new (line ∷ 
     logical : IsLogicalLine (line_replaced_at_offsets 0 (length name) fresh (name_offsets_in_line k name line.node) line.text)
     logical =
         subst IsLogicalLine (sym (name_replaced_at_offsets_is_renamed_text l k name fresh line says.0))
-        (l.line (named_alias_of_kind k name) fresh line.text line.node old new says.0 (l.tells line.text (l.logical line.text each.0)))
+        (l.line (named_alias_of_kind_and_name k name) fresh line.text line.node old new says.0 (l.tells line.text (l.logical line.text each.0)))
 
     by : AllByRecursion IsLogicalLine (texts_of_changes (later ++ rest)) → (starts : List ℕ) → IsLogicalLine (line_replaced_at_offsets 0 (length name) fresh starts line.text)
         → AllByRecursion IsLogicalLine (texts_of_changes ((rename_change_in_line f n (length name) fresh starts line.text ++ later) ++ rest))
@@ -74,14 +74,14 @@ pub reverse_rename_of_lines_restores_texts : RenamedLineLaws → (k : Kind) (nam
     → AllByRecursion (IsLineWithoutAlias k fresh) lines → texts_of_lines (lines_after_rename k fresh name (lines_after_rename k name fresh lines)) ≡ texts_of_lines lines
 reverse_rename_of_lines_restores_texts l k name fresh [] says without = refl
 reverse_rename_of_lines_restores_texts l k name fresh (line ∷ lines) says without =
-    ap₂ (λ (x : List ℕ) (xs : List (List ℕ)). x ∷ xs) (l.undone (named_alias_of_kind k name) fresh line.text line.node says.0 without.0)
+    ap₂ (λ (x : List ℕ) (xs : List (List ℕ)). x ∷ xs) (l.undone (named_alias_of_kind_and_name k name) fresh line.text line.node says.0 without.0)
     (reverse_rename_of_lines_restores_texts l k name fresh lines says.1 without.1)
 
 -- renamed lines with the old name are the lines before
 pub texts_of_reverse_renamed_lines_are_former : RenamedLineLaws → (k : Kind) (name fresh : List ℕ) → IsDefinableName name → IsDefinableName fresh → (lines : List Line) → AllByRecursion IsCorrectlyParsed lines
     → AllByRecursion (IsLineWithoutAlias k fresh) lines → texts_of_renamed_lines k fresh name (lines_after_rename k name fresh lines) ≡ texts_of_lines lines
 texts_of_reverse_renamed_lines_are_former l k name fresh old new lines says without =
-    renamed_texts_are_texts_of_renamed_lines l.ascend k fresh name (lines_after_rename k name fresh lines) (renamed_lines_are_correctly_parsed l.same (named_alias_of_kind k name) fresh old new lines says)
+    renamed_texts_are_texts_of_renamed_lines l.ascend k fresh name (lines_after_rename k name fresh lines) (renamed_lines_are_correctly_parsed l.same (named_alias_of_kind_and_name k name) fresh old new lines says)
     ∙ reverse_rename_of_lines_restores_texts l k name fresh lines says without
 
 pub name_of_no_mentions_is_not_mentioned : (k : Kind) (fresh : List ℕ) (lines : List Line) → nat_lt 0 (length (mentions_in_lines k fresh lines)) ≡ false → mentions_in_lines k fresh lines ≡ []

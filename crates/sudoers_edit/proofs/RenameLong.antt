@@ -1,6 +1,6 @@
 -- Whether a rename makes a line of the walk too long: whether one that its changes bring is.
-use Rattle.sudoers_edit.proofs.Common.{AllByRecursion, AreLinesAtSpots, Bool, EachIsOneLineWhenCut, IsCorrectlyParsed, IsMappedWalk, KeepsIncludeLead, Kind, Line, LineChange, LineMapping, List, LoadedPolicy}
-use Rattle.sudoers_edit.proofs.Common.{LoadedRenameLaws, MakeMappedLines, NamedFile, NoChangesLaw, Ok, ParsedFile, RenamedLineLaws, Some, WalkLineSpot, WalkState, [], ap, ap₂, arith, changed_files_from_number, false}
+use Rattle.sudoers_edit.proofs.Common.{AllByRecursion, AreLinesAtSpots, Bool, EachIsOneLineWhenCut, IsCorrectlyParsed, IsMappedWalk, KeepsIncludeLead, Kind, Line, LineChange, LineToLinesMapping, List, LoadedPolicy}
+use Rattle.sudoers_edit.proofs.Common.{LoadedFileLawsBehindRenames, MakeMappedLines, NamedFile, NoChangesLaw, Ok, ParsedFile, RenamedLineLaws, Some, WalkLineSpot, WalkState, [], ap, ap₂, arith, changed_files_from_number, false}
 use Rattle.sudoers_edit.proofs.Common.{has_inner_line_without_lf, if◌then◌else◌, is_file_on_walk, is_line_too_long, join, le-ltb, length, line_limit, line_replaced_at_offsets, lines_of_numbered_file, list_any, map}
 use Rattle.sudoers_edit.proofs.Common.{mapped_lines_at_spots, mapped_lines_from_number, name_of_numbered_file, name_offsets_in_line, named_file_of_parsed, named_files_of_policy, one, or_false, policy_or_load_fault}
 use Rattle.sudoers_edit.proofs.Common.{refl, rename_change_in_line, rename_changes_in_file, rename_changes_in_files, slice_get, subst, suc, sym, text_of_renamed_line, texts_of_changes, texts_of_lines}
@@ -84,7 +84,7 @@ short_file_lines_imply_short_rename_changes l m k name fresh w (file ∷ files) 
 -- EACH LINE OF THE WALK STANDS IN A FILE ON IT
 
 -- the lines of files on the walk alone
-abbrev mapping_keeping_lines_on_walk : WalkState → LineMapping
+abbrev mapping_keeping_lines_on_walk : WalkState → LineToLinesMapping
 mapping_keeping_lines_on_walk w = λ f n line. if is_file_on_walk w f then line ∷ [] else []
 
 lines_of_file_on_walk_are_kept : (w : WalkState) (f n : ℕ) (lines : List Line) → is_file_on_walk w f ≡ true → mapped_lines_from_number (mapping_keeping_lines_on_walk w) f n lines ≡ lines
@@ -93,7 +93,7 @@ lines_of_file_on_walk_are_kept w f n (line ∷ lines) on =
     ap (λ (b : Bool). (if b then line ∷ [] else []) ++ mapped_lines_from_number (mapping_keeping_lines_on_walk w) f (n + 1) lines) on
     ∙ ap (λ (ls : List Line). line ∷ ls) (lines_of_file_on_walk_are_kept w f (n + 1) lines on)
 
-no_changes_make_lines_kept_on_walk : LoadedRenameLaws → (policy : LoadedPolicy) → AreSoundFiles policy.files → MakeMappedLines (mapping_keeping_lines_on_walk policy.walk) [] policy.files policy.walk
+no_changes_make_lines_kept_on_walk : LoadedFileLawsBehindRenames → (policy : LoadedPolicy) → AreSoundFiles policy.files → MakeMappedLines (mapping_keeping_lines_on_walk policy.walk) [] policy.files policy.walk
 no_changes_make_lines_kept_on_walk l policy sound = record {
   lines = λ f on. l.none 0 (texts_of_lines (lines_of_numbered_file policy.files f)) ∙ ap texts_of_lines (sym (lines_of_file_on_walk_are_kept policy.walk f 0 (lines_of_numbered_file policy.files f) on));
   says = λ f on. subst (AllByRecursion IsCorrectlyParsed) (sym (lines_of_file_on_walk_are_kept policy.walk f 0 (lines_of_numbered_file policy.files f) on)) (sound.says f);
@@ -107,7 +107,7 @@ no_changes_keep_files none f (file ∷ files) =
     ap₂ (λ (ls : List (List ℕ)) (rest : List NamedFile). (let first : NamedFile = record { name = file.name; bytes = join ls } in first) ∷ rest)
     (none 0 (texts_of_lines file.lines)) (no_changes_keep_files none (f + 1) files)
 
-pub walk_lines_are_lines_kept_on_walk : LoadedRenameLaws → (policy : LoadedPolicy) → policy_or_load_fault (named_files_of_policy policy) ≡ Ok policy
+pub walk_lines_are_lines_kept_on_walk : LoadedFileLawsBehindRenames → (policy : LoadedPolicy) → policy_or_load_fault (named_files_of_policy policy) ≡ Ok policy
     → policy.walk.lines ≡ mapped_lines_at_spots (mapping_keeping_lines_on_walk policy.walk) policy.walk.spots policy.walk.lines
 walk_lines_are_lines_kept_on_walk l policy loaded =
     let sound : AreSoundFiles policy.files = loaded_files_are_sound l policy loaded in
@@ -169,7 +169,7 @@ pub all_short_implies_no_too_long_text : (k : Kind) (name fresh : List ℕ) (lin
 all_short_implies_no_too_long_text k name fresh [] all = refl
 all_short_implies_no_too_long_text k name fresh (line ∷ lines) all = ap₂ (λ (a b : Bool). a || b) all.0 (all_short_implies_no_too_long_text k name fresh lines all.1)
 
-pub rename_changes_are_long_as_walk_is : LoadedRenameLaws → (policy : LoadedPolicy) → policy_or_load_fault (named_files_of_policy policy) ≡ Ok policy → (k : Kind) (name fresh : List ℕ)
+pub rename_changes_are_long_as_walk_is : LoadedFileLawsBehindRenames → (policy : LoadedPolicy) → policy_or_load_fault (named_files_of_policy policy) ≡ Ok policy → (k : Kind) (name fresh : List ℕ)
     → list_any is_line_too_long (texts_of_changes (rename_changes_in_files 0 k name fresh policy.walk policy.files)) ≡ list_any is_line_too_long (texts_of_renamed_lines k name fresh policy.walk.lines)
 rename_changes_are_long_as_walk_is l policy loaded k name fresh = by (list_any is_line_too_long (texts_of_changes changes)) (list_any is_line_too_long (texts_of_renamed_lines k name fresh w.lines)) refl refl
   where

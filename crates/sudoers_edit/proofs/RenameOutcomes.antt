@@ -1,6 +1,6 @@
 -- A rename over files to a free name is refused for its size alone, and one that is made is taken back by one rename.
 use Rattle.sudoers_edit.proofs.Common.{AllByRecursion, AreValidWalkLines, BadName, Bool, EditFault, Err, IsDefinableName, IsPolicyAfterRename, Kind, Line, List, LoadFault, LoadedPolicy, NameTaken, NoAlias, Ok}
-use Rattle.sudoers_edit.proofs.Common.{RenameSizeLaws, RenamedFilesAreWithinLimits, Result, TooLarge, [], ap, ap₂, arith, definition_place_of_name, false, inl, inr, is_alias_name_in_use, is_file_on_walk}
+use Rattle.sudoers_edit.proofs.Common.{TextSizeLawsBehindRenames, RenamedFilesAreWithinLimits, Result, TooLarge, [], ap, ap₂, arith, definition_place_of_name, false, inl, inr, is_alias_name_in_use, is_file_on_walk}
 use Rattle.sudoers_edit.proofs.Common.{is_line_too_long, is_name, is_reserved, is_some, le-ltb, length, line_limit, lines_after_rename, lines_of_numbered_file, list_any, mentions_in_lines, named_files_after_rename}
 use Rattle.sudoers_edit.proofs.Common.{named_files_of_policy, not, or_false, policy_after_rename, policy_of_files_or_refusal, policy_or_edit_fault, policy_or_load_fault, refl, result_unless_refused, subst, sym}
 use Rattle.sudoers_edit.proofs.Common.{texts_of_lines, texts_of_renamed_lines, true, ℕ, ◌||◌, ◌∙◌, ◌∷◌, ◌≡◌, ◌≤◌, ◌⊎◌}
@@ -18,7 +18,7 @@ definable_name_is_not_bad : (fresh : List ℕ) → IsDefinableName fresh → (no
 definable_name_is_not_bad fresh new = ap₂ (λ (a b : Bool). not a || b) new.0 new.1
 
 -- The names of the alias stand in the lines of the walk, where the new one is not defined.
-renamed_walk_lines_are_valid : RenameSizeLaws → (k : Kind) (name fresh : List ℕ) (policy : LoadedPolicy) → policy_or_load_fault (named_files_of_policy policy) ≡ Ok policy
+renamed_walk_lines_are_valid : TextSizeLawsBehindRenames → (k : Kind) (name fresh : List ℕ) (policy : LoadedPolicy) → policy_or_load_fault (named_files_of_policy policy) ≡ Ok policy
     → is_some (definition_place_of_name k name policy.walk.lines) ≡ true → IsDefinableName fresh → is_some (definition_place_of_name k fresh policy.walk.lines) ≡ false
     → AreValidWalkLines (lines_after_rename k name fresh policy.walk.lines)
 renamed_walk_lines_are_valid l k name fresh policy loaded some new free =
@@ -29,7 +29,7 @@ unused_name_is_undefined : (k : Kind) (fresh : List ℕ) (lines : List Line) →
 unused_name_is_undefined k fresh lines free = (or_false (is_some (definition_place_of_name k fresh lines)) (nat_lt 0 (length (mentions_in_lines k fresh lines))) free).0
 
 -- where no line of the walk is too long, none of the files on it is
-short_walk_lines_imply_can_be_renamed : RenameSizeLaws → (k : Kind) (name fresh : List ℕ) (policy : LoadedPolicy) → CanRenameOnWalk k name fresh policy
+short_walk_lines_imply_can_be_renamed : TextSizeLawsBehindRenames → (k : Kind) (name fresh : List ℕ) (policy : LoadedPolicy) → CanRenameOnWalk k name fresh policy
     → list_any is_line_too_long (texts_of_renamed_lines k name fresh policy.walk.lines) ≡ false → IsRenameableWithinLines k name fresh policy
 short_walk_lines_imply_can_be_renamed l k name fresh policy f short = record {
   loaded = f.loaded;
@@ -48,7 +48,7 @@ too_large_load_refuses_edit : (outcome : Result LoadedPolicy LoadFault) → Load
 too_large_load_refuses_edit outcome large = ap policy_or_edit_fault large.1
 
 -- it is refused for its size, or leads to the policy with the new name
-pub rename_is_made_or_too_large : RenameSizeLaws → (k : Kind) (name fresh : List ℕ) (policy : LoadedPolicy) → CanRenameOnWalk k name fresh policy
+pub rename_is_made_or_too_large : TextSizeLawsBehindRenames → (k : Kind) (name fresh : List ℕ) (policy : LoadedPolicy) → CanRenameOnWalk k name fresh policy
     → (policy_after_rename k name fresh policy ≡ Err TooLarge) ⊎ ((new : LoadedPolicy) × (policy_after_rename k name fresh policy ≡ Ok new) × IsPolicyAfterRename k name fresh policy new)
 rename_is_made_or_too_large l k name fresh policy f = by (list_any is_line_too_long (texts_of_renamed_lines k name fresh policy.walk.lines)) refl
   where
@@ -65,7 +65,7 @@ rename_is_made_or_too_large l k name fresh policy f = by (list_any is_line_too_l
         by_load_of (unrefused_rename_is_load_of_renamed_files k name fresh policy f.some f.new f.free short)
         (renamed_files_load_or_are_too_large l k name fresh policy (short_walk_lines_imply_can_be_renamed l k name fresh policy f short))
 
-pub refused_rename_is_too_large : RenameSizeLaws → (k : Kind) (name fresh : List ℕ) (policy : LoadedPolicy) (fault : EditFault) → CanRenameOnWalk k name fresh policy
+pub refused_rename_is_too_large : TextSizeLawsBehindRenames → (k : Kind) (name fresh : List ℕ) (policy : LoadedPolicy) (fault : EditFault) → CanRenameOnWalk k name fresh policy
     → policy_after_rename k name fresh policy ≡ Err fault → fault ≡ TooLarge
 refused_rename_is_too_large l k name fresh policy fault f is = by (rename_is_made_or_too_large l k name fresh policy f)
   where
@@ -80,14 +80,14 @@ lines_within_limit_are_not_too_long : (lines : List (List ℕ)) → AllByRecursi
 lines_within_limit_are_not_too_long [] all = refl
 lines_within_limit_are_not_too_long (line ∷ lines) all = ap₂ (λ (a b : Bool). a || b) (le-ltb line_limit (length line) all.0) (lines_within_limit_are_not_too_long lines all.1)
 
-renamed_files_within_limits_have_short_lines : RenameSizeLaws → (k : Kind) (name fresh : List ℕ) (policy : LoadedPolicy) → policy_or_load_fault (named_files_of_policy policy) ≡ Ok policy → RenamedFilesAreWithinLimits k name fresh policy
+renamed_files_within_limits_have_short_lines : TextSizeLawsBehindRenames → (k : Kind) (name fresh : List ℕ) (policy : LoadedPolicy) → policy_or_load_fault (named_files_of_policy policy) ≡ Ok policy → RenamedFilesAreWithinLimits k name fresh policy
     → (n : ℕ) → is_file_on_walk policy.walk n ≡ true → list_any is_line_too_long (texts_of_renamed_lines k name fresh (lines_of_numbered_file policy.files n)) ≡ false
 renamed_files_within_limits_have_short_lines l k name fresh policy loaded within n on =
     ap (list_any is_line_too_long) (renamed_texts_are_texts_of_renamed_lines l.base.lines.ascend k name fresh (lines_of_numbered_file policy.files n) ((loaded_files_are_sound l.base policy loaded).says n))
     ∙ lines_within_limit_are_not_too_long (texts_of_lines (lines_after_rename k name fresh (lines_of_numbered_file policy.files n))) (within n on).0
 
 -- The files with a name that was not defined before are a policy.
-pub renamed_files_within_limits_load : RenameSizeLaws → (k : Kind) (name fresh : List ℕ) (policy : LoadedPolicy) → policy_or_load_fault (named_files_of_policy policy) ≡ Ok policy
+pub renamed_files_within_limits_load : TextSizeLawsBehindRenames → (k : Kind) (name fresh : List ℕ) (policy : LoadedPolicy) → policy_or_load_fault (named_files_of_policy policy) ≡ Ok policy
     → is_some (definition_place_of_name k name policy.walk.lines) ≡ true → IsDefinableName fresh → is_some (definition_place_of_name k fresh policy.walk.lines) ≡ false
     → RenamedFilesAreWithinLimits k name fresh policy → LoadsRenamedFiles k name fresh policy
 renamed_files_within_limits_load l k name fresh policy loaded some new free within =
@@ -101,7 +101,7 @@ renamed_files_within_limits_load l k name fresh policy loaded some new free with
     let same : n ≡ i = omega (arith, is) in
     (within i (ap (λ (m : ℕ). is_file_on_walk policy.walk m) (sym same) ∙ on)).1)
 
-pub rename_within_limits_is_made : RenameSizeLaws → (k : Kind) (name fresh : List ℕ) (policy : LoadedPolicy) → CanRenameOnWalk k name fresh policy → RenamedFilesAreWithinLimits k name fresh policy
+pub rename_within_limits_is_made : TextSizeLawsBehindRenames → (k : Kind) (name fresh : List ℕ) (policy : LoadedPolicy) → CanRenameOnWalk k name fresh policy → RenamedFilesAreWithinLimits k name fresh policy
     → (new : LoadedPolicy) × (policy_after_rename k name fresh policy ≡ Ok new) × IsPolicyAfterRename k name fresh policy new
 rename_within_limits_is_made l k name fresh policy f within =
     let loads : LoadsRenamedFiles k name fresh policy =
@@ -161,7 +161,7 @@ rename_made_implies_can_rename : (k : Kind) (name fresh : List ℕ) (policy new 
 rename_made_implies_can_rename k name fresh policy new loaded m = record { loaded = loaded; some = m.some; new = m.new_name; free = m.free }
 
 -- one rename leads back
-pub rename_made_is_undone_by_reverse_rename : RenameSizeLaws → (k : Kind) (name fresh : List ℕ) (policy new : LoadedPolicy) → policy_or_load_fault (named_files_of_policy policy) ≡ Ok policy
+pub rename_made_is_undone_by_reverse_rename : TextSizeLawsBehindRenames → (k : Kind) (name fresh : List ℕ) (policy new : LoadedPolicy) → policy_or_load_fault (named_files_of_policy policy) ≡ Ok policy
     → policy_after_rename k name fresh policy ≡ Ok new → policy_after_rename k fresh name new ≡ Ok policy
 rename_made_is_undone_by_reverse_rename l k name fresh policy new loaded is =
     let m : IsRenameMade k name fresh policy new = accepted_rename_has_its_conditions k name fresh policy new is in
@@ -169,7 +169,7 @@ rename_made_is_undone_by_reverse_rename l k name fresh policy new loaded is =
     (ap policy_or_load_fault (rename_changes_make_renamed_files l.base k name fresh policy) ∙ accepted_outcome_is_load (policy_or_load_fault (named_files_after_rename k name fresh policy)) new m.leads)
 
 -- and it has led to the policy with the new name
-pub rename_made_gives_renamed_policy : RenameSizeLaws → (k : Kind) (name fresh : List ℕ) (policy new : LoadedPolicy) → policy_or_load_fault (named_files_of_policy policy) ≡ Ok policy
+pub rename_made_gives_renamed_policy : TextSizeLawsBehindRenames → (k : Kind) (name fresh : List ℕ) (policy new : LoadedPolicy) → policy_or_load_fault (named_files_of_policy policy) ≡ Ok policy
     → policy_after_rename k name fresh policy ≡ Ok new → IsPolicyAfterRename k name fresh policy new
 rename_made_gives_renamed_policy l k name fresh policy new loaded is =
     by (rename_is_made_or_too_large l k name fresh policy (rename_made_implies_can_rename k name fresh policy new loaded (accepted_rename_has_its_conditions k name fresh policy new is)))

@@ -1,9 +1,9 @@
 -- The files to which a rename leads are a policy, unless one is too large.
 use Rattle.sudoers_edit.proofs.Common.{AllByRecursion, AreDefinedNamesValid, AreFilesMapped, AreValidWalkLines, Bool, CanReplaceFiles, EachIsOneLineWhenCut, Err, IsCorrectlyParsed, IsDefinableName, IsLogicalLine}
-use Rattle.sudoers_edit.proofs.Common.{IsPolicyAfterRename, Kind, Line, List, LoadFault, LoadedPolicy, NamedAlias, NamedFile, Ok, ParsedFile, RenameSizeLaws, Result, TextFault, WalkState, [], ap, arith}
+use Rattle.sudoers_edit.proofs.Common.{IsPolicyAfterRename, Kind, Line, List, LoadFault, LoadedPolicy, NamedAlias, NamedFile, Ok, ParsedFile, TextSizeLawsBehindRenames, Result, TextFault, WalkState, [], ap, arith}
 use Rattle.sudoers_edit.proofs.Common.{cut_outcome_of_text, false, file_limit, file_names, first_repeated_file_name, has_inner_line_without_lf, if◌then◌else◌, inl, inr, is_file_on_walk, is_line_too_long, join}
 use Rattle.sudoers_edit.proofs.Common.{length, line_after_rename, line_limit, line_text_after_rename, lines_after_rename, lines_of_numbered_file, list_any, load_then, ltb-false, map, mapped_lines_at_spots}
-use Rattle.sudoers_edit.proofs.Common.{named_alias_of_kind, named_file_of_parsed, named_files_after_rename, named_files_of_policy, named_files_renamed_from, or_false, parsed_file_of_texts, parsed_file_or_cut_fault}
+use Rattle.sudoers_edit.proofs.Common.{named_alias_of_kind_and_name, named_file_of_parsed, named_files_after_rename, named_files_of_policy, named_files_numbered_from_renamed_if_on_walk, or_false, parsed_file_of_texts, parsed_file_of_cut_or_fault}
 use Rattle.sudoers_edit.proofs.Common.{parsed_files_after_rename, parsed_files_or_cut_fault, policy_of_parsed_files, policy_or_load_fault, refl, subst, suc, sym, text_limit, texts_of_lines, texts_of_renamed_lines}
 use Rattle.sudoers_edit.proofs.Common.{true, zero, ℕ, ◌++◌, ◌+◌, ◌∙◌, ◌∷◌, ◌≡◌, ◌≤◌, ◌⊎◌}
 use Rattle.std.proofs.Common.{nat_lt}
@@ -22,7 +22,7 @@ use Rattle.sudoers_edit.proofs.RenameReadings.{renamed_parsed_files_have_no_faul
 
 -- ONE FILE
 
-short_renamed_lines_are_cut_alone : RenameSizeLaws → (alias : NamedAlias) (fresh : List ℕ) → IsDefinableName alias.name → IsDefinableName fresh → (lines : List Line)
+short_renamed_lines_are_cut_alone : TextSizeLawsBehindRenames → (alias : NamedAlias) (fresh : List ℕ) → IsDefinableName alias.name → IsDefinableName fresh → (lines : List Line)
     → EachIsOneLineWhenCut (texts_of_lines lines) → AllByRecursion IsCorrectlyParsed lines → list_any is_line_too_long (texts_of_lines (map (line_after_rename alias fresh) lines)) ≡ false
     → EachIsOneLineWhenCut (texts_of_lines (map (line_after_rename alias fresh) lines))
 short_renamed_lines_are_cut_alone l alias fresh old new [] each says short = tt
@@ -34,15 +34,15 @@ short_renamed_lines_are_cut_alone l alias fresh old new (line ∷ lines) each sa
     (l.whole text (l.told text logical) (omega (arith, ltb-false line_limit (length text) p.0)), short_renamed_lines_are_cut_alone l alias fresh old new lines each.1 says.1 p.1)
 
 -- A file of which no line is too long then is cut into the renamed lines, if it is within the limit.
-fitting_renamed_file_is_cut_in_lines : RenameSizeLaws → (k : Kind) (name fresh : List ℕ) → IsDefinableName name → IsDefinableName fresh → (lines : List Line)
+fitting_renamed_file_is_cut_in_lines : TextSizeLawsBehindRenames → (k : Kind) (name fresh : List ℕ) → IsDefinableName name → IsDefinableName fresh → (lines : List Line)
     → EachIsOneLineWhenCut (texts_of_lines lines) → AllByRecursion IsCorrectlyParsed lines → has_inner_line_without_lf (texts_of_lines lines) ≡ false
     → list_any is_line_too_long (texts_of_renamed_lines k name fresh lines) ≡ false → length (join (texts_of_lines (lines_after_rename k name fresh lines))) ≤ text_limit
     → cut_outcome_of_text (join (texts_of_lines (lines_after_rename k name fresh lines))) ≡ Ok (texts_of_lines (lines_after_rename k name fresh lines))
 fitting_renamed_file_is_cut_in_lines l k name fresh old new lines each says ended short fits =
     l.joined (texts_of_lines (lines_after_rename k name fresh lines))
-    (short_renamed_lines_are_cut_alone l (named_alias_of_kind k name) fresh old new lines each says
+    (short_renamed_lines_are_cut_alone l (named_alias_of_kind_and_name k name) fresh old new lines each says
     (ap (list_any is_line_too_long) (sym (renamed_texts_are_texts_of_renamed_lines l.base.lines.ascend k name fresh lines says)) ∙ short))
-    (renamed_lines_keep_inner_lf l.base.lines (named_alias_of_kind k name) fresh old new lines says ∙ ended) fits
+    (renamed_lines_keep_inner_lf l.base.lines (named_alias_of_kind_and_name k name) fresh old new lines says ∙ ended) fits
 
 bytes_past_limit_are_too_large : (bytes : List ℕ) → nat_lt text_limit (length bytes) ≡ true → cut_outcome_of_text bytes ≡ Err text.TooLarge
 unfolding cut_outcome_of_text
@@ -73,22 +73,22 @@ sound_short_files_have_sound_short_rest m k name fresh w file files good = recor
   short = λ i f is on. good.short (suc i) f (omega (arith, is)) on;
 }
 
-renamed_files_fit_or_stop_too_large : RenameSizeLaws → (m : ℕ) (k : Kind) (name fresh : List ℕ) → IsDefinableName name → IsDefinableName fresh → (w : WalkState)
+renamed_files_fit_or_stop_too_large : TextSizeLawsBehindRenames → (m : ℕ) (k : Kind) (name fresh : List ℕ) → IsDefinableName name → IsDefinableName fresh → (w : WalkState)
     (before files : List ParsedFile) → AreSoundAndShortOnWalk m k name fresh w files
-    → ReadingStopsAtTooLargeText (parsed_files_or_cut_fault before (named_files_renamed_from m k name fresh w files)) ⊎ RenamedFilesFitTextLimit m k name fresh w files
+    → ReadingStopsAtTooLargeText (parsed_files_or_cut_fault before (named_files_numbered_from_renamed_if_on_walk m k name fresh w files)) ⊎ RenamedFilesFitTextLimit m k name fresh w files
 renamed_files_fit_or_stop_too_large l m k name fresh old new w before [] good = inr (λ i f is on. omega arith)
 renamed_files_fit_or_stop_too_large l m k name fresh old new w before (file ∷ files) good =
     by (is_file_on_walk w m) refl (λ read. renamed_files_fit_or_stop_too_large l (m + 1) k name fresh old new w (before ++ read ∷ []) files (sound_short_files_have_sound_short_rest m k name fresh w file files good))
   where
     rest : List NamedFile
-    rest = named_files_renamed_from (m + 1) k name fresh w files
+    rest = named_files_numbered_from_renamed_if_on_walk (m + 1) k name fresh w files
 
     bytes : List ℕ
     bytes = join (texts_of_lines (lines_after_rename k name fresh file.lines))
 
     -- the outcome with this cut of the file
     with_cut : Result (List (List ℕ)) TextFault → Result (List ParsedFile) LoadFault
-    with_cut cut = load_then (parsed_file_or_cut_fault file.name cut) (λ read. parsed_files_or_cut_fault (before ++ read ∷ []) rest)
+    with_cut cut = load_then (parsed_file_of_cut_or_fault file.name cut) (λ read. parsed_files_or_cut_fault (before ++ read ∷ []) rest)
 
     Later : Type 0
     Later = (read : ParsedFile) → ReadingStopsAtTooLargeText (parsed_files_or_cut_fault (before ++ read ∷ []) rest) ⊎ RenamedFilesFitTextLimit (m + 1) k name fresh w files
@@ -140,7 +140,7 @@ pub record LoadsRenamedFiles (k : Kind) (name fresh : List ℕ) (policy : Loaded
   pub is : policy_or_load_fault (named_files_after_rename k name fresh policy) ≡ Ok new
   pub renamed_is : IsPolicyAfterRename k name fresh policy new
 
-renamed_files_are_mapped : RenameSizeLaws → (k : Kind) (name fresh : List ℕ) (policy : LoadedPolicy) → policy_or_load_fault (named_files_of_policy policy) ≡ Ok policy
+renamed_files_are_mapped : TextSizeLawsBehindRenames → (k : Kind) (name fresh : List ℕ) (policy : LoadedPolicy) → policy_or_load_fault (named_files_of_policy policy) ≡ Ok policy
     → AreFilesMapped (line_mapping_of_rename k name fresh) policy.files (parsed_files_after_rename k name fresh policy) policy.walk
 renamed_files_are_mapped l k name fresh policy loaded = record {
   names = rename_keeps_file_names_of_parsed_files 0 k name fresh policy.walk policy.files;
@@ -149,7 +149,7 @@ renamed_files_are_mapped l k name fresh policy loaded = record {
   leads = rename_keeps_include_leads k name fresh policy.files policy.walk;
 }
 
-fitting_renamed_files_can_replace_files : RenameSizeLaws → (k : Kind) (name fresh : List ℕ) (policy : LoadedPolicy) → IsRenameableWithinLines k name fresh policy
+fitting_renamed_files_can_replace_files : TextSizeLawsBehindRenames → (k : Kind) (name fresh : List ℕ) (policy : LoadedPolicy) → IsRenameableWithinLines k name fresh policy
     → RenamedFilesFitTextLimit 0 k name fresh policy.walk policy.files → CanReplaceFiles policy.files (parsed_files_after_rename k name fresh policy) policy.walk
 fitting_renamed_files_can_replace_files l k name fresh policy can fit =
     record {
@@ -160,7 +160,7 @@ fitting_renamed_files_can_replace_files l k name fresh policy can fit =
           (fitting_renamed_file_is_cut_in_lines l k name fresh can.old can.new lines (sound.each f) (sound.says f) (sound.ended f) (can.short f on) (fit f f (omega arith) on));
       says = λ f on.
           subst (AllByRecursion IsCorrectlyParsed) (sym (now f on))
-          (renamed_lines_are_correctly_parsed l.base.lines.same (named_alias_of_kind k name) fresh can.old can.new (lines_of_numbered_file policy.files f) (sound.says f));
+          (renamed_lines_are_correctly_parsed l.base.lines.same (named_alias_of_kind_and_name k name) fresh can.old can.new (lines_of_numbered_file policy.files f) (sound.says f));
     }
   where
     sound : AreSoundFiles policy.files
@@ -169,7 +169,7 @@ fitting_renamed_files_can_replace_files l k name fresh policy can fit =
     now : (f : ℕ) → is_file_on_walk policy.walk f ≡ true → lines_of_numbered_file (parsed_files_after_rename k name fresh policy) f ≡ lines_after_rename k name fresh (lines_of_numbered_file policy.files f)
     now f on = parsed_file_on_walk_has_renamed_lines f f 0 k name fresh policy.walk policy.files (omega arith) on
 
-pub fitting_renamed_files_load : RenameSizeLaws → (k : Kind) (name fresh : List ℕ) (policy : LoadedPolicy) → IsRenameableWithinLines k name fresh policy
+pub fitting_renamed_files_load : TextSizeLawsBehindRenames → (k : Kind) (name fresh : List ℕ) (policy : LoadedPolicy) → IsRenameableWithinLines k name fresh policy
     → RenamedFilesFitTextLimit 0 k name fresh policy.walk policy.files → LoadsRenamedFiles k name fresh policy
 fitting_renamed_files_load l k name fresh policy can fit =
     let lines : List Line = lines_after_rename k name fresh policy.walk.lines in
@@ -190,7 +190,7 @@ fitting_renamed_files_load l k name fresh policy can fit =
 abbrev pub LoadStopsAtTooLargeText : Result LoadedPolicy LoadFault → Type 0
 LoadStopsAtTooLargeText outcome = (name : List ℕ) × (outcome ≡ Err (InFile name (read.Text text.TooLarge)))
 
-pub renamed_files_load_or_are_too_large : RenameSizeLaws → (k : Kind) (name fresh : List ℕ) (policy : LoadedPolicy) → IsRenameableWithinLines k name fresh policy
+pub renamed_files_load_or_are_too_large : TextSizeLawsBehindRenames → (k : Kind) (name fresh : List ℕ) (policy : LoadedPolicy) → IsRenameableWithinLines k name fresh policy
     → LoadStopsAtTooLargeText (policy_or_load_fault (named_files_after_rename k name fresh policy)) ⊎ LoadsRenamedFiles k name fresh policy
 renamed_files_load_or_are_too_large l k name fresh policy can =
     by (renamed_files_fit_or_stop_too_large l 0 k name fresh can.old can.new policy.walk [] policy.files (record {

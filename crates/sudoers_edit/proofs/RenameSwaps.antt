@@ -1,5 +1,5 @@
 -- The changes that give an alias another name in the files on a walk: those of each file, and what they make of its lines.
-use Rattle.sudoers_edit.proofs.Common.{AreChangesInFileOrder, AreChangesInOrder, Bool, FirstChangeLaw, Kind, Line, LineChange, List, NoChangesLaw, ParsedFile, Put, Swap, Take, WalkState, [], ap, append-nil}
+use Rattle.sudoers_edit.proofs.Common.{AreFileNumbersOfChangesInOrder, AreChangesInOrder, Bool, FirstChangeLaw, Kind, Line, LineChange, List, NoChangesLaw, ParsedFile, Put, Swap, Take, WalkState, [], ap, append-nil}
 use Rattle.sudoers_edit.proofs.Common.{append_assoc, arith, changes_of_file, drop, eq-eqb, false, file_number_of_change, if◌then◌else◌, is_file_on_walk, length, line_number_of_change, line_replaced_at_offsets}
 use Rattle.sudoers_edit.proofs.Common.{lines_after_changes, lines_changed_from_number, lines_of_numbered_file, min_line_number_after_change, name_offsets_in_line, nat_tests, option_to_list, refl}
 use Rattle.sudoers_edit.proofs.Common.{rename_change_in_line, rename_changes_in_file, rename_changes_in_files, subst, suc, sym, take, text_of_change, texts_of_lines, texts_of_renamed_lines, true, zero, ℕ, ◌++◌, ◌+◌}
@@ -99,7 +99,7 @@ rename_changes_of_numbered_file f m (suc i) k name fresh w (file ∷ files) is =
 -- THEY GO BY THE FILES
 
 rename_changes_in_file_keep_file_order : (p f n count : ℕ) (k : Kind) (name fresh : List ℕ) (lines : List Line) (rest : List LineChange) → p ≤ f → f < count
-    → ((q : ℕ) → q ≤ f + 1 → AreChangesInFileOrder q rest count) → AreChangesInFileOrder p (rename_changes_in_file f n k name fresh lines ++ rest) count
+    → ((q : ℕ) → q ≤ f + 1 → AreFileNumbersOfChangesInOrder q rest count) → AreFileNumbersOfChangesInOrder p (rename_changes_in_file f n k name fresh lines ++ rest) count
 rename_changes_in_file_keep_file_order p f n count k name fresh [] rest less within next = next p (omega (arith, less))
 rename_changes_in_file_keep_file_order p f n count k name fresh (line ∷ lines) rest less within next =
     by (λ q at. rename_changes_in_file_keep_file_order q f (n + 1) count k name fresh lines rest at within next) (name_offsets_in_line k name line.node)
@@ -107,13 +107,13 @@ rename_changes_in_file_keep_file_order p f n count k name fresh (line ∷ lines)
     later : List LineChange
     later = rename_changes_in_file f (n + 1) k name fresh lines
 
-    by : ((q : ℕ) → q ≤ f → AreChangesInFileOrder q (later ++ rest) count) → (starts : List ℕ)
-        → AreChangesInFileOrder p ((rename_change_in_line f n (length name) fresh starts line.text ++ later) ++ rest) count
+    by : ((q : ℕ) → q ≤ f → AreFileNumbersOfChangesInOrder q (later ++ rest) count) → (starts : List ℕ)
+        → AreFileNumbersOfChangesInOrder p ((rename_change_in_line f n (length name) fresh starts line.text ++ later) ++ rest) count
     by more [] = more p less
     by more (start ∷ starts) = (less, within, more f (omega arith))
 
 pub rename_changes_are_in_file_order : (p m count : ℕ) (k : Kind) (name fresh : List ℕ) (w : WalkState) (files : List ParsedFile) → p ≤ m → count ≡ m + length files
-    → AreChangesInFileOrder p (rename_changes_in_files m k name fresh w files) count
+    → AreFileNumbersOfChangesInOrder p (rename_changes_in_files m k name fresh w files) count
 rename_changes_are_in_file_order p m count k name fresh w [] less is = tt
 rename_changes_are_in_file_order p m count k name fresh w (file ∷ files) less is =
     by (λ q at. rename_changes_are_in_file_order q (m + 1) count k name fresh w files at (omega (arith, is))) (is_file_on_walk w m)
@@ -121,7 +121,7 @@ rename_changes_are_in_file_order p m count k name fresh w (file ∷ files) less 
     later : List LineChange
     later = rename_changes_in_files (m + 1) k name fresh w files
 
-    by : ((q : ℕ) → q ≤ m + 1 → AreChangesInFileOrder q later count) → (on : Bool) → AreChangesInFileOrder p (rename_changes_in_file_if_on_walk on m k name fresh file.lines ++ later) count
+    by : ((q : ℕ) → q ≤ m + 1 → AreFileNumbersOfChangesInOrder q later count) → (on : Bool) → AreFileNumbersOfChangesInOrder p (rename_changes_in_file_if_on_walk on m k name fresh file.lines ++ later) count
     by next true = rename_changes_in_file_keep_file_order p m 0 count k name fresh file.lines later less (omega (arith, is)) next
     by next false = next p (omega (arith, less))
 

@@ -1,7 +1,7 @@
 -- Definitions of which one has another name that none of its kind had: they can stand if they could before.
 use Rattle.sudoers_edit.proofs.Common.{AliasRenaming, AllByRecursion, Bool, Cmnd, Def, HasUnreservedName, Host, Kind, Line, List, Node, Place, PlacedDefinition, Runas, Some, User, [], ap, ap₂, bytes_eq}
 use Rattle.sudoers_edit.proofs.Common.{bytes_eq-Decides, definition_count_of_kind, definition_with_alias_renamed, definitions_from_line_number, definitions_from_place, definitions_in_line, definitions_of_lines}
-use Rattle.sudoers_edit.proofs.Common.{false, first_definition_of, if◌then◌else◌, is_definition_of_name, is_equal_kind, is_reserved, lines_after_rename, named_alias_of_kind, node_with_alias_renamed, refl}
+use Rattle.sudoers_edit.proofs.Common.{false, first_definition_of, if◌then◌else◌, is_definition_of_name, is_equal_kind, is_reserved, lines_after_rename, named_alias_of_kind_and_name, node_with_alias_renamed, refl}
 use Rattle.sudoers_edit.proofs.Common.{renaming_of_alias_in_node, sym, true, ℕ, ◌&&◌, ◌++◌, ◌+◌, ◌∙◌, ◌∷◌, ◌≡◌}
 use Rattle.std.specs.Option.{option_map}
 use Rattle.std.specs.Prelude.{Option, map}
@@ -30,13 +30,13 @@ joined_renamed_definitions_are_renamed k name fresh (d ∷ ds) (e ∷ es) xs ys 
 
 placed_definitions_are_renamed : (k : Kind) (name fresh : List ℕ) (at : ℕ → ℕ) (j : Kind) (line n : ℕ) (defs : List Def)
     → AreRenamedDefinitions k name fresh (definitions_from_place j line n defs)
-    (definitions_from_place j line n (map (definition_with_alias_renamed (record { old = named_alias_of_kind k name; fresh = fresh; at = at }) j) defs))
+    (definitions_from_place j line n (map (definition_with_alias_renamed (record { old = named_alias_of_kind_and_name k name; fresh = fresh; at = at }) j) defs))
 placed_definitions_are_renamed k name fresh at j line n [] = tt
 placed_definitions_are_renamed k name fresh at j line n (d ∷ defs) = (refl, refl, refl, placed_definitions_are_renamed k name fresh at j line (n + 1) defs)
 
 definitions_of_renamed_line_are_renamed : (k : Kind) (name fresh : List ℕ) (at : ℕ → ℕ) (line : ℕ) (says : Node)
     → AreRenamedDefinitions k name fresh (definitions_in_line line says)
-    (definitions_in_line line (node_with_alias_renamed (record { old = named_alias_of_kind k name; fresh = fresh; at = at }) says))
+    (definitions_in_line line (node_with_alias_renamed (record { old = named_alias_of_kind_and_name k name; fresh = fresh; at = at }) says))
 definitions_of_renamed_line_are_renamed k name fresh at line (node.Alias j defs) = placed_definitions_are_renamed k name fresh at j line 0 defs
 definitions_of_renamed_line_are_renamed k name fresh at line node.Blank = tt
 definitions_of_renamed_line_are_renamed k name fresh at line node.Comment = tt
@@ -48,7 +48,7 @@ definitions_from_number_are_renamed : (k : Kind) (name fresh : List ℕ) (n : �
     → AreRenamedDefinitions k name fresh (definitions_from_line_number n lines) (definitions_from_line_number n (lines_after_rename k name fresh lines))
 definitions_from_number_are_renamed k name fresh n [] = tt
 definitions_from_number_are_renamed k name fresh n (line ∷ lines) =
-    let r : AliasRenaming = renaming_of_alias_in_node (named_alias_of_kind k name) fresh line.node in
+    let r : AliasRenaming = renaming_of_alias_in_node (named_alias_of_kind_and_name k name) fresh line.node in
     joined_renamed_definitions_are_renamed k name fresh (definitions_in_line n line.node) (definitions_in_line n (node_with_alias_renamed r line.node))
     (definitions_from_line_number (n + 1) lines) (definitions_from_line_number (n + 1) (lines_after_rename k name fresh lines))
     (definitions_of_renamed_line_are_renamed k name fresh r.at n line.node) (definitions_from_number_are_renamed k name fresh (n + 1) lines)

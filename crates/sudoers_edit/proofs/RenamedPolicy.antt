@@ -1,6 +1,6 @@
 -- The lines of a policy with another name for an alias are those of a policy.
 use Rattle.sudoers_edit.proofs.Common.{AllByRecursion, AreValidWalkLines, IsCorrectlyParsed, IsDefinableName, Kind, Line, LineReadsAsNode, List, NamedAlias, Node, PlacedDefinition, [], arith}
-use Rattle.sudoers_edit.proofs.Common.{definition_place_of_name, definitions_of_lines, false, first_definition_of, is_some, line_after_rename, line_text_after_rename, lines_after_rename, map, named_alias_of_kind}
+use Rattle.sudoers_edit.proofs.Common.{definition_place_of_name, definitions_of_lines, false, first_definition_of, is_some, line_after_rename, line_text_after_rename, lines_after_rename, map, named_alias_of_kind_and_name}
 use Rattle.sudoers_edit.proofs.Common.{node_with_alias_renamed, refl, renaming_of_alias_in_node, sym, true, ℕ, ◌∙◌, ◌∷◌, ◌≡◌}
 use Rattle.std.specs.Prelude.{Option, Some, None}
 use Rattle.sudoers_edit.proofs.DefinedNames.{name_defined_by_policy_is_definable}
@@ -26,7 +26,7 @@ renamed_lines_are_valid_walk_lines same k name fresh lines walk old new free =
     let es : List PlacedDefinition = definitions_of_lines (lines_after_rename k name fresh lines) in
     let are : AreRenamedDefinitions k name fresh ds es = definitions_of_renamed_lines_are_renamed k name fresh lines in
     record {
-      says = renamed_lines_are_correctly_parsed same (named_alias_of_kind k name) fresh old new lines walk.says;
+      says = renamed_lines_are_correctly_parsed same (named_alias_of_kind_and_name k name) fresh old new lines walk.says;
       free = renamed_definitions_have_unreserved_names k name fresh ds es are new.1 walk.free;
       once = renamed_definitions_keep_distinct_names k name fresh ds es are (undefined_name_is_lacked_by_definitions k fresh ds free) walk.once;
       few = λ j. omega (arith, renamed_definitions_have_equal_count_of_kind k name fresh j ds es are, walk.few j);

@@ -1,7 +1,7 @@
 -- What runs and quoted parts end with: no line end.
 use Rattle.sudoers_edit.proofs.Common.{Bool, Continuation, List, Pair, [], and_parts, ap, argument_unit_size, argument_units_size, arith, backslash_unit_size_by, begins_lf, begins_line_end, drop, ends_in_lf}
 use Rattle.sudoers_edit.proofs.Common.{eqb-true, false, first_nonzero_number, has_given_first_byte, if◌then◌else◌, inl, inr, is_byte_of_include_path, is_byte_of_parameter_name, is_digest_byte, is_digit, is_path_byte}
-use Rattle.sudoers_edit.proofs.Common.{is_value_byte, is_word_byte, leading_run_size, leb_tells, length, length-drop, pair_size_of_unit, quoted_run_size, reach_of_units, reach_past_first_byte, refl, run_unit_size}
+use Rattle.sudoers_edit.proofs.Common.{is_value_byte, is_word_byte, leading_run_size, leb_tells, length, length-drop, pair_size_of_unit, quotes_and_run_between_size, reach_of_units, reach_past_first_byte, refl, run_unit_size}
 use Rattle.sudoers_edit.proofs.Common.{size_of_one_matching_byte, subst, suc, sym, true, unit_after_backslash, zero, ℕ, ◌&&◌, ◌+◌, ◌<◌, ◌||◌, ◌∙◌, ◌∷◌, ◌≡◌, ◌≤◌, ◌⊎◌}
 use Rattle.std.specs.Prelude.{◌==◌}
 use Rattle.sudoers_text.specs.declared.part.ByteRunKind.{ByteRunKind}
@@ -154,12 +154,12 @@ bytes_with_final_quote_have_no_final_lf n xs quote last =
     by b (c ∷ rest) one is = absurd (omega (arith, one))
     by b [] one is = let same : b ≡ 34 = eqb-true b 34 is in subst (λ x. (x == 10) ≡ false) (sym same) refl
 
-pub quoted_run_has_no_final_lf : (r : ByteRunKind) → HasUnitsWithoutFinalLf (quoted_run_size r)
-unfolding quoted_run_size
+pub quoted_run_has_no_final_lf : (r : ByteRunKind) → HasUnitsWithoutFinalLf (quotes_and_run_between_size r)
+unfolding quotes_and_run_between_size
 quoted_run_has_no_final_lf r = record { within = λ bytes. (both bytes).0; ends = λ bytes. (both bytes).1 }
   where
     both : (bytes : List ℕ)
-        → (quoted_run_size r bytes ≤ length bytes) × (quoted_run_size r bytes ≡ length bytes → 0 < length bytes → ends_in_lf bytes ≡ false)
+        → (quotes_and_run_between_size r bytes ≤ length bytes) × (quotes_and_run_between_size r bytes ≡ length bytes → 0 < length bytes → ends_in_lf bytes ≡ false)
     both [] = (omega arith, λ same some. absurd (omega (arith, some)))
     both (b ∷ rest) = by (b == 34 && has_given_first_byte 34 (drop (leading_run_size r rest) rest)) refl
       where
@@ -186,8 +186,8 @@ argument_unit_has_no_final_lf : HasUnitsWithoutFinalLf argument_unit_size
 argument_unit_has_no_final_lf = record { within = λ bytes. (both bytes).0; ends = λ bytes. (both bytes).1 }
   where
     by : (bytes : List ℕ) (n : ℕ) → run_unit_size rule.Path bytes ≡ n
-        → (first_nonzero_number n (quoted_run_size rule.Clean bytes) ≤ length bytes)
-        × (first_nonzero_number n (quoted_run_size rule.Clean bytes) ≡ length bytes → 0 < length bytes → ends_in_lf bytes ≡ false)
+        → (first_nonzero_number n (quotes_and_run_between_size rule.Clean bytes) ≤ length bytes)
+        × (first_nonzero_number n (quotes_and_run_between_size rule.Clean bytes) ≡ length bytes → 0 < length bytes → ends_in_lf bytes ≡ false)
     by bytes zero is = ((quoted_run_has_no_final_lf rule.Clean).within bytes, (quoted_run_has_no_final_lf rule.Clean).ends bytes)
     by bytes (suc n) is = (
       omega (arith, is, (plain_run_unit_has_no_final_lf rule.Path path).within bytes),

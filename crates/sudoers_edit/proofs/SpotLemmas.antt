@@ -1,6 +1,6 @@
 -- Lines of files are others, each with the lead of the old one: the lines of the walk stand where they stood.
 use Rattle.sudoers_edit.proofs.Common.{Bool, Err, FileVisit, IncludeSite, Line, List, LoadFault, None, Ok, Option, ParsedFile, ReadFault, Result, Some, WalkLineSpot, WalkState, [], ap, definitions_in_line}
-use Rattle.sudoers_edit.proofs.Common.{definitions_of_lines, empty_walk, false, fault_of_numbered_file, file_names, files_opened_by_lead, files_unless_missing, files_unless_on_walk, first_definition_fault}
+use Rattle.sudoers_edit.proofs.Common.{definitions_of_lines, empty_walk, false, fault_of_numbered_file, file_names, files_opened_by_lead, files_unless_missing_or_on_walk, files_unless_on_walk, first_definition_fault}
 use Rattle.sudoers_edit.proofs.Common.{first_file_on_walk, if◌then◌else◌, include_depth_limit, include_site_of_line, is_file_on_walk, lead_of_file_line, lead_of_parsed_line, length, lines_of_numbered_file}
 use Rattle.sudoers_edit.proofs.Common.{load_result_and_then, map, map-append, name_of_numbered_file, option_map, refl, repeated_include_fault, spot_of_file_line, subst, suc, sym, syntax_fault_as_read_fault, true}
 use Rattle.sudoers_edit.proofs.Common.{value_unless_file_fault, walk_after_file_lines, walk_after_file_visit, walk_after_file_visits, walk_or_fault_of_files, walk_with_file_entered, walk_with_line_appended, zero, ℕ}
@@ -87,7 +87,7 @@ opened_files_are_targets_of_lead files at w lead inner is = by_targets (targets_
     by_on None found e = cc
     by_on (Some f) found e = absurd cc
 
-    by_targets : (t : Option (List ℕ)) → targets_of_lead files lead ≡ t → files_unless_missing files at lead w t ≡ Ok inner → targets_of_lead files lead ≡ Some inner
+    by_targets : (t : Option (List ℕ)) → targets_of_lead files lead ≡ t → files_unless_missing_or_on_walk files at lead w t ≡ Ok inner → targets_of_lead files lead ≡ Some inner
     by_targets None e f = absurd cc
     by_targets (Some found) e f = e ∙ ap (λ fs. Some fs) (by_on (first_file_on_walk w found) found f)
 

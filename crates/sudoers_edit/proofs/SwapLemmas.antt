@@ -1,7 +1,7 @@
 -- Lines of a file of which one is another: how one more in it is taken out again, and one that was taken out comes back.
-use Rattle.sudoers_edit.proofs.Common.{AreSoundParsedLines, Def, DefinitionContainsItsMembers, HasItemCutOut, HasItemPutIn, ItemListKind, Line, List, Member, Node, Ok, Some, ap, arith, bytes_between}
+use Rattle.sudoers_edit.proofs.Common.{AreSoundParsedLines, Def, DefinitionContainsItsMembers, IsLineTextWithItemCutOut, IsLineTextWithItemPutIn, ItemListKind, Line, List, Member, Node, Ok, Some, ap, arith, bytes_between}
 use Rattle.sudoers_edit.proofs.Common.{definitions_of_alias_line, extents_of_definitions, extents_of_members, has_one_item_more, le-ltb, length, line_limit, line_with_splice, line_without_bytes}
-use Rattle.sudoers_edit.proofs.Common.{lines_with_definition_added, lines_with_definition_dropped, lines_with_item_cut_out, lines_with_item_put_in, lines_with_one_changed, lines_with_one_replaced, owned_bytes_start}
+use Rattle.sudoers_edit.proofs.Common.{lines_with_definition_added, lines_with_definition_dropped, lines_with_item_cut_out, lines_with_item_put_in, replaced_lines_unless_too_long, lines_with_one_replaced, owned_bytes_start}
 use Rattle.sudoers_edit.proofs.Common.{owned_bytes_stop, reading_of_single_line, refl, slice_get, sym, texts_of_lines, true, ℕ, ◌+◌, ◌∙◌, ◌≡◌, ◌≤◌}
 use Rattle.sudoers_edit.specs.declared.extra_item.ItemListKind.TheVariants as among
 use Rattle.sudoers_edit.proofs.ExtentLemmas.{result_at_splice_offset_is_next, result_at_owned_bytes_is_next}
@@ -49,7 +49,7 @@ owned_bytes_of_member_are_within_line lines n def at from to line defs d known h
 pub record IsLineReplaced (before after : List Line) (n : ℕ) (old new : Line) : Type 0 where
   pub is : after ≡ lines_with_line_put n new before
   pub here : slice_get after n ≡ Some new
-  pub back : lines_with_one_changed n old.text (texts_of_lines after) ≡ Ok (texts_of_lines before)
+  pub back : replaced_lines_unless_too_long n old.text (texts_of_lines after) ≡ Ok (texts_of_lines before)
 
 pub replaced_text_makes_replaced_line : (before after : List Line) (n : ℕ) (old : Line) (text : List ℕ) (says : Node) → AreSoundParsedLines before → AreSoundParsedLines after → slice_get before n ≡ Some old
     → reading_of_single_line text ≡ Some says → texts_of_lines after ≡ lines_with_one_replaced n text (texts_of_lines before) → IsLineReplaced before after n old (record { text = text; node = says })
@@ -67,17 +67,17 @@ replaced_text_makes_replaced_line before after n old text says known later here 
 
 fitting_item_is_put_in_line : (a : ItemListKind) (at from n : ℕ) (s : List ℕ) (line : Line) (lines : List Line)
     → has_one_item_more a at from (from + length s) (reading_of_single_line (line_with_splice from s line.text)) (Some line.node) ≡ true
-    → lines_with_item_put_in a at from n s line lines ≡ lines_with_one_changed n (line_with_splice from s line.text) (texts_of_lines lines)
+    → lines_with_item_put_in a at from n s line lines ≡ replaced_lines_unless_too_long n (line_with_splice from s line.text) (texts_of_lines lines)
 fitting_item_is_put_in_line a at from n s line lines reads = rw reads refl
 
 fitting_item_is_cut_out_of_line : (a : ItemListKind) (at from to n : ℕ) (line : Line) (lines : List Line)
     → has_one_item_more a at from to (Some line.node) (reading_of_single_line (line_without_bytes from to line.text)) ≡ true
-    → lines_with_item_cut_out a at from to n line lines ≡ lines_with_one_changed n (line_without_bytes from to line.text) (texts_of_lines lines)
+    → lines_with_item_cut_out a at from to n line lines ≡ replaced_lines_unless_too_long n (line_without_bytes from to line.text) (texts_of_lines lines)
 fitting_item_is_cut_out_of_line a at from to n line lines reads = rw reads refl
 
 -- what was put in is taken out
 pub item_put_in_is_cut_out_again : (a : ItemListKind) (at from n : ℕ) (s text : List ℕ) (before after : List Line) (line : Line) → AreSoundParsedLines before → slice_get before n ≡ Some line
-    → (put : HasItemPutIn a at from s line text) → IsLineReplaced before after n line (record { text = text; node = put.new })
+    → (put : IsLineTextWithItemPutIn a at from s line text) → IsLineReplaced before after n line (record { text = text; node = put.new })
     → lines_with_item_cut_out a at from (from + length s) n (record { text = text; node = put.new }) after ≡ Ok (texts_of_lines before)
 item_put_in_is_cut_out_again a at from n s text before after line known here put swap =
     let to : ℕ = from + length s in
@@ -85,11 +85,11 @@ item_put_in_is_cut_out_again a at from n s text before after line known here put
     let again : line_without_bytes from to text ≡ line.text = ap (line_without_bytes from to) put.text_is ∙ splice_put_in_is_taken_out line.text s from put.inside in
     let says : reading_of_single_line (line_without_bytes from to text) ≡ Some line.node = ap reading_of_single_line again ∙ numbered_line_reads_as_its_node before n line known.says here in
     fitting_item_is_cut_out_of_line a at from to n new after (ap (has_one_item_more a at from to (Some put.new)) says ∙ put.more)
-    ∙ ap (λ t. lines_with_one_changed n t (texts_of_lines after)) again ∙ swap.back
+    ∙ ap (λ t. replaced_lines_unless_too_long n t (texts_of_lines after)) again ∙ swap.back
 
 -- what was taken out is put in
 pub item_cut_out_is_put_in_again : (a : ItemListKind) (at from to n : ℕ) (s text : List ℕ) (before after : List Line) (line : Line) → AreSoundParsedLines before → slice_get before n ≡ Some line
-    → (cut : HasItemCutOut a at from to line text) → s ≡ bytes_between from to line.text → IsLineReplaced before after n line (record { text = text; node = cut.new })
+    → (cut : IsLineTextWithItemCutOut a at from to line text) → s ≡ bytes_between from to line.text → IsLineReplaced before after n line (record { text = text; node = cut.new })
     → lines_with_item_put_in a at from n s (record { text = text; node = cut.new }) after ≡ Ok (texts_of_lines before)
 item_cut_out_is_put_in_again a at from to n s text before after line known here cut is swap =
     let new : Line = record { text = text; node = cut.new } in
@@ -99,7 +99,7 @@ item_cut_out_is_put_in_again a at from to n s text before after line known here 
     let stop : from + length s ≡ to = ap (λ z. from + length z) is ∙ start_and_size_of_slice_make_stop line.text from to cut.order cut.inside in
     fitting_item_is_put_in_line a at from n s new after
     (ap (λ z. has_one_item_more a at from (from + length s) z (Some cut.new)) says ∙ ap (λ z. has_one_item_more a at from z (Some line.node) (Some cut.new)) stop ∙ cut.more)
-    ∙ ap (λ t. lines_with_one_changed n t (texts_of_lines after)) again ∙ swap.back
+    ∙ ap (λ t. replaced_lines_unless_too_long n t (texts_of_lines after)) again ∙ swap.back
 
 -- DEFINITIONS
 

@@ -1,14 +1,14 @@
 -- The tokens of a line that ends in LF end before it.
 use Rattle.sudoers_edit.proofs.Common.{AllByRecursion, Argument, Bool, CommentPart, IsTokenOfKindAndSize, LineUnit, List, Mark, QuotedPart, Run, TokenForm, TokenKind, [], and_parts, ap, argument_units_size, bytes_eq}
 use Rattle.sudoers_edit.proofs.Common.{codes, digest_kinds, drop, ends_in_lf, false, has_given_first_byte, has_host_or_runas_sign, if◌then◌else◌, include_words, inl, inr, is_among, is_argument_of_size}
-use Rattle.sudoers_edit.proofs.Common.{is_option_name, is_punct, is_separator, is_tag, is_whole_argument, kind_of_form, length, length-take-le, nat_lt, refl, sym, take, true, ℕ, ◌&&◌, ◌<◌, ◌||◌, ◌∙◌, ◌∷◌, ◌≡◌, ◌≤◌}
+use Rattle.sudoers_edit.proofs.Common.{is_option_name, is_punct, is_comma_colon_or_equals, is_tag, is_whole_argument, kind_of_form, length, length-take-le, nat_lt, refl, sym, take, true, ℕ, ◌&&◌, ◌<◌, ◌||◌, ◌∙◌, ◌∷◌, ◌≡◌, ◌≤◌}
 use Rattle.sudoers_edit.proofs.Common.{◌⊎◌}
 use Rattle.std.specs.Prelude.{◌==◌}
 use Rattle.sudoers_text.specs.declared.part.ByteRunKind.TheVariants as rule
 use Rattle.sudoers_text.specs.declared.token.TokenKind.TheVariants as kind
 use Rattle.sudoers_text.specs.declared.token.Mode.{Mode}
 use Rattle.sudoers_text.specs.declared.token.Mode.TheVariants as mode
-use Rattle.sudoers_text.specs.declared.context.ScopeMemberKind.TheVariants as scope
+use Rattle.sudoers_text.specs.declared.context.ScopeNamesOrCommands.TheVariants as scope
 use Rattle.sudoers_text.specs.declared.context.TokenContext.{TokenContext}
 use Rattle.sudoers_text.specs.declared.context.TokenContext.TheVariants as context
 use Rattle.sudoers_text.specs.Context.{token_forms_in_context, token_forms_in_word_lists, token_forms_in_command_lists, token_forms_of_parameters, is_scope_sign, is_parameter_mark, is_comma, context_after_token, context_after_command_mark, context_after_command_word, context_after_command_token, context_after_option_value, context_after_argument, context_after_parameter_token, context_after_first_token, context_after_include_path, is_given_punct_token, is_word_kind, is_kind_of_list_member}
@@ -157,7 +157,7 @@ forms_of_plain_context_end_before_lf context.BehindTag p = command_list_forms_en
 forms_of_plain_context_end_before_lf context.BehindDigestKind p = command_list_forms_end_before_lf
 forms_of_plain_context_end_before_lf context.Digest p = (inr (plain_run_ends_before_final_lf kind.Digest rule.Digest digest), command_list_forms_end_before_lf)
 forms_of_plain_context_end_before_lf context.Parentheses p = word_list_forms_end_before_lf
-forms_of_plain_context_end_before_lf context.Arguments p = (inr (mark_ends_before_final_lf is_separator refl), (inr argument_ends_before_final_lf, (inl refl, tt)))
+forms_of_plain_context_end_before_lf context.Arguments p = (inr (mark_ends_before_final_lf is_comma_colon_or_equals refl), (inr argument_ends_before_final_lf, (inl refl, tt)))
 forms_of_plain_context_end_before_lf context.ScopeSign p = (inr (mark_ends_before_final_lf is_scope_sign refl), tt)
 forms_of_plain_context_end_before_lf (context.Scope scope.Names) p = word_list_forms_end_before_lf
 forms_of_plain_context_end_before_lf (context.Scope scope.Commands) p = command_list_forms_end_before_lf
@@ -187,7 +187,7 @@ choice_of_fitting_contexts_fits true x y bytes p q = p refl
 choice_of_fitting_contexts_fits false x y bytes p q = q refl
 
 -- an argument among arguments
-argument_token_is_within_bytes : (before : List LineUnit) (body : List ℕ) (k : TokenKind) (n : ℕ) → IsTokenOfKindAndSize (Mark is_separator ∷ Argument ∷ CommentPart ∷ []) before body k n
+argument_token_is_within_bytes : (before : List LineUnit) (body : List ℕ) (k : TokenKind) (n : ℕ) → IsTokenOfKindAndSize (Mark is_comma_colon_or_equals ∷ Argument ∷ CommentPart ∷ []) before body k n
     → k ≡ kind.Arg
     → (n ≤ length body) × (is_argument_of_size body n ≡ true)
 argument_token_is_within_bytes before body k n (inl is) arg = absurd (let other : kind.Punct ≡ kind.Arg = sym is.0 ∙ arg in cc)

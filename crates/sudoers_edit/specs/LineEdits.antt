@@ -49,6 +49,6 @@ abbrev pub lines_after_move : ℕ → ℕ → LineTexts → Result LineTexts Edi
 lines_after_move from to lines = if nat_lt from (length lines) && nat_lt to (length lines) then Ok (lines_with_one_moved from to lines) else Err NoLine
 
 -- these lines, of which the last was changed, unless that is past the limit; if there are none, the end is as it should be
-abbrev pub lines_after_end_change : Option LineTexts → Result LineTexts EditFault
-lines_after_end_change None = Err EndAsIs
-lines_after_end_change (Some lines) = if is_last_line_too_long lines then Err TooLarge else Ok lines
+abbrev pub changed_lines_unless_last_too_long : Option LineTexts → Result LineTexts EditFault
+changed_lines_unless_last_too_long None = Err EndAsIs
+changed_lines_unless_last_too_long (Some lines) = if is_last_line_too_long lines then Err TooLarge else Ok lines

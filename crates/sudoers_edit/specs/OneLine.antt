@@ -4,15 +4,15 @@ use Rattle.sudoers_text.specs.Cut.{cut_outcome_of_text}
 use Rattle.sudoers_text.specs.declared.fault.TextFault.{TextFault}
 
 -- The text is the one line of itself.
-abbrev pub IsSingleLineCut : List ℕ → Type 0
-IsSingleLineCut text = cut_outcome_of_text text ≡ Ok (text ∷ [])
+abbrev pub SplitsIntoItselfAsOnlyLine : List ℕ → Type 0
+SplitsIntoItselfAsOnlyLine text = cut_outcome_of_text text ≡ Ok (text ∷ [])
 
 -- the cut gives exactly one line
-abbrev pub has_exactly_one_line : Result (List (List ℕ)) TextFault → Bool
-has_exactly_one_line (Ok []) = false
-has_exactly_one_line (Ok (line ∷ [])) = true
-has_exactly_one_line (Ok (line ∷ next ∷ lines)) = false
-has_exactly_one_line (Err fault) = false
+abbrev pub is_cut_outcome_with_exactly_one_line : Result (List (List ℕ)) TextFault → Bool
+is_cut_outcome_with_exactly_one_line (Ok []) = false
+is_cut_outcome_with_exactly_one_line (Ok (line ∷ [])) = true
+is_cut_outcome_with_exactly_one_line (Ok (line ∷ next ∷ lines)) = false
+is_cut_outcome_with_exactly_one_line (Err fault) = false
 
 abbrev pub is_one_logical_line : List ℕ → Bool
-is_one_logical_line text = has_exactly_one_line (cut_outcome_of_text text)
+is_one_logical_line text = is_cut_outcome_with_exactly_one_line (cut_outcome_of_text text)

@@ -4,23 +4,23 @@ use Rattle.sudoers_edit_script.specs.declared.edit.Edit.{Edit}
 use Rattle.sudoers_edit_script.specs.declared.edit.Edit.TheVariants.{Insert, Delete, Move, AddMember, DropMember, AddDef, DropDef, Rename, EndLine, OpenEnd, Prune}
 
 -- how many bytes an edit carries: those of its line or its splice
-abbrev pub payload_size_of_edit : Edit → ℕ
-payload_size_of_edit (Insert file at text) = length text
-payload_size_of_edit (Delete file at) = 0
-payload_size_of_edit (Move file from to) = 0
-payload_size_of_edit (AddMember kind name at splice) = length splice
-payload_size_of_edit (DropMember kind name at) = 0
-payload_size_of_edit (AddDef file line at splice) = length splice
-payload_size_of_edit (DropDef file line at) = 0
-payload_size_of_edit (Rename kind name fresh) = 0
-payload_size_of_edit (EndLine file) = 0
-payload_size_of_edit (OpenEnd file) = 0
-payload_size_of_edit Prune = 0
+abbrev pub inserted_byte_count_of_edit : Edit → ℕ
+inserted_byte_count_of_edit (Insert file at text) = length text
+inserted_byte_count_of_edit (Delete file at) = 0
+inserted_byte_count_of_edit (Move file from to) = 0
+inserted_byte_count_of_edit (AddMember kind name at splice) = length splice
+inserted_byte_count_of_edit (DropMember kind name at) = 0
+inserted_byte_count_of_edit (AddDef file line at splice) = length splice
+inserted_byte_count_of_edit (DropDef file line at) = 0
+inserted_byte_count_of_edit (Rename kind name fresh) = 0
+inserted_byte_count_of_edit (EndLine file) = 0
+inserted_byte_count_of_edit (OpenEnd file) = 0
+inserted_byte_count_of_edit Prune = 0
 
 -- how many all of them carry
-abbrev pub payload_size_of_edits : List Edit → ℕ
-payload_size_of_edits [] = 0
-payload_size_of_edits (edit ∷ edits) = payload_size_of_edit edit + payload_size_of_edits edits
+abbrev pub inserted_byte_count_of_edits : List Edit → ℕ
+inserted_byte_count_of_edits [] = 0
+inserted_byte_count_of_edits (edit ∷ edits) = inserted_byte_count_of_edit edit + inserted_byte_count_of_edits edits
 
 -- The edit takes out lines, members or definitions.
 abbrev pub is_removing_edit : Edit → Bool

@@ -19,14 +19,14 @@ used_definitions_of_line lines k n defs = map (λ (d : PlacedDefinition). d.def)
 
 -- What is left of the line with this number: the line, if none of its definitions is unused; nothing, if it has definitions and all are; and
 -- else a line with the others, in their order.
-pub data IsPrunedLine (lines : List Line) (n : ℕ) (line : Line) : List Line → Type 0 where
-  kept : unused_definitions_of_line lines n line ≡ [] → IsPrunedLine lines n line (line ∷ [])
-  gone : 0 < length (unused_definitions_of_line lines n line) → length (unused_definitions_of_line lines n line) ≡ length (definitions_in_line n line.node) → IsPrunedLine lines n line []
+pub data AreLinesLeftOfPrunedLine (lines : List Line) (n : ℕ) (line : Line) : List Line → Type 0 where
+  kept : unused_definitions_of_line lines n line ≡ [] → AreLinesLeftOfPrunedLine lines n line (line ∷ [])
+  gone : 0 < length (unused_definitions_of_line lines n line) → length (unused_definitions_of_line lines n line) ≡ length (definitions_in_line n line.node) → AreLinesLeftOfPrunedLine lines n line []
   less : (k : Kind) (defs left : List Def) (new : Line) → 0 < length (unused_definitions_of_line lines n line) → line.node ≡ node.Alias k defs → new.node ≡ node.Alias k left
-      → are_lists_alike is_same_def (used_definitions_of_line lines k n defs) left ≡ true → IsPrunedLine lines n line (new ∷ [])
+      → are_lists_alike is_same_def (used_definitions_of_line lines k n defs) left ≡ true → AreLinesLeftOfPrunedLine lines n line (new ∷ [])
 
 -- The lines `news` are what is left of these lines, the first of which has the number n.
 abbrev pub ArePrunedLines : List Line → ℕ → List Line → List Line → Type 0
 ArePrunedLines lines n [] news = news ≡ []
 ArePrunedLines lines n (line ∷ rest) news =
-    (piece : List Line) × (others : List Line) × (news ≡ piece ++ others) × IsPrunedLine lines n line piece × ArePrunedLines lines (n + 1) rest others
+    (piece : List Line) × (others : List Line) × (news ≡ piece ++ others) × AreLinesLeftOfPrunedLine lines n line piece × ArePrunedLines lines (n + 1) rest others

@@ -6,8 +6,8 @@ use Rattle.sudoers_tree.specs.Definition.{PlacedDefinition, definitions_in_line}
 use Rattle.sudoers_tree.specs.Walk.{WalkState, spot_of_walk_line}
 use Rattle.sudoers_tree.specs.declared.place.WalkLineSpot.{WalkLineSpot}
 use Rattle.sudoers_check.specs.Led.{is_unused}
-use Rattle.sudoers_edit.specs.declared.pruning.PruneRemoval.{PruneRemoval}
-use Rattle.sudoers_edit.specs.declared.pruning.PruneRemoval.TheVariants as removal
+use Rattle.sudoers_edit.specs.declared.prune_removals.PruneRemoval.{PruneRemoval}
+use Rattle.sudoers_edit.specs.declared.prune_removals.PruneRemoval.TheVariants as removal
 use Rattle.sudoers_edit_script.specs.declared.edit.Edit.{Edit}
 use Rattle.sudoers_edit_script.specs.declared.edit.Edit.TheVariants.{Delete, DropDef}
 

@@ -45,8 +45,8 @@ name_offsets_in_line k name node.Comment = []
 name_offsets_in_line k name (node.Include dir path) = []
 
 -- where an alias among the members of all lists stands, if it is this name in a list of this kind
-abbrev pub name_offset_of_alias_member : Kind → List ℕ → AliasMember → List ℕ
-name_offset_of_alias_member k name a = if is_equal_kind k a.kind && bytes_eq name a.name then (a.stop - length name) ∷ [] else []
+abbrev pub name_offset_if_alias_member_matches : Kind → List ℕ → AliasMember → List ℕ
+name_offset_if_alias_member_matches k name a = if is_equal_kind k a.kind && bytes_eq name a.name then (a.stop - length name) ∷ [] else []
 
 -- ANOTHER NAME
 
@@ -66,14 +66,14 @@ abbrev pub is_alias_name_in_use : Kind → List ℕ → List Line → Bool
 is_alias_name_in_use k fresh policy = is_some (definition_place_of_name k fresh policy) || nat_lt 0 (length (mentions_in_lines k fresh policy))
 
 -- these files, the first of which has the number n, with another name for the alias in those that are on the walk
-abbrev pub named_files_renamed_from : ℕ → Kind → List ℕ → List ℕ → WalkState → List ParsedFile → List NamedFile
-named_files_renamed_from n k name fresh w [] = []
-named_files_renamed_from n k name fresh w (file ∷ files) =
+abbrev pub named_files_numbered_from_renamed_if_on_walk : ℕ → Kind → List ℕ → List ℕ → WalkState → List ParsedFile → List NamedFile
+named_files_numbered_from_renamed_if_on_walk n k name fresh w [] = []
+named_files_numbered_from_renamed_if_on_walk n k name fresh w (file ∷ files) =
     (if is_file_on_walk w n then record { name = file.name; bytes = join (texts_of_renamed_lines k name fresh file.lines) } else named_file_of_parsed file)
-    ∷ named_files_renamed_from (n + 1) k name fresh w files
+    ∷ named_files_numbered_from_renamed_if_on_walk (n + 1) k name fresh w files
 
 abbrev pub named_files_after_rename : Kind → List ℕ → List ℕ → LoadedPolicy → List NamedFile
-named_files_after_rename k name fresh policy = named_files_renamed_from 0 k name fresh policy.walk policy.files
+named_files_after_rename k name fresh policy = named_files_numbered_from_renamed_if_on_walk 0 k name fresh policy.walk policy.files
 
 -- the policy with another name for the alias that the walk defines, or the first cause of its refusal
 unfoldable pub policy_after_rename : Kind → List ℕ → List ℕ → LoadedPolicy → Result LoadedPolicy EditFault

@@ -49,8 +49,8 @@ is_option_equal_to n None = false
 is_option_equal_to n (Some m) = n == m
 
 -- with one more at a place these bytes are what that one owns, and without it they would go in there
-abbrev pub has_exact_owned_bytes : ℕ → ℕ → ℕ → List ByteExtent → List ByteExtent → Bool
-has_exact_owned_bytes at from to more less = is_option_equal_to from (owned_bytes_start at more) && is_option_equal_to to (owned_bytes_stop at more) && is_option_equal_to from (owned_bytes_start at less)
+abbrev pub are_owned_byte_offsets_in_both_lists : ℕ → ℕ → ℕ → List ByteExtent → List ByteExtent → Bool
+are_owned_byte_offsets_in_both_lists at from to more less = is_option_equal_to from (owned_bytes_start at more) && is_option_equal_to to (owned_bytes_stop at more) && is_option_equal_to from (owned_bytes_start at less)
 
 abbrev pub definition_without_member : ℕ → Def → Def
 definition_without_member at d = record { name = d.name; start = d.start; stop = d.stop; members = remove d.members at }
@@ -71,7 +71,7 @@ extents_of_definition_members (Some d) = extents_of_members d.members
 abbrev pub has_one_member_more : ℕ → ℕ → ℕ → ℕ → Option Node → Option Node → Bool
 has_one_member_more def at from to (Some (node.Alias k more)) (Some (node.Alias j less)) =
     is_equal_kind k j && are_lists_alike is_same_def (definitions_with_one_changed def (definition_without_member at) more) less
-    && has_exact_owned_bytes at from to (extents_of_definition_members (slice_get more def)) (extents_of_definition_members (slice_get less def))
+    && are_owned_byte_offsets_in_both_lists at from to (extents_of_definition_members (slice_get more def)) (extents_of_definition_members (slice_get less def))
 has_one_member_more def at from to more less = false
 
 -- Of two lines of definitions the first reads as the second but for one definition more, which stands at the place `at` and owns the
@@ -79,5 +79,5 @@ has_one_member_more def at from to more less = false
 abbrev pub has_one_definition_more : ℕ → ℕ → ℕ → Option Node → Option Node → Bool
 has_one_definition_more at from to (Some (node.Alias k more)) (Some (node.Alias j less)) =
     is_equal_kind k j && are_lists_alike is_same_def (remove more at) less
-    && has_exact_owned_bytes at from to (extents_of_definitions more) (extents_of_definitions less)
+    && are_owned_byte_offsets_in_both_lists at from to (extents_of_definitions more) (extents_of_definitions less)
 has_one_definition_more at from to more less = false

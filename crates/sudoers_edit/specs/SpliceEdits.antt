@@ -17,12 +17,12 @@ use Rattle.sudoers_grammar.specs.Node as node
 use Rattle.sudoers_edit.specs.declared.extra_item.ItemListKind.TheVariants as among
 
 -- where one more may be put in, among these: at which byte
-abbrev pub result_at_splice_offset : ℕ → List ByteExtent → (ℕ → Result LineTexts EditFault) → Result LineTexts EditFault
-result_at_splice_offset at extents next = result_unless_refused (nat_lt (length extents) at) NoPlace (result_or_refusal_if_none (owned_bytes_start at extents) BadSplice next)
+abbrev pub result_with_offset_to_add_item : ℕ → List ByteExtent → (ℕ → Result LineTexts EditFault) → Result LineTexts EditFault
+result_with_offset_to_add_item at extents next = result_unless_refused (nat_lt (length extents) at) NoPlace (result_or_refusal_if_none (owned_bytes_start at extents) BadSplice next)
 
 -- which bytes go with one that may be taken out, of these
-abbrev pub result_at_owned_bytes : ℕ → List ByteExtent → (ℕ → ℕ → Result LineTexts EditFault) → Result LineTexts EditFault
-result_at_owned_bytes at extents next =
+abbrev pub result_with_bytes_to_drop_item : ℕ → List ByteExtent → (ℕ → ℕ → Result LineTexts EditFault) → Result LineTexts EditFault
+result_with_bytes_to_drop_item at extents next =
     result_unless_refused (nat_le (length extents) at) NoPlace (result_unless_refused (length extents == 1) OnlyOne (
     result_or_refusal_if_none (owned_bytes_start at extents) BadSplice (λ from. result_or_refusal_if_none (owned_bytes_stop at extents) BadSplice (λ to. next from to))))
 
@@ -57,31 +57,31 @@ result_with_definition_at place policy next =
 -- WHAT IS TAKEN OUT
 
 -- the bytes that the one at a place owns
-abbrev pub bytes_owned_at_place : ℕ → List ByteExtent → List ℕ → List ℕ
-bytes_owned_at_place at extents line = bytes_between (unwrap_or (owned_bytes_start at extents) 0) (unwrap_or (owned_bytes_stop at extents) 0) line
+abbrev pub text_owned_by_item_at_place : ℕ → List ByteExtent → List ℕ → List ℕ
+text_owned_by_item_at_place at extents line = bytes_between (unwrap_or (owned_bytes_start at extents) 0) (unwrap_or (owned_bytes_stop at extents) 0) line
 
-unfoldable pub bytes_owned_by_definition : ℕ → ℕ → List Line → List ℕ
-bytes_owned_by_definition n at policy =
-    unwrap_or (option_and_then (λ (line : Line). option_map (λ defs. bytes_owned_at_place at (extents_of_definitions defs) line.text) (definitions_of_alias_line line.node)) (slice_get policy n)) []
+unfoldable pub text_owned_by_definition : ℕ → ℕ → List Line → List ℕ
+text_owned_by_definition n at policy =
+    unwrap_or (option_and_then (λ (line : Line). option_map (λ defs. text_owned_by_item_at_place at (extents_of_definitions defs) line.text) (definitions_of_alias_line line.node)) (slice_get policy n)) []
 
 -- the lines with another at this place, unless that is past the limit
-abbrev pub lines_with_one_changed : ℕ → List ℕ → LineTexts → Result LineTexts EditFault
-lines_with_one_changed at line lines = result_unless_refused (is_line_too_long line) TooLarge (Ok (lines_with_one_replaced at line lines))
+abbrev pub replaced_lines_unless_too_long : ℕ → List ℕ → LineTexts → Result LineTexts EditFault
+replaced_lines_unless_too_long at line lines = result_unless_refused (is_line_too_long line) TooLarge (Ok (lines_with_one_replaced at line lines))
 
 -- the lines with another at this place, if that reads as it should
-abbrev pub changed_lines_if_spliced : Bool → ℕ → List ℕ → List Line → Result LineTexts EditFault
-changed_lines_if_spliced reads at line lines = result_unless_refused (not reads) BadSplice (lines_with_one_changed at line (texts_of_lines lines))
+abbrev pub replaced_lines_unless_bad_splice_or_too_long : Bool → ℕ → List ℕ → List Line → Result LineTexts EditFault
+replaced_lines_unless_bad_splice_or_too_long reads at line lines = result_unless_refused (not reads) BadSplice (replaced_lines_unless_too_long at line (texts_of_lines lines))
 
 -- one more put into the line `n`, at a byte
 abbrev pub lines_with_item_put_in : ItemListKind → ℕ → ℕ → ℕ → List ℕ → Line → List Line → Result LineTexts EditFault
 lines_with_item_put_in among at from n splice line lines =
-    changed_lines_if_spliced (has_one_item_more among at from (from + length splice) (reading_of_single_line (line_with_splice from splice line.text)) (Some line.node))
+    replaced_lines_unless_bad_splice_or_too_long (has_one_item_more among at from (from + length splice) (reading_of_single_line (line_with_splice from splice line.text)) (Some line.node))
     n (line_with_splice from splice line.text) lines
 
 -- one taken out of the line `n`, with these bytes
 abbrev pub lines_with_item_cut_out : ItemListKind → ℕ → ℕ → ℕ → ℕ → Line → List Line → Result LineTexts EditFault
 lines_with_item_cut_out among at from to n line lines =
-    changed_lines_if_spliced (has_one_item_more among at from to (Some line.node) (reading_of_single_line (line_without_bytes from to line.text)))
+    replaced_lines_unless_bad_splice_or_too_long (has_one_item_more among at from to (Some line.node) (reading_of_single_line (line_without_bytes from to line.text)))
     n (line_without_bytes from to line.text) lines
 
 -- DEFINITIONS
@@ -89,12 +89,12 @@ lines_with_item_cut_out among at from to n line lines =
 -- the lines with a definition more in the line `n`
 unfoldable pub lines_with_definition_added : ℕ → ℕ → List ℕ → List Line → Result LineTexts EditFault
 lines_with_definition_added n at splice lines =
-    result_with_line_definitions n lines (λ line defs. result_at_splice_offset at (extents_of_definitions defs) (λ from. lines_with_item_put_in among.Definitions at from n splice line lines))
+    result_with_line_definitions n lines (λ line defs. result_with_offset_to_add_item at (extents_of_definitions defs) (λ from. lines_with_item_put_in among.Definitions at from n splice line lines))
 
 -- the lines without a definition of the line `n`
 unfoldable pub lines_with_definition_dropped : ℕ → ℕ → List Line → Result LineTexts EditFault
 lines_with_definition_dropped n at lines =
-    result_with_line_definitions n lines (λ line defs. result_at_owned_bytes at (extents_of_definitions defs) (λ from to. lines_with_item_cut_out among.Definitions at from to n line lines))
+    result_with_line_definitions n lines (λ line defs. result_with_bytes_to_drop_item at (extents_of_definitions defs) (λ from to. lines_with_item_cut_out among.Definitions at from to n line lines))
 
 -- MEMBERS
 
@@ -102,17 +102,17 @@ lines_with_definition_dropped n at lines =
 unfoldable pub lines_with_member_added : Place → ℕ → List ℕ → List Line → Result LineTexts EditFault
 lines_with_member_added place at splice lines =
     result_with_definition_at (Some place) lines (λ place line d.
-    result_at_splice_offset at (extents_of_members d.members) (λ from. lines_with_item_put_in (among.Members place.def) at from place.line splice line lines))
+    result_with_offset_to_add_item at (extents_of_members d.members) (λ from. lines_with_item_put_in (among.Members place.def) at from place.line splice line lines))
 
 -- the lines without a member of the list of the alias that is defined at a place
 unfoldable pub lines_with_member_dropped : Place → ℕ → List Line → Result LineTexts EditFault
 lines_with_member_dropped place at lines =
     result_with_definition_at (Some place) lines (λ place line d.
-    result_at_owned_bytes at (extents_of_members d.members) (λ from to. lines_with_item_cut_out (among.Members place.def) at from to place.line line lines))
+    result_with_bytes_to_drop_item at (extents_of_members d.members) (λ from to. lines_with_item_cut_out (among.Members place.def) at from to place.line line lines))
 
 -- the bytes that a member of the list of the alias at a place owns
-unfoldable pub bytes_owned_by_member : Place → ℕ → List Line → List ℕ
-bytes_owned_by_member place at lines =
+unfoldable pub text_owned_by_member : Place → ℕ → List Line → List ℕ
+text_owned_by_member place at lines =
     unwrap_or (option_and_then (λ (line : Line). option_and_then (λ defs.
-    option_map (λ (d : Def). bytes_owned_at_place at (extents_of_members d.members) line.text) (slice_get defs place.def)) (definitions_of_alias_line line.node))
+    option_map (λ (d : Def). text_owned_by_item_at_place at (extents_of_members d.members) line.text) (slice_get defs place.def)) (definitions_of_alias_line line.node))
     (slice_get lines place.line)) []

@@ -117,7 +117,11 @@ fn load_policy_with_bytes(policy: &Policy, file: usize, bytes: Vec<u8>) -> Resul
 }
 
 /// Returns why the files of `policy`, with the bytes `bytes` in the file `file`, are no policy.
-pub fn refusal_of_file_bytes(policy: &Policy, file: usize, bytes: Vec<u8>) -> EditFault
+pub fn refusal_of_bytes_that_make_no_policy(
+    policy: &Policy,
+    file: usize,
+    bytes: Vec<u8>,
+) -> EditFault
     requires { (new : LoadedPolicy) → policy_of_files_or_refusal (the_files_with file bytes.items (named_files_of_policy policy.now)) ≡ Ok new → ⊥ }
     ensures { IsRefusalOrNoMemory result (policy_of_files_or_refusal (the_files_with file bytes.items (named_files_of_policy policy.now))) }
 {

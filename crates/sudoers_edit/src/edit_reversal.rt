@@ -6,7 +6,7 @@ ghost use Rattle.sudoers_tree.specs.Files.{lines_of_numbered_file};
 ghost use Rattle.sudoers_tree.specs.Load.{LoadedPolicy};
 ghost use Rattle.sudoers_tree.specs.Policy.{texts_of_lines};
 ghost use Rattle.sudoers_edit.specs.Editing.{line_text_in_file as the_line_at, run};
-ghost use Rattle.sudoers_edit.specs.internal.Undone.{RestoresByChangesOrEdit, inverse_of_changes};
+ghost use Rattle.sudoers_edit.specs.internal.Undone.{HasRestoringChangesOrAtMostOneInverseEdit, inverse_of_changes};
 ghost use Rattle.sudoers_edit.specs.internal.UndoneLines.{inverse_of_one_change};
 
 use crate::edit_plan::{allocator_of, file_number_of_line_change};
@@ -94,7 +94,7 @@ pub fn take_back_edit(
     inverse: &Edits,
     changes: &Option<Items<LineChange>>,
 ) -> Result<(), EditFault>
-    requires { (before : LoadedPolicy) × RestoresByChangesOrEdit changes.now inverse.now policy.old before × (run inverse.now policy.old ≡ Some before) }
+    requires { (before : LoadedPolicy) × HasRestoringChangesOrAtMostOneInverseEdit changes.now inverse.now policy.old before × (run inverse.now policy.old ≡ Some before) }
     ensures made { OnOk result (run inverse.now policy.old ≡ Some policy.new) }
     ensures refused { IfErr result (λ fault. fault ≡ EditFault.NoMemory) }
     ensures unchanged { OnErr result (policy.new ≡ policy.old) }

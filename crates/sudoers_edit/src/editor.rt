@@ -13,7 +13,7 @@ use sudoers_tree::{Items, LineChange, Policy};
 
 /// An accepted edit, with the edits that take it back.
 #[derive(Debug, Drop)]
-pub struct JournalEntry {
+pub struct AppliedEditWithInverse {
     pub edit: Edit,
     pub inverse: Edits,
 }
@@ -21,7 +21,7 @@ pub struct JournalEntry {
 /// An edit of the journal. A prune also has the changes that take it back at once.
 #[derive(Drop)]
 struct JournalStep {
-    entry: JournalEntry,
+    entry: AppliedEditWithInverse,
     changes: Option<Items<LineChange>>,
 }
 
@@ -41,7 +41,7 @@ impl JournalStep {
         ensures changes { result.changes ≡ back.changes }
     {
         JournalStep {
-            entry: JournalEntry {
+            entry: AppliedEditWithInverse {
                 edit,
                 inverse: back.inverse,
             },

@@ -11,9 +11,10 @@ use crate::line_edits::{
     plan_line_move,
 };
 use crate::prune_plan::plan_prune;
-use crate::renaming::plan_alias_rename;
+use crate::rename_plan::plan_alias_rename;
 use crate::splice_edits::{
-    plan_definition_addition, plan_definition_drop, plan_member_addition, plan_member_drop,
+    plan_definition_addition, plan_drop_of_definition_unless_only_one, plan_member_addition,
+    plan_member_drop,
 };
 use sudoers_edit_script::Edit;
 use sudoers_tree::Policy;
@@ -63,7 +64,9 @@ fn plan_edit(policy: &Policy, edit: &Edit) -> Result<EditPlan, EditFault>
             at,
             splice,
         } => plan_definition_addition(policy, *file, *line, *at, splice.as_slice()),
-        Edit::DropDef { file, line, at } => plan_definition_drop(policy, *file, *line, *at),
+        Edit::DropDef { file, line, at } => plan_drop_of_definition_unless_only_one(
+            policy, *file, *line, *at,
+        ),
         Edit::Rename { kind, name, fresh } => {
             plan_alias_rename(policy, *kind, name.as_slice(), fresh.as_slice())
         }

@@ -4,7 +4,7 @@ ghost use Rattle.std.specs.Option.{option_copied};
 ghost use Rattle.sudoers_line_rows.specs.Alike.{are_lists_alike as alike_lists, is_same_def as same_def};
 ghost use Rattle.sudoers_edit.specs.SpliceEdits.{has_one_item_more};
 ghost use Rattle.sudoers_line_rows.specs.View.{alias_definition_of_view, alias_definitions_of_view, members_of_view, node_of_view};
-ghost use Rattle.sudoers_edit.specs.Splice.{ByteExtent, is_option_equal_to as stands_at, has_exact_owned_bytes as owns, definition_without_member, definitions_with_one_changed, has_one_member_more as one_member_more, has_one_definition_more as one_def_more, extents_of_members, extents_of_definition_members};
+ghost use Rattle.sudoers_edit.specs.Splice.{ByteExtent, is_option_equal_to as stands_at, are_owned_byte_offsets_in_both_lists as owns, definition_without_member, definitions_with_one_changed, has_one_member_more as one_member_more, has_one_definition_more as one_def_more, extents_of_members, extents_of_definition_members};
 
 use crate::owned_bytes::{HasByteExtent, owned_start_of_item, owned_stop_of_item};
 use sudoers_line_rows::{ComparableRow, are_row_lists_alike};
@@ -51,7 +51,7 @@ impl ExtraItem {
             ) => {
                 let same = is_same_kind(kind, other);
                 let alike = are_lists_alike_without(&more, self.at, &less);
-                let owned = self.owns_exact_bytes(&more, &less);
+                let owned = self.has_owned_byte_offsets_in_both_lists(&more, &less);
                 same & alike & owned
             }
             _ => false,
@@ -71,8 +71,8 @@ impl ExtraItem {
                 },
             ) => {
                 let same = is_same_kind(kind, other);
-                let alike = self.are_definitions_alike_without(def, &more, &less);
-                let owned = self.owns_exact_bytes(
+                let alike = self.are_definitions_alike_without_member(def, &more, &less);
+                let owned = self.has_owned_byte_offsets_in_both_lists(
                     &members_of_nth_definition(&more, def),
                     &members_of_nth_definition(&less, def),
                 );
@@ -83,7 +83,7 @@ impl ExtraItem {
     }
 
     /// Returns whether it owns exactly these bytes, with it and without it.
-    fn owns_exact_bytes<T: HasByteExtent>(
+    fn has_owned_byte_offsets_in_both_lists<T: HasByteExtent>(
         self,
         more: &RowsOfTable<'_, T>,
         less: &RowsOfTable<'_, T>,
@@ -91,14 +91,14 @@ impl ExtraItem {
         ensures { result ≡ owns self.at self.from self.to (map T.extent (map (T.said more.now.tables.now) more.now.rows.now))
             (map T.extent (map (T.said less.now.tables.now) less.now.rows.now)) }
     {
-        let begins = is_found_at(self.from, owned_start_of_item(more, self.at));
-        let stops = is_found_at(self.to, owned_stop_of_item(more, self.at));
-        let fits = is_found_at(self.from, owned_start_of_item(less, self.at));
+        let begins = is_optional_offset_equal_to(self.from, owned_start_of_item(more, self.at));
+        let stops = is_optional_offset_equal_to(self.to, owned_stop_of_item(more, self.at));
+        let fits = is_optional_offset_equal_to(self.from, owned_start_of_item(less, self.at));
         begins & stops & fits
     }
 
     /// Returns whether definitions say the same but for this member of one of them.
-    fn are_definitions_alike_without(
+    fn are_definitions_alike_without_member(
         self,
         def: usize,
         more: &RowsOfTable<'_, AliasDefinitionRow>,
@@ -173,7 +173,7 @@ fn drop_first_rows<'a, T>(items: &RowsOfTable<'a, T>, count: usize) -> RowsOfTab
     }
 }
 
-fn is_found_at(place: usize, found: Option<usize>) -> bool
+fn is_optional_offset_equal_to(place: usize, found: Option<usize>) -> bool
     ensures { result ≡ stands_at place found }
 {
     match found {

@@ -14,7 +14,7 @@ ghost use Rattle.sudoers_tree.specs.Load.{LoadedPolicy, named_files_of_policy, p
 ghost use Rattle.sudoers_tree.specs.Policy.{texts_of_lines};
 ghost use Rattle.sudoers_tree.specs.Walk.{is_file_on_walk};
 ghost use Rattle.sudoers_edit.specs.Named.{HaveSpellableNames, spelling_or_too_many};
-ghost use Rattle.sudoers_edit.specs.Payload.{payload_size_of_edits, is_removing_edit};
+ghost use Rattle.sudoers_edit.specs.Payload.{inserted_byte_count_of_edits, is_removing_edit};
 ghost use Rattle.sudoers_edit.specs.Pruned.{ArePrunedLines};
 ghost use Rattle.sudoers_edit.specs.Renaming.{is_alias_name_in_use, named_files_after_rename};
 ghost use Rattle.sudoers_edit.specs.declared.fault.EditFault.{EditFault as AFault};
@@ -53,8 +53,8 @@ pub fn inverse_leads_back()
 /// and none otherwise. The payload of the undo script shows how much is missing.
 pub fn inverse_carries_what_was_taken_out()
     ensures taken { (edit : AnEdit) (policy new : LoadedPolicy) → is_removing_edit edit ≡ true → policy_or_load_fault (named_files_of_policy policy) ≡ Ok policy
-        → step_of edit policy ≡ Ok new → byte_count_of_files (named_files_of_policy new) + payload_size_of_edits (inv edit policy) ≡ byte_count_of_files (named_files_of_policy policy) }
-    ensures none { (edit : AnEdit) (policy : LoadedPolicy) → is_removing_edit edit ≡ false → payload_size_of_edits (inv edit policy) ≡ 0 }
+        → step_of edit policy ≡ Ok new → byte_count_of_files (named_files_of_policy new) + inserted_byte_count_of_edits (inv edit policy) ≡ byte_count_of_files (named_files_of_policy policy) }
+    ensures none { (edit : AnEdit) (policy : LoadedPolicy) → is_removing_edit edit ≡ false → inserted_byte_count_of_edits (inv edit policy) ≡ 0 }
 {}
 
 /// Edits that are accepted keep the names of the files, and their order.

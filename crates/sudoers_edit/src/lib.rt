@@ -12,11 +12,11 @@ mod line_edits;
 mod name_places;
 mod owned_bytes;
 mod prune_plan;
-mod pruning;
-mod renaming;
+mod prune_removals;
+mod rename_plan;
 mod splice_edits;
 
-pub use editor::{Editor, JournalEntry};
+pub use editor::{AppliedEditWithInverse, Editor};
 pub use fault::EditFault;
 pub use sudoers_edit_script::{
     Edit, Edits, MAX_EDITS, ScriptFault, Text, first_physical_line_len, read_script, write_script,

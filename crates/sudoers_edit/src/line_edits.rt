@@ -3,14 +3,14 @@ ghost use Rattle.std.specs.Prelude.{◌≡◌, ◌-◌, ◌<◌, ◌≤◌, leng
 ghost use Rattle.std.specs.Option.{option_copied};
 ghost use Rattle.sudoers_text.specs.Ended.{has_inner_line_without_lf};
 ghost use Rattle.sudoers_text.specs.Whole.{IsLogicalLine};
-ghost use Rattle.sudoers_edit.specs.OneLine.{is_one_logical_line, IsSingleLineCut};
+ghost use Rattle.sudoers_edit.specs.OneLine.{is_one_logical_line, SplitsIntoItselfAsOnlyLine};
 ghost use Rattle.sudoers_edit.specs.LineEdits.{lines_with_one_moved};
 ghost use Rattle.sudoers_edit.specs.internal.Leading.{IsPlanOutcome};
 ghost use Rattle.sudoers_edit.specs.internal.LeadingInFile.{line_changes_of_move as the_move_changes, line_texts_of_file};
 
 use crate::edit_plan::{
     EditPlan, allocator_of, line_count, plan_put_change, plan_swap_change, plan_take_change,
-    refusal_of_file_bytes,
+    refusal_of_bytes_that_make_no_policy,
 };
 use crate::fault::EditFault;
 use std::alloc::{AllocError, Global};
@@ -141,10 +141,10 @@ pub fn plan_final_lf_addition(policy: &Policy, file: u32) -> Result<EditPlan, Ed
     if !is_single_logical_line(alloc, text.as_slice())? {
         let mut whole = policy.text(number)?;
         whole.push(b'\n')?;
-        return Err(refusal_of_file_bytes(policy, number, whole));
+        return Err(refusal_of_bytes_that_make_no_policy(policy, number, whole));
     }
     let inverse = Edits::list_of_one_item(alloc, Edit::OpenEnd { file })?;
-    let at = last_line_number_of_file(policy, number);
+    let at = last_line_number_of_file_or_zero(policy, number);
     Ok(plan_swap_change(alloc, number, at, Text::from_vec(text), inverse)?)
 }
 
@@ -167,10 +167,10 @@ pub fn plan_final_lf_removal(policy: &Policy, file: u32) -> Result<EditPlan, Edi
     if !is_single_logical_line(alloc, text.as_slice())? {
         let mut whole = policy.text(number)?;
         let _ = whole.pop();
-        return Err(refusal_of_file_bytes(policy, number, whole));
+        return Err(refusal_of_bytes_that_make_no_policy(policy, number, whole));
     }
     let inverse = Edits::list_of_one_item(alloc, Edit::EndLine { file })?;
-    let at = last_line_number_of_file(policy, number);
+    let at = last_line_number_of_file_or_zero(policy, number);
     Ok(plan_swap_change(alloc, number, at, text, inverse)?)
 }
 
@@ -212,11 +212,11 @@ fn leaves_open_line_after_move(policy: &Policy, file: usize, from: usize, to: us
 fn last_line_of_file(policy: &Policy, file: usize) -> Option<&[u8]>
     ensures { option_copied result ≡ slice_get (line_texts_of_file policy.now file) (length (line_texts_of_file policy.now file) - 1) }
 {
-    policy.line(file, last_line_number_of_file(policy, file))
+    policy.line(file, last_line_number_of_file_or_zero(policy, file))
 }
 
 /// Returns the number of the last line of a file.
-fn last_line_number_of_file(policy: &Policy, file: usize) -> usize
+fn last_line_number_of_file_or_zero(policy: &Policy, file: usize) -> usize
     ensures { result ≡ length (line_texts_of_file policy.now file) - 1 }
 {
     policy.len(file).saturating_sub(1)
@@ -225,7 +225,7 @@ fn last_line_number_of_file(policy: &Policy, file: usize) -> usize
 /// Returns whether a text is exactly one logical line.
 fn is_single_logical_line(alloc: Global, text: &[u8]) -> Result<bool, AllocError>
     ensures is { IfOk result (λ is. is ≡ is_one_logical_line text.now) }
-    ensures alone { IfOk result (λ is. is ≡ true → IsSingleLineCut text.now) }
+    ensures alone { IfOk result (λ is. is ≡ true → SplitsIntoItselfAsOnlyLine text.now) }
     ensures whole { IfOk result (λ is. is ≡ true → IsLogicalLine text.now) }
 {
     match cut(alloc, text) {

@@ -2,7 +2,7 @@
 ghost use Rattle.std.specs.Prelude.{◌≡◌, ◌++◌, IfOk, OnOk};
 ghost use Rattle.std.specs.List.{flat_map};
 ghost use Rattle.sudoers_line_rows.specs.View.{alias_definition_of_view, alias_definitions_of_view, members_of_view, node_of_view};
-ghost use Rattle.sudoers_edit.specs.Renaming.{name_offset_of_alias_member, mention_offsets_in_members, name_offsets_in_definition, name_offsets_in_line};
+ghost use Rattle.sudoers_edit.specs.Renaming.{name_offset_if_alias_member_matches, mention_offsets_in_members, name_offsets_in_definition, name_offsets_in_line};
 
 use std::alloc::{AllocError, Global};
 use sudoers_tree::{
@@ -29,20 +29,20 @@ pub fn find_alias_name_offsets(
         }
         _ => {
             let aliases = find_alias_members(alloc, node)?;
-            append_offsets_in_aliases(kind, name, aliases.as_slice(), &mut starts)?;
+            append_offsets_of_matching_aliases(kind, name, aliases.as_slice(), &mut starts)?;
             Ok(starts)
         }
     }
 }
 
 /// Adds where those of the aliases stand that have this kind and this name.
-fn append_offsets_in_aliases(
+fn append_offsets_of_matching_aliases(
     kind: Kind,
     name: &[u8],
     aliases: &[AliasMember<'_>],
     starts: &mut Vec<usize>,
 ) -> Result<(), AllocError>
-    ensures { OnOk result (starts.new.items ≡ starts.old.items ++ flat_map (name_offset_of_alias_member kind name.now) aliases.now) }
+    ensures { OnOk result (starts.new.items ≡ starts.old.items ++ flat_map (name_offset_if_alias_member_matches kind name.now) aliases.now) }
 {
     for alias in aliases {
         if is_same_kind(kind, alias.kind) && name == alias.name {
@@ -100,5 +100,5 @@ fn append_offsets_in_members(
     ensures { OnOk result (starts.new.items ≡ starts.old.items ++ mention_offsets_in_members name.now (members_of_view members.now)) }
 {
     let aliases = find_aliases_in_list(alloc, kind, members)?;
-    append_offsets_in_aliases(kind, name, aliases.as_slice(), starts)
+    append_offsets_of_matching_aliases(kind, name, aliases.as_slice(), starts)
 }

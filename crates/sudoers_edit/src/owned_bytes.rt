@@ -5,7 +5,7 @@ ghost use Rattle.sudoers_line_rows.specs.declared.rows.Tables.{Tables as TablesO
 ghost use Rattle.sudoers_line_rows.specs.Tables.{alias_definition_in_tables, member_in_tables};
 ghost use Rattle.sudoers_edit.specs.declared.fault.EditFault.{EditFault as Refusal};
 ghost use Rattle.sudoers_edit.specs.Landing.{LineTexts};
-ghost use Rattle.sudoers_edit.specs.SpliceEdits.{result_at_splice_offset as to_add, result_at_owned_bytes as to_drop};
+ghost use Rattle.sudoers_edit.specs.SpliceEdits.{result_with_offset_to_add_item as to_add, result_with_bytes_to_drop_item as to_drop};
 ghost use Rattle.sudoers_edit.specs.Splice.{ByteExtent, owned_bytes_start as the_seam, owned_bytes_stop as the_stop, line_with_splice as with_splice, line_without_bytes as without_slice, bytes_between};
 
 use crate::fault::EditFault;

@@ -9,16 +9,16 @@ ghost use Rattle.sudoers_tree.specs.Load.{LoadedPolicy};
 ghost use Rattle.sudoers_tree.specs.Policy.{texts_of_lines};
 ghost use Rattle.sudoers_tree.specs.Single.{reading_of_single_line};
 ghost use Rattle.sudoers_edit.specs.Editing.{IsRefusalOrNoMemory};
-ghost use Rattle.sudoers_edit.specs.SpliceEdits.{lines_with_item_cut_out as with_less, lines_with_one_changed};
-ghost use Rattle.sudoers_edit.specs.internal.Drafts.{IsFileOrderOfChanges, IsDefinitionCutOutcome, IsResultOfChanges, IsReadyForRemoval, IsAllowedRemoval, IsRemovalOutcome, replacement_text_of_line, changes_without_replacement};
+ghost use Rattle.sudoers_edit.specs.SpliceEdits.{lines_with_item_cut_out as with_less, replaced_lines_unless_too_long};
+ghost use Rattle.sudoers_edit.specs.internal.Drafts.{IsFileOrderOfChanges, IsDefinitionCutOutcome, IsResultOfChanges, LeavesLinesBelowLimitsUnchanged, IsRemovalBelowLimitsOnAliasLine, IsRemovalOutcome, replacement_text_by_first_change, changes_without_first_if_it_replaces_line};
 ghost use Rattle.sudoers_edit.specs.internal.Leading.{IsPlanOutcome};
-ghost use Rattle.sudoers_edit.specs.internal.OneMore.{HasItemCutOut};
+ghost use Rattle.sudoers_edit.specs.internal.OneMore.{IsLineTextWithItemCutOut};
 
 use crate::edit_plan::{EditPlan, allocator_of, file_number_of_line_change};
 use crate::extra_item::{ExtraItem, ItemListKind};
 use crate::fault::EditFault;
 use crate::owned_bytes::{drop_bytes_from_line, find_bytes_to_drop_item};
-use crate::pruning::{PruneRemoval, list_prune_removals};
+use crate::prune_removals::{PruneRemoval, list_prune_removals};
 use std::alloc::{AllocError, Global};
 use sudoers_edit_script::{Edit, Edits, Text};
 use sudoers_tree::{LineChange, Node, Policy, read_line};
@@ -32,7 +32,7 @@ pub fn plan_prune(policy: &Policy) -> Result<EditPlan, EditFault>
     let mut changes = Vec::new(alloc);
     let mut inverse = Vec::new(alloc);
     for removal in removals.as_slice() {
-        let edit = add_removal_changes(policy, &mut changes, *removal)?;
+        let edit = add_changes_of_removal_and_get_inverse(policy, &mut changes, *removal)?;
         inverse.push(edit)?;
     }
     changes.reverse();
@@ -54,32 +54,34 @@ fn sort_changes_by_file(changes: &mut Vec<LineChange>) -> Result<(), AllocError>
 
 /// Adds to `changes` what takes `removal` out of the files that they make so far. They have the change of the last line first. Returns
 /// the edit that puts it in again.
-fn add_removal_changes(
+fn add_changes_of_removal_and_get_inverse(
     policy: &Policy,
     changes: &mut Vec<LineChange>,
     removal: PruneRemoval,
 ) -> Result<Edit, EditFault>
     ensures { (now : LoadedPolicy) (below : ℕ → ℕ) (cut : ℕ → ℕ → Bool) → IsResultOfChanges policy.now (reverse changes.old.items) now
-        → IsReadyForRemoval policy.now below cut (reverse changes.old.items) → IsAllowedRemoval policy.now removal below cut
+        → LeavesLinesBelowLimitsUnchanged policy.now below cut (reverse changes.old.items) → IsRemovalBelowLimitsOnAliasLine policy.now removal below cut
         → IsRemovalOutcome policy.now removal below now (reverse changes.new.items) result }
 {
     match removal {
-        PruneRemoval::Line { file, at } => add_line_removal_change(policy, changes, file, at),
-        PruneRemoval::Def { file, line, at } => add_definition_removal_change(
+        PruneRemoval::Line { file, at } => add_line_removal_and_get_inverse(
+            policy, changes, file, at,
+        ),
+        PruneRemoval::Def { file, line, at } => add_definition_removal_and_get_inverse(
             policy, changes, file, line, at,
         ),
     }
 }
 
 /// Takes a line out.
-fn add_line_removal_change(
+fn add_line_removal_and_get_inverse(
     policy: &Policy,
     changes: &mut Vec<LineChange>,
     file: u32,
     at: u32,
 ) -> Result<Edit, EditFault>
     ensures { (now : LoadedPolicy) (below : ℕ → ℕ) (cut : ℕ → ℕ → Bool) → IsResultOfChanges policy.now (reverse changes.old.items) now
-        → IsReadyForRemoval policy.now below cut (reverse changes.old.items) → IsAllowedRemoval policy.now (PruneRemoval.Line file at) below cut
+        → LeavesLinesBelowLimitsUnchanged policy.now below cut (reverse changes.old.items) → IsRemovalBelowLimitsOnAliasLine policy.now (PruneRemoval.Line file at) below cut
         → IsRemovalOutcome policy.now (PruneRemoval.Line file at) below now (reverse changes.new.items) result }
 {
     let alloc = allocator_of(policy);
@@ -95,7 +97,7 @@ fn add_line_removal_change(
 }
 
 /// Takes a definition out of a line.
-fn add_definition_removal_change(
+fn add_definition_removal_and_get_inverse(
     policy: &Policy,
     changes: &mut Vec<LineChange>,
     file: u32,
@@ -103,7 +105,7 @@ fn add_definition_removal_change(
     at: u32,
 ) -> Result<Edit, EditFault>
     ensures { (now : LoadedPolicy) (below : ℕ → ℕ) (cut : ℕ → ℕ → Bool) → IsResultOfChanges policy.now (reverse changes.old.items) now
-        → IsReadyForRemoval policy.now below cut (reverse changes.old.items) → IsAllowedRemoval policy.now (PruneRemoval.Def file line at) below cut
+        → LeavesLinesBelowLimitsUnchanged policy.now below cut (reverse changes.old.items) → IsRemovalBelowLimitsOnAliasLine policy.now (PruneRemoval.Def file line at) below cut
         → IsRemovalOutcome policy.now (PruneRemoval.Def file line at) below now (reverse changes.new.items) result }
 {
     let alloc = policy.allocator();
@@ -136,20 +138,20 @@ fn text_of_line_after_changes<'a>(
     line: usize,
 ) -> Option<&'a [u8]>
     ensures { option_copied result
-        ≡ option_or (replacement_text_of_line file line (reverse changes.now)) (slice_get (texts_of_lines (lines_of_numbered_file policy.now.files file)) line) }
+        ≡ option_or (replacement_text_by_first_change file line (reverse changes.now)) (slice_get (texts_of_lines (lines_of_numbered_file policy.now.files file)) line) }
 {
     let Some((last, _)) = changes.split_last() else {
         return policy.line(file, line);
     };
-    match replacement_text_in(last, file, line) {
+    match replacement_text_of_change(last, file, line) {
         Some(text) => Some(text),
         None => policy.line(file, line),
     }
 }
 
 /// Returns the text that replaces the line `line` of the file `file`, if the change does that.
-fn replacement_text_in(change: &LineChange, file: usize, line: usize) -> Option<&[u8]>
-    ensures { option_copied result ≡ replacement_text_of_line file line (change.now ∷ []) }
+fn replacement_text_of_change(change: &LineChange, file: usize, line: usize) -> Option<&[u8]>
+    ensures { option_copied result ≡ replacement_text_by_first_change file line (change.now ∷ []) }
 {
     match change {
         LineChange::Swap { file: f, at, text } if *f == file && *at == line => {
@@ -166,7 +168,7 @@ fn add_line_replacement(
     line: usize,
     text: Text,
 ) -> Result<(), AllocError>
-    ensures { OnOk result (reverse changes.new.items ≡ Swap file line text ∷ changes_without_replacement file line (reverse changes.old.items)) }
+    ensures { OnOk result (reverse changes.new.items ≡ Swap file line text ∷ changes_without_first_if_it_replaces_line file line (reverse changes.old.items)) }
 {
     let is_replaced = match changes.last() {
         Some(LineChange::Swap { file: f, at, .. }) => *f == file && *at == line,
@@ -199,7 +201,14 @@ fn cut_definition_from_line(alloc: Global, text: &[u8], at: u32) -> Result<(Text
         Ok(bytes) => bytes,
         Err(fault) => return Err(fault),
     };
-    let less = match drop_checked_definition(alloc, at as usize, from, to, text, &node) {
+    let less = match cut_bytes_of_definition_if_line_still_reads(
+        alloc,
+        at as usize,
+        from,
+        to,
+        text,
+        &node,
+    ) {
         Ok(less) => less,
         Err(fault) => return Err(fault),
     };
@@ -208,7 +217,7 @@ fn cut_definition_from_line(alloc: Global, text: &[u8], at: u32) -> Result<(Text
 }
 
 /// Returns the line `old`, which says `says`, without the definition at the place `at`, which owns the bytes from `from` up to `to`.
-fn drop_checked_definition(
+fn cut_bytes_of_definition_if_line_still_reads(
     alloc: Global,
     at: usize,
     from: usize,
@@ -217,9 +226,9 @@ fn drop_checked_definition(
     says: &Node<'_>,
 ) -> Result<Vec<u8>, EditFault>
     requires { (from ≤ to) × (to ≤ length old.now) }
-    ensures cut { IfOk result (λ text. HasItemCutOut ItemListKind.Definitions at from to (record { text = old.now; node = node_of_view says.now }) text.items) }
+    ensures cut { IfOk result (λ text. IsLineTextWithItemCutOut ItemListKind.Definitions at from to (record { text = old.now; node = node_of_view says.now }) text.items) }
     ensures outcome { (n : ℕ) (lines : List LineOf) → MatchResult result
-        (λ text. with_less ItemListKind.Definitions at from to n (record { text = old.now; node = node_of_view says.now }) lines ≡ lines_with_one_changed n text.items (texts_of_lines lines))
+        (λ text. with_less ItemListKind.Definitions at from to n (record { text = old.now; node = node_of_view says.now }) lines ≡ replaced_lines_unless_too_long n text.items (texts_of_lines lines))
         (λ fault. IsRefusalOrNoMemory fault (with_less ItemListKind.Definitions at from to n (record { text = old.now; node = node_of_view says.now }) lines)) }
 {
     let text = drop_bytes_from_line(alloc, old, from, to)?;

@@ -8,13 +8,13 @@ ghost use Rattle.sudoers_tree.specs.Files.{lines_of_numbered_file};
 ghost use Rattle.sudoers_tree.specs.Line.{Line as LineOf, line_of_view, lines_of_rows};
 ghost use Rattle.sudoers_tree.specs.Policy.{texts_of_lines};
 ghost use Rattle.sudoers_tree.specs.declared.place.Place.{Place as PlaceOf};
-ghost use Rattle.sudoers_edit.specs.Editing.{IsRefusalOrNoMemory, policy_with_alias_file_edited};
-ghost use Rattle.sudoers_edit.specs.SpliceEdits.{definitions_of_alias_line, result_with_definition_at, result_with_line_definitions, lines_with_item_cut_out as with_less, lines_with_item_put_in as with_more, lines_with_one_changed};
+ghost use Rattle.sudoers_edit.specs.Editing.{IsRefusalOrNoMemory, policy_with_file_defining_alias_edited};
+ghost use Rattle.sudoers_edit.specs.SpliceEdits.{definitions_of_alias_line, result_with_definition_at, result_with_line_definitions, lines_with_item_cut_out as with_less, lines_with_item_put_in as with_more, replaced_lines_unless_too_long};
 ghost use Rattle.sudoers_edit.specs.declared.fault.EditFault.{EditFault as Refusal};
 ghost use Rattle.sudoers_edit.specs.Landing.{LineTexts};
 ghost use Rattle.sudoers_edit.specs.internal.Leading.{IsPlanOutcome};
 ghost use Rattle.sudoers_edit.specs.internal.Splicing.{IsAliasDefinedAt, EditReplacesFileLine};
-ghost use Rattle.sudoers_edit.specs.internal.OneMore.{HasItemCutOut, HasItemPutIn};
+ghost use Rattle.sudoers_edit.specs.internal.OneMore.{IsLineTextWithItemCutOut, IsLineTextWithItemPutIn};
 ghost use Rattle.sudoers_edit.specs.internal.LeadingInFile.{line_texts_of_file};
 ghost use Rattle.sudoers_edit_script.specs.declared.edit.Edit.{Edit as AnEdit};
 
@@ -71,7 +71,7 @@ pub fn plan_definition_addition(
 }
 
 /// Plans that the definition at the place `at` of the line `line` of the file `file` is taken out.
-pub fn plan_definition_drop(
+pub fn plan_drop_of_definition_unless_only_one(
     policy: &Policy,
     file: u32,
     line: u32,
@@ -119,7 +119,7 @@ pub fn plan_member_addition(
     ensures { IsPlanOutcome (Edit.AddMember kind name.now at splice.now) policy.now result }
 {
     let alloc = allocator_of(policy);
-    let (place, old, def) = match find_alias_definition(policy, kind, name) {
+    let (place, old, def) = match find_definition_of_named_alias(policy, kind, name) {
         Ok(found) => found,
         Err(fault) => return Err(fault),
     };
@@ -147,7 +147,7 @@ pub fn plan_member_drop(
     ensures { IsPlanOutcome (Edit.DropMember kind name.now at) policy.now result }
 {
     let alloc = allocator_of(policy);
-    let (place, old, def) = match find_alias_definition(policy, kind, name) {
+    let (place, old, def) = match find_definition_of_named_alias(policy, kind, name) {
         Ok(found) => found,
         Err(fault) => return Err(fault),
     };
@@ -186,14 +186,14 @@ fn inverse_of_member_drop(
 }
 
 /// Returns where an alias is defined on the walk: its place in a file, its line and its definition.
-fn find_alias_definition<'a>(
+fn find_definition_of_named_alias<'a>(
     policy: &'a Policy,
     kind: Kind,
     name: &[u8],
 ) -> Result<(DefinitionFilePlace, Line<'a>, Def<'a>), EditFault>
     ensures found { IfOk result (λ found. IsAliasDefinedAt kind name.now policy.now found.0 (line_of_view found.1) (alias_definition_of_view found.2)) }
     ensures refused { IfErr result (λ fault. (next : List LineOf → PlaceOf → LineOf → DefOf → Result LineTexts Refusal)
-        → policy_with_alias_file_edited kind name.now policy.now (λ place lines. result_with_definition_at (Some place) lines (next lines)) ≡ Err fault) }
+        → policy_with_file_defining_alias_edited kind name.now policy.now (λ place lines. result_with_definition_at (Some place) lines (next lines)) ≡ Err fault) }
 {
     let Some(place) = policy.definition(kind, name) else {
         return Err(EditFault::NoAlias);
@@ -221,7 +221,7 @@ fn find_definitions_of_line<'a>(
     ensures found { IfOk result (λ found. (slice_get (lines_of_rows lines.now) number ≡ Some (line_of_view found.0))
         × (definitions_of_alias_line (line_of_view found.0).node ≡ Some (alias_definitions_of_view found.1))) }
 {
-    let Some(line) = line_of_rows_at(lines, number) else {
+    let Some(line) = find_line_with_number_in_rows(lines, number) else {
         return Err(EditFault::NoLine);
     };
     match line.node {
@@ -231,7 +231,10 @@ fn find_definitions_of_line<'a>(
 }
 
 /// Returns the line of a number.
-fn line_of_rows_at<'a>(lines: &RowsOfTable<'a, LineRow>, number: usize) -> Option<Line<'a>>
+fn find_line_with_number_in_rows<'a>(
+    lines: &RowsOfTable<'a, LineRow>,
+    number: usize,
+) -> Option<Line<'a>>
     ensures { option_map line_of_view result ≡ slice_get (lines_of_rows lines.now) number }
 {
     match lines.rows.get(number) {
@@ -251,9 +254,9 @@ fn add_item_to_line(
     old: &Line<'_>,
 ) -> Result<Vec<u8>, EditFault>
     requires { from ≤ length (line_of_view old.now).text }
-    ensures put { IfOk result (λ text. HasItemPutIn among at from splice.now (line_of_view old.now) text.items) }
+    ensures put { IfOk result (λ text. IsLineTextWithItemPutIn among at from splice.now (line_of_view old.now) text.items) }
     ensures outcome { (n : ℕ) (lines : List LineOf) → MatchResult result
-        (λ text. with_more among at from n splice.now (line_of_view old.now) lines ≡ lines_with_one_changed n text.items (texts_of_lines lines))
+        (λ text. with_more among at from n splice.now (line_of_view old.now) lines ≡ replaced_lines_unless_too_long n text.items (texts_of_lines lines))
         (λ fault. IsRefusalOrNoMemory fault (with_more among at from n splice.now (line_of_view old.now) lines)) }
 {
     let text = insert_splice_into_line(alloc, old.text, from, splice)?;
@@ -280,9 +283,9 @@ pub fn cut_item_from_line(
     says: &Node<'_>,
 ) -> Result<Vec<u8>, EditFault>
     requires { (from ≤ to) × (to ≤ length old.now) }
-    ensures cut { IfOk result (λ text. HasItemCutOut among at from to (record { text = old.now; node = node_of_view says.now }) text.items) }
+    ensures cut { IfOk result (λ text. IsLineTextWithItemCutOut among at from to (record { text = old.now; node = node_of_view says.now }) text.items) }
     ensures outcome { (n : ℕ) (lines : List LineOf) → MatchResult result
-        (λ text. with_less among at from to n (record { text = old.now; node = node_of_view says.now }) lines ≡ lines_with_one_changed n text.items (texts_of_lines lines))
+        (λ text. with_less among at from to n (record { text = old.now; node = node_of_view says.now }) lines ≡ replaced_lines_unless_too_long n text.items (texts_of_lines lines))
         (λ fault. IsRefusalOrNoMemory fault (with_less among at from to n (record { text = old.now; node = node_of_view says.now }) lines)) }
 {
     let text = drop_bytes_from_line(alloc, old, from, to)?;

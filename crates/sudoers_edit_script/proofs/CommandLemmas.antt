@@ -8,7 +8,7 @@ use Rattle.std.proofs.lemmas.Slice.Eq.{bytes_eq-Decides}
 use Rattle.sudoers_text.specs.Ended.{ends_in_lf}
 use Rattle.sudoers_grammar.specs.Piece.{value_of_matching_row}
 use Rattle.sudoers_edit_script.specs.Physical.{byte_joined_to_first_line}
-use Rattle.sudoers_edit_script.specs.ScriptReading.{words_between_spaces, line_without_final_lf, commands_by_word, parsed_line_or_flaw, parsed_one_word_command, parsed_single_place, parsed_two_places, parsed_command_arguments, parsed_command_if_ended, parsed_words_of_line, parsed_script_line, is_file_scoped_command, begins_with_file_scoped_word, has_file_scoped_command}
+use Rattle.sudoers_edit_script.specs.ScriptReading.{words_between_spaces, line_without_final_lf, commands_by_word, line_made_of_value_or_flawed, parsed_command_without_arguments, parsed_single_place, parsed_two_places, parsed_command_arguments, parsed_command_if_line_ends_in_lf, parsed_words_of_line, parsed_script_line, is_file_scoped_command, are_words_of_file_scoped_command, is_line_with_file_scoped_command}
 use Rattle.sudoers_edit_script.specs.declared.command_words.EditCommand.{EditCommand}
 use Rattle.sudoers_edit_script.specs.declared.command_words.EditCommand.TheVariants as by
 use Rattle.sudoers_edit_script.specs.declared.edit_awaiting_text.EditAwaitingText.TheVariants as draft
@@ -28,12 +28,12 @@ IsParsedCommandOrFlaw (says.Flawed f) = Unit {0}
 IsParsedCommandOrFlaw _ = ⊥
 
 -- what makes a command, or a flaw, does
-result_or_flaw_is_command : {A : Type 0} (say : A → ParsedScriptLine) (r : Result A CommandFlaw) → ((x : A) → IsParsedCommandOrFlaw (say x)) → IsParsedCommandOrFlaw (parsed_line_or_flaw say r)
+result_or_flaw_is_command : {A : Type 0} (say : A → ParsedScriptLine) (r : Result A CommandFlaw) → ((x : A) → IsParsedCommandOrFlaw (say x)) → IsParsedCommandOrFlaw (line_made_of_value_or_flawed say r)
 result_or_flaw_is_command say (Ok x) h = h x
 result_or_flaw_is_command say (Err f) h = tt
 
 -- so does a command of one word
-one_word_command_is_command : (edit : Edit) (ws : List (List ℕ)) → IsParsedCommandOrFlaw (parsed_one_word_command edit ws)
+one_word_command_is_command : (edit : Edit) (ws : List (List ℕ)) → IsParsedCommandOrFlaw (parsed_command_without_arguments edit ws)
 one_word_command_is_command edit [] = tt
 one_word_command_is_command edit (w ∷ ws) = tt
 
@@ -52,17 +52,17 @@ arguments_of_file_command_are_command last by.Rename ws h = cc
 arguments_of_file_command_are_command last by.Prune ws h = cc
 
 -- with LF at the end of the line or without
-known_file_command_word_is_command : (last : ℕ) (ended : Bool) (ws : List (List ℕ)) (o : Option EditCommand) → option_map_or is_file_scoped_command o false ≡ true → IsParsedCommandOrFlaw (parsed_command_if_ended last ended ws o)
+known_file_command_word_is_command : (last : ℕ) (ended : Bool) (ws : List (List ℕ)) (o : Option EditCommand) → option_map_or is_file_scoped_command o false ≡ true → IsParsedCommandOrFlaw (parsed_command_if_line_ends_in_lf last ended ws o)
 known_file_command_word_is_command last ended ws None h = cc
 known_file_command_word_is_command last true ws (Some command) h = arguments_of_file_command_are_command last command ws h
 known_file_command_word_is_command last false ws (Some command) h = tt
 
 -- words that name lines do
-words_with_file_command_are_command : (last : ℕ) (ended : Bool) (ws : List (List ℕ)) → begins_with_file_scoped_word ws ≡ true → IsParsedCommandOrFlaw (parsed_words_of_line last ended ws)
+words_with_file_command_are_command : (last : ℕ) (ended : Bool) (ws : List (List ℕ)) → are_words_of_file_scoped_command ws ≡ true → IsParsedCommandOrFlaw (parsed_words_of_line last ended ws)
 words_with_file_command_are_command last ended [] h = cc
 words_with_file_command_are_command last ended (w ∷ ws) h =
     elim (cases_Bool (bytes_eq w (codes "file"))) [
-      | inl t ↦ absurd (true≢false (sym h ∙ ap (λ (z : List ℕ). begins_with_file_scoped_word (z ∷ ws)) ((bytes_eq-Decides w (codes "file")).0 t)))
+      | inl t ↦ absurd (true≢false (sym h ∙ ap (λ (z : List ℕ). are_words_of_file_scoped_command (z ∷ ws)) ((bytes_eq-Decides w (codes "file")).0 t)))
       | inr f ↦ rw f (known_file_command_word_is_command last ended ws (value_of_matching_row commands_by_word w) h)
     ]
 
@@ -96,19 +96,19 @@ line_words_begin_with_first_byte b bs f g =
     ]
 
 -- a line that begins with `|` names no lines
-bar_line_has_no_file_command : (b : ℕ) (bs : List ℕ) → (b == 124) ≡ true → has_file_scoped_command (b ∷ bs) ≡ false
+bar_line_has_no_file_command : (b : ℕ) (bs : List ℕ) → (b == 124) ≡ true → is_line_with_file_scoped_command (b ∷ bs) ≡ false
 bar_line_has_no_file_command b bs t =
     let led = line_words_begin_with_first_byte 124 bs refl refl in
-    ap (λ (z : ℕ). has_file_scoped_command (z ∷ bs)) (eqb-true b 124 t) ∙ ap begins_with_file_scoped_word led.is
+    ap (λ (z : ℕ). is_line_with_file_scoped_command (z ∷ bs)) (eqb-true b 124 t) ∙ ap are_words_of_file_scoped_command led.is
 
 -- nor does one that begins with `>`
-angle_line_has_no_file_command : (b : ℕ) (bs : List ℕ) → (b == 62) ≡ true → has_file_scoped_command (b ∷ bs) ≡ false
+angle_line_has_no_file_command : (b : ℕ) (bs : List ℕ) → (b == 62) ≡ true → is_line_with_file_scoped_command (b ∷ bs) ≡ false
 angle_line_has_no_file_command b bs t =
     let led = line_words_begin_with_first_byte 62 bs refl refl in
-    ap (λ (z : ℕ). has_file_scoped_command (z ∷ bs)) (eqb-true b 62 t) ∙ ap begins_with_file_scoped_word led.is
+    ap (λ (z : ℕ). is_line_with_file_scoped_command (z ∷ bs)) (eqb-true b 62 t) ∙ ap are_words_of_file_scoped_command led.is
 
 -- a line that names lines is a command, or has a flaw
-pub line_with_file_command_parses_as_command : (last : ℕ) (l : List ℕ) → has_file_scoped_command l ≡ true → IsParsedCommandOrFlaw (parsed_script_line last l)
+pub line_with_file_command_parses_as_command : (last : ℕ) (l : List ℕ) → is_line_with_file_scoped_command l ≡ true → IsParsedCommandOrFlaw (parsed_script_line last l)
 line_with_file_command_parses_as_command last [] h = cc
 line_with_file_command_parses_as_command last (b ∷ bs) h =
     elim (cases_Bool (b == 124)) [

@@ -4,7 +4,7 @@ use Rattle.std.proofs.Common.{◌≡◌, ◌⊎◌, ℕ, ◌+◌, ◌≤◌, ◌
 use Rattle.std.specs.Option.{unwrap_or}
 use Rattle.std.proofs.lemmas.Bool.{cases_Bool, eqb-true, eq-eqb}
 use Rattle.sudoers_edit_script.specs.Physical.{physical_lines}
-use Rattle.sudoers_edit_script.specs.Script.{payload_lines_of_edit, spelling_of_edit, file_named_by_edit, file_setting_line, file_line_before_edit, file_set_after_edit, spelling_with_file_set, HasFittingNumbers, IsSpellable}
+use Rattle.sudoers_edit_script.specs.Script.{payload_lines_of_edit, spelling_of_edit, file_number_named_by_edit, script_line_setting_file_number, file_line_before_edit, file_number_set_after_edit, spelling_of_edits_with_file_set, HasFittingNumbers, IsSpellable}
 use Rattle.sudoers_edit_script.specs.ScriptReading.{edit_completed_with_text}
 use Rattle.sudoers_edit_script.specs.declared.edit_awaiting_text.EditAwaitingText.{EditAwaitingText}
 use Rattle.sudoers_edit_script.specs.declared.edit.Edit.{Edit}
@@ -21,7 +21,7 @@ pub record NeedsFileLine (last : ℕ) (file : Option ℕ) : Type 0 where
   pub to : ℕ
   pub is : file ≡ Some to
   pub other : (to == last) ≡ false
-  pub line : file_line_before_edit last file ≡ file_setting_line to
+  pub line : file_line_before_edit last file ≡ script_line_setting_file_number to
 
 -- one of both
 pub edit_needs_file_line_or_none : (last : ℕ) (file : Option ℕ) → NeedsNoFileLine last file ⊎ NeedsFileLine last file
@@ -38,33 +38,33 @@ set_file_needs_no_file_line last None same = refl
 set_file_needs_no_file_line last (Some file) same = rw (eq-eqb file last same) refl
 
 -- so its edits are spelled behind it
-pub edit_in_set_file_is_spelled_directly : (last : ℕ) (edit : Edit) (edits : List Edit) → file_set_after_edit last edit ≡ last
-    → spelling_with_file_set last (edit ∷ edits) ≡ spelling_of_edit edit ++ spelling_with_file_set last edits
+pub edit_in_set_file_is_spelled_directly : (last : ℕ) (edit : Edit) (edits : List Edit) → file_number_set_after_edit last edit ≡ last
+    → spelling_of_edits_with_file_set last (edit ∷ edits) ≡ spelling_of_edit edit ++ spelling_of_edits_with_file_set last edits
 edit_in_set_file_is_spelled_directly last edit edits same =
-    ap (λ (z : List ℕ). z ++ (spelling_of_edit edit ++ spelling_with_file_set (file_set_after_edit last edit) edits)) (set_file_needs_no_file_line last (file_named_by_edit edit) same)
-    ∙ ap (λ (f : ℕ). spelling_of_edit edit ++ spelling_with_file_set f edits) same
+    ap (λ (z : List ℕ). z ++ (spelling_of_edit edit ++ spelling_of_edits_with_file_set (file_number_set_after_edit last edit) edits)) (set_file_needs_no_file_line last (file_number_named_by_edit edit) same)
+    ∙ ap (λ (f : ℕ). spelling_of_edit edit ++ spelling_of_edits_with_file_set f edits) same
 
 -- There is a first edit, and it names lines of this file, or of none.
 abbrev pub IsFileOfFirstEdit : Option ℕ → List Edit → Type 0
 IsFileOfFirstEdit file [] = ⊥
-IsFileOfFirstEdit file (edit ∷ edits) = file_named_by_edit edit ≡ file
+IsFileOfFirstEdit file (edit ∷ edits) = file_number_named_by_edit edit ≡ file
 
 -- edits that begin in another file than the one that is set begin with a `file` line
 pub edit_in_other_file_needs_file_line : (last file : ℕ) (edits : List Edit) → IsFileOfFirstEdit (Some file) edits → (file == last) ≡ false
-    → spelling_with_file_set last edits ≡ file_setting_line file ++ spelling_with_file_set file edits
+    → spelling_of_edits_with_file_set last edits ≡ script_line_setting_file_number file ++ spelling_of_edits_with_file_set file edits
 edit_in_other_file_needs_file_line last file [] first other = absurd first
 edit_in_other_file_needs_file_line last file (edit ∷ edits) first other =
-    let spelled : Option ℕ → ℕ → List ℕ = λ o set. file_line_before_edit set o ++ (spelling_of_edit edit ++ spelling_with_file_set (unwrap_or o set) edits) in
-    let rest : List ℕ = spelling_of_edit edit ++ spelling_with_file_set file edits in
+    let spelled : Option ℕ → ℕ → List ℕ = λ o set. file_line_before_edit set o ++ (spelling_of_edit edit ++ spelling_of_edits_with_file_set (unwrap_or o set) edits) in
+    let rest : List ℕ = spelling_of_edit edit ++ spelling_of_edits_with_file_set file edits in
     ap (λ (o : Option ℕ). spelled o last) first
-    ∙ ap (λ (b : Bool). (if b then [] else file_setting_line file) ++ rest) other
-    ∙ sym (ap (λ (z : List ℕ). file_setting_line file ++ z) (
+    ∙ ap (λ (b : Bool). (if b then [] else script_line_setting_file_number file) ++ rest) other
+    ∙ sym (ap (λ (z : List ℕ). script_line_setting_file_number file ++ z) (
     ap (λ (o : Option ℕ). spelled o file) first
-    ∙ ap (λ (b : Bool). (if b then [] else file_setting_line file) ++ rest) (eq-eqb file file refl)
+    ∙ ap (λ (b : Bool). (if b then [] else script_line_setting_file_number file) ++ rest) (eq-eqb file file refl)
     ))
 
 -- the number of the file that is set after an edit fits
-pub file_set_after_edit_fits : (last : ℕ) (edit : Edit) → last + 1 ≤ 2 ^ 32 → HasFittingNumbers edit → file_set_after_edit last edit + 1 ≤ 2 ^ 32
+pub file_set_after_edit_fits : (last : ℕ) (edit : Edit) → last + 1 ≤ 2 ^ 32 → HasFittingNumbers edit → file_number_set_after_edit last edit + 1 ≤ 2 ^ 32
 file_set_after_edit_fits last (Insert file at text) fits h = h.0
 file_set_after_edit_fits last (Delete file at) fits h = h.0
 file_set_after_edit_fits last (Move file from to) fits h = h.0
@@ -78,11 +78,11 @@ file_set_after_edit_fits last (OpenEnd file) fits h = h
 file_set_after_edit_fits last Prune fits h = fits
 
 -- the file that a `file` line sets before a command is that of its edit
-pub file_line_sets_file_of_its_edit : (last : ℕ) (edit : Edit) (s : NeedsFileLine last (file_named_by_edit edit)) → file_set_after_edit last edit ≡ s.to
+pub file_line_sets_file_of_its_edit : (last : ℕ) (edit : Edit) (s : NeedsFileLine last (file_number_named_by_edit edit)) → file_number_set_after_edit last edit ≡ s.to
 file_line_sets_file_of_its_edit last edit s = ap (λ (o : Option ℕ). unwrap_or o last) s.is
 
 -- the file that an edit with a text leaves is that of its command
-pub text_of_edit_keeps_file_set : (last : ℕ) (begun : EditAwaitingText) (text : List ℕ) → file_set_after_edit last (edit_completed_with_text begun []) ≡ last → file_set_after_edit last (edit_completed_with_text begun text) ≡ last
+pub text_of_edit_keeps_file_set : (last : ℕ) (begun : EditAwaitingText) (text : List ℕ) → file_number_set_after_edit last (edit_completed_with_text begun []) ≡ last → file_number_set_after_edit last (edit_completed_with_text begun text) ≡ last
 text_of_edit_keeps_file_set last begun text same = ap (λ (file : Option ℕ). unwrap_or file last) (edit_with_text_has_its_command begun text).file ∙ same
 
 -- the first line of an edit's spelling, before anything

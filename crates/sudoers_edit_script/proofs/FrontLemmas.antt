@@ -6,11 +6,11 @@ use Rattle.std.proofs.lemmas.Bool.{cases_Bool, leb-true, leb-false, or_parts}
 use Rattle.sudoers_text.specs.Ended.{ends_in_lf, has_inner_line_without_lf}
 use Rattle.sudoers_text.specs.Line.{join as text_of}
 use Rattle.sudoers_edit_script.specs.Physical.{physical_lines}
-use Rattle.sudoers_edit_script.specs.Script.{spelling_of_edits, AreSpellable, edit_limit, IsScriptPrefix, IsFirstBadScriptLine, EndsIncompleteAtLine, HasMaxEditsBeforeLine}
-use Rattle.sudoers_edit_script.specs.ScriptReading.{Between, edits_from_position, edits_spelled_by_text, IsFaultReportedAtLine}
+use Rattle.sudoers_edit_script.specs.Script.{spelling_of_edits, AreSpellable, edit_limit, IsScriptPrefix, IsFirstBadScriptLine, IsUnfinishedScriptUpToLine, HasMaxEditsBeforeLine}
+use Rattle.sudoers_edit_script.specs.ScriptReading.{Between, edits_from_position, edits_spelled_by_text, IsFaultFoundWhenReadingLine}
 use Rattle.sudoers_edit_script.specs.declared.edit.Edit.{Edit}
-use Rattle.sudoers_edit_script.specs.declared.script.ScriptFault.{ScriptFault}
-use Rattle.sudoers_edit_script.specs.declared.script.ScriptFault.TheVariants as faults
+use Rattle.sudoers_edit_script.specs.declared.script_reader.ScriptFault.{ScriptFault}
+use Rattle.sudoers_edit_script.specs.declared.script_reader.ScriptFault.TheVariants as faults
 use Rattle.sudoers_edit_script.proofs.PhysicalLemmas.{IsPhysicalLine, ArePhysicalLines, text_of_joined_lines, physical_lines_are_lines_of_text, ended_line_is_first_physical_line}
 use Rattle.sudoers_edit_script.proofs.ScriptLemmas.{lines_spell_edits_read_from_them, text_read_as_edits_is_their_spelling}
 use Rattle.sudoers_edit_script.proofs.SpellingLemmas.{spelling_of_edits_is_read_back}
@@ -93,7 +93,7 @@ line_of_fault_is_first_bad_line text fault line s at h =
 -- the line of a fault that wants another line than the next
 incomplete_line_ends_at_its_fault : (text : List ℕ) (fault : ScriptFault) (line : ℕ) (s : StopsReadingTextAtFault text fault)
     → (s.read < length (physical_lines text)) ⊎ (s.read ≡ length (physical_lines text))
-    → IsLineBeforeWanting fault line (1 + s.read) (edits_from_position (take s.read (physical_lines text)) 1 Between 0 0) → EndsIncompleteAtLine line (physical_lines text)
+    → IsLineBeforeWanting fault line (1 + s.read) (edits_from_position (take s.read (physical_lines text)) 1 Between 0 0) → IsUnfinishedScriptUpToLine line (physical_lines text)
 incomplete_line_ends_at_its_fault text fault line s last w =
     let at : line ≡ s.read = omega (arith, w.0) in
     record {
@@ -116,7 +116,7 @@ incomplete_line_ends_at_its_fault text fault line s last w =
 
 -- a line that may not stand there is the first with which the lines are no front, or a `file` line before a line that is
 pub bad_word_line_is_bad_or_incomplete : (text : List ℕ) (line : ℕ) → edits_spelled_by_text text ≡ Err (faults.BadWord line)
-    → IsFirstBadScriptLine line (physical_lines text) ⊎ EndsIncompleteAtLine line (physical_lines text)
+    → IsFirstBadScriptLine line (physical_lines text) ⊎ IsUnfinishedScriptUpToLine line (physical_lines text)
 bad_word_line_is_bad_or_incomplete text line e =
     let s = refused_text_stops_at_its_fault text (faults.BadWord line) e in
     elim s.told [
@@ -134,7 +134,7 @@ bad_number_line_is_first_bad_line text line e =
     elim s.told [ inl h ↦ line_of_fault_is_first_bad_line text (faults.BadNumber line) line s h.1 h.0 | inr h ↦ absurd h.1 ]
 
 -- a command without its text ends a front that is no script, and no line can follow it
-pub missing_payload_line_ends_incomplete : (text : List ℕ) (line : ℕ) → edits_spelled_by_text text ≡ Err (faults.NoPayload line) → EndsIncompleteAtLine line (physical_lines text)
+pub missing_payload_line_ends_incomplete : (text : List ℕ) (line : ℕ) → edits_spelled_by_text text ≡ Err (faults.NoPayload line) → IsUnfinishedScriptUpToLine line (physical_lines text)
 missing_payload_line_ends_incomplete text line e =
     let s = refused_text_stops_at_its_fault text (faults.NoPayload line) e in
     elim s.told [
@@ -272,7 +272,7 @@ first_bad_line_is_unique lines line other d e =
     ]
 
 -- where a fault is told
-fault_at_command_is_reported_at_line : (fault : ScriptFault) (line : ℕ) (alone : Result (List Edit) ScriptFault) → IsFaultReportedAtPosition fault line alone Between 0 → IsFaultReportedAtLine line (Err fault)
+fault_at_command_is_reported_at_line : (fault : ScriptFault) (line : ℕ) (alone : Result (List Edit) ScriptFault) → IsFaultReportedAtPosition fault line alone Between 0 → IsFaultFoundWhenReadingLine line (Err fault)
 fault_at_command_is_reported_at_line (faults.BadWord at) line alone (inl h) = inl h
 fault_at_command_is_reported_at_line (faults.BadWord at) line alone (inr w) = inr w.0
 fault_at_command_is_reported_at_line (faults.BadNumber at) line alone h = h
@@ -287,7 +287,7 @@ script_lines_are_script_prefix text edits e =
     record { more = []; edits = edits; spellable = r.2; few = r.1; whole = append-nil (physical_lines text) ∙ ap physical_lines r.0 }
 
 -- a text with a dead line is refused there, whatever is read of it
-first_bad_line_is_reported_by_result : (result : Result (List Edit) ScriptFault) (text : List ℕ) (line : ℕ) → edits_spelled_by_text text ≡ result → IsFirstBadScriptLine line (physical_lines text) → IsFaultReportedAtLine line result
+first_bad_line_is_reported_by_result : (result : Result (List Edit) ScriptFault) (text : List ℕ) (line : ℕ) → edits_spelled_by_text text ≡ result → IsFirstBadScriptLine line (physical_lines text) → IsFaultFoundWhenReadingLine line result
 first_bad_line_is_reported_by_result (Ok edits) text line e d =
     let all : take (length (physical_lines text)) (physical_lines text) ≡ physical_lines text = take_all (length (physical_lines text)) (physical_lines text) (omega arith) in
     d.dead (shorter_script_prefix_is_prefix line (length (physical_lines text)) (physical_lines text) d.within (subst IsScriptPrefix (sym all) (script_lines_are_script_prefix text edits e)))
@@ -302,5 +302,5 @@ first_bad_line_is_reported_by_result (Err fault) text line e d =
     ]
 
 -- so it is told by its reading
-pub first_bad_line_is_reported_by_reading : (text : List ℕ) (line : ℕ) → IsFirstBadScriptLine line (physical_lines text) → IsFaultReportedAtLine line (edits_spelled_by_text text)
+pub first_bad_line_is_reported_by_reading : (text : List ℕ) (line : ℕ) → IsFirstBadScriptLine line (physical_lines text) → IsFaultFoundWhenReadingLine line (edits_spelled_by_text text)
 first_bad_line_is_reported_by_reading text line d = first_bad_line_is_reported_by_result (edits_spelled_by_text text) text line refl d

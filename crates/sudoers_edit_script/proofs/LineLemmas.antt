@@ -17,8 +17,8 @@ use Rattle.sudoers_edit_script.specs.declared.command_words.EditCommand.{EditCom
 use Rattle.sudoers_edit_script.specs.declared.script_line.CommandFlaw.TheVariants as flaw
 use Rattle.sudoers_edit_script.specs.declared.script_line.ParsedScriptLine.{ParsedScriptLine}
 use Rattle.sudoers_edit_script.specs.declared.script_line.ParsedScriptLine.TheVariants as says
-use Rattle.sudoers_edit_script.specs.Script.{one_based_decimal, word_for_alias_kind, command_words_of_edit, words_joined_by_spaces, payload_lines_of_edit, payload_of_text, spelling_of_edit, file_named_by_edit, file_setting_line, file_set_after_edit, is_spellable_word, IsSpellable}
-use Rattle.sudoers_edit_script.specs.ScriptReading.{words_between_spaces, place_of_word, commands_by_word, parsed_single_place, pair_of_places, parsed_two_places, alias_of_kind_or_flaw, parsed_alias_and_word, parsed_line_or_flaw, parsed_command_if_ended, parsed_words_of_line, edit_completed_with_text, line_without_final_lf, parsed_script_line, begins_with_file_scoped_word, has_file_scoped_command}
+use Rattle.sudoers_edit_script.specs.Script.{one_based_decimal, word_for_alias_kind, command_words_of_edit, words_joined_by_spaces, payload_lines_of_edit, payload_of_text, spelling_of_edit, file_number_named_by_edit, script_line_setting_file_number, file_number_set_after_edit, is_spellable_word, IsSpellable}
+use Rattle.sudoers_edit_script.specs.ScriptReading.{words_between_spaces, place_of_word, commands_by_word, parsed_single_place, both_places_or_flaw, parsed_two_places, alias_of_kind_or_flaw, parsed_alias_and_word, line_made_of_value_or_flawed, parsed_command_if_line_ends_in_lf, parsed_words_of_line, edit_completed_with_text, line_without_final_lf, parsed_script_line, are_words_of_file_scoped_command, is_line_with_file_scoped_command}
 use Rattle.sudoers_edit_script.proofs.NumberLemmas.{one_based_decimal_is_read_back}
 use Rattle.sudoers_edit_script.proofs.EndLemmas.{ended_text_is_body_and_lf, text_with_lf_added_ends_in_lf}
 use Rattle.sudoers_edit_script.proofs.PhysicalLemmas.{IsPhysicalLine, ended_text_is_restored_by_lf, lf_added_is_removed_again, text_without_lf_and_lf_are_line, ended_line_is_first_physical_line}
@@ -55,7 +55,7 @@ pub record HasTextIndependentCommand (begun : EditAwaitingText) (text : List ℕ
   pub said : parsed_line_of_edit (edit_completed_with_text begun text) ≡ says.Begin begun
   pub line : command_line_of_edit (edit_completed_with_text begun text) ≡ command_line_of_edit (edit_completed_with_text begun [])
   pub lines : payload_lines_of_edit (edit_completed_with_text begun text) ≡ payload_of_text text
-  pub file : file_named_by_edit (edit_completed_with_text begun text) ≡ file_named_by_edit (edit_completed_with_text begun [])
+  pub file : file_number_named_by_edit (edit_completed_with_text begun text) ≡ file_number_named_by_edit (edit_completed_with_text begun [])
   pub spellable : IsSpellable (edit_completed_with_text begun []) → IsSpellable (edit_completed_with_text begun text)
   pub spelled : IsSpellable (edit_completed_with_text begun text) → IsSpellable (edit_completed_with_text begun [])
 
@@ -81,14 +81,14 @@ texted_edit_is_command_line_and_payload begun text =
 
 -- The line is that of the command of the edit, which needs no `file` line where this file is set.
 abbrev pub IsCommandLineOfEdit : ℕ → Edit → List ℕ → Type 0
-IsCommandLineOfEdit last edit l = (l ≡ command_line_of_edit edit) × IsSpellable edit × (file_set_after_edit last edit ≡ last)
+IsCommandLineOfEdit last edit l = (l ≡ command_line_of_edit edit) × IsSpellable edit × (file_number_set_after_edit last edit ≡ last)
 
 -- a line that says this where this file is set
 abbrev pub DoesLineMeanParsed : ℕ → ParsedScriptLine → List ℕ → Type 0
 DoesLineMeanParsed last (says.Begin begun) l = IsCommandLineOfEdit last (edit_completed_with_text begun []) l
 DoesLineMeanParsed last (says.Whole edit) l = IsCommandLineOfEdit last edit l × (payload_lines_of_edit edit ≡ [])
 DoesLineMeanParsed last (says.Flawed f) l = Unit {0}
-DoesLineMeanParsed last (says.File (Some file)) l = (l ≡ file_setting_line file) × (file + 1 ≤ 2 ^ 32)
+DoesLineMeanParsed last (says.File (Some file)) l = (l ≡ script_line_setting_file_number file) × (file + 1 ≤ 2 ^ 32)
 DoesLineMeanParsed last (says.File None) l = Unit {0}
 DoesLineMeanParsed last says.More l = (t : List ℕ) × (l ≡ 124 ∷ t) × (ends_in_lf t ≡ true)
 DoesLineMeanParsed last says.Last l = (t : List ℕ) × (l ≡ 62 ∷ t ++ 10 ∷ [])
@@ -122,7 +122,7 @@ angle_line_means_last_payload last b bs h =
     ]
 
 -- a line of words without LF is no command
-words_without_lf_mean_no_command : (last : ℕ) (l : List ℕ) (ws : List (List ℕ)) (o : Option EditCommand) → DoesLineMeanParsed last (parsed_command_if_ended last false ws o) l
+words_without_lf_mean_no_command : (last : ℕ) (l : List ℕ) (ws : List (List ℕ)) (o : Option EditCommand) → DoesLineMeanParsed last (parsed_command_if_line_ends_in_lf last false ws o) l
 words_without_lf_mean_no_command last l ws None = tt
 words_without_lf_mean_no_command last l ws (Some command) = tt
 
@@ -191,7 +191,7 @@ pub command_line_is_first_physical_line : (edit : Edit) (rest : List ℕ) → Is
 command_line_is_first_physical_line edit rest h = words_line_is_first_physical_line (command_words_of_edit edit) rest (command_words_are_spellable edit h)
 
 -- so is a `file` line
-pub file_line_is_first_physical_line : (file : ℕ) (rest : List ℕ) → file + 1 ≤ 2 ^ 32 → physical_lines (file_setting_line file ++ rest) ≡ file_setting_line file ∷ physical_lines rest
+pub file_line_is_first_physical_line : (file : ℕ) (rest : List ℕ) → file + 1 ≤ 2 ^ 32 → physical_lines (script_line_setting_file_number file ++ rest) ≡ script_line_setting_file_number file ∷ physical_lines rest
 file_line_is_first_physical_line file rest h = words_line_is_first_physical_line (codes "file" ∷ one_based_decimal file ∷ []) rest (file_line_words_are_spellable file h)
 
 -- the line of a command says what its words say
@@ -227,23 +227,23 @@ alias_kind_and_name_are_read_back kind name more h = ap (alias_of_kind_or_flaw n
 
 -- so are those of a member, behind a command
 alias_and_member_place_are_read_back : (say : Kind × List ℕ × List ℕ → ℕ → ParsedScriptLine) (kind : Kind) (name : List ℕ) (at : ℕ) → is_spellable_word name ≡ true → at + 1 ≤ 2 ^ 32
-    → parsed_line_or_flaw (λ alias. parsed_line_or_flaw (say alias) (ok_or (place_of_word alias.2) flaw.Number)) (parsed_alias_and_word (word_for_alias_kind kind ∷ name ∷ one_based_decimal at ∷ [])) ≡ say (kind, name, one_based_decimal at) at
+    → line_made_of_value_or_flawed (λ alias. line_made_of_value_or_flawed (say alias) (ok_or (place_of_word alias.2) flaw.Number)) (parsed_alias_and_word (word_for_alias_kind kind ∷ name ∷ one_based_decimal at ∷ [])) ≡ say (kind, name, one_based_decimal at) at
 alias_and_member_place_are_read_back say kind name at is fits =
-    ap (parsed_line_or_flaw (λ alias. parsed_line_or_flaw (say alias) (ok_or (place_of_word alias.2) flaw.Number))) (alias_kind_and_name_are_read_back kind name (one_based_decimal at) is)
-    ∙ ap (λ (o : Option ℕ). parsed_line_or_flaw (say (kind, name, one_based_decimal at)) (ok_or o flaw.Number)) (one_based_decimal_is_read_back at fits)
+    ap (line_made_of_value_or_flawed (λ alias. line_made_of_value_or_flawed (say alias) (ok_or (place_of_word alias.2) flaw.Number))) (alias_kind_and_name_are_read_back kind name (one_based_decimal at) is)
+    ∙ ap (λ (o : Option ℕ). line_made_of_value_or_flawed (say (kind, name, one_based_decimal at)) (ok_or o flaw.Number)) (one_based_decimal_is_read_back at fits)
 
 -- and two places
-two_places_are_read_back : (say : ℕ × ℕ → ParsedScriptLine) (m n : ℕ) → m + 1 ≤ 2 ^ 32 → n + 1 ≤ 2 ^ 32 → parsed_line_or_flaw say (parsed_two_places (one_based_decimal m ∷ one_based_decimal n ∷ [])) ≡ say (m, n)
+two_places_are_read_back : (say : ℕ × ℕ → ParsedScriptLine) (m n : ℕ) → m + 1 ≤ 2 ^ 32 → n + 1 ≤ 2 ^ 32 → line_made_of_value_or_flawed say (parsed_two_places (one_based_decimal m ∷ one_based_decimal n ∷ [])) ≡ say (m, n)
 two_places_are_read_back say m n fits more =
-    ap (λ (o : Option ℕ). parsed_line_or_flaw say (pair_of_places o (place_of_word (one_based_decimal n)))) (one_based_decimal_is_read_back m fits)
-    ∙ ap (λ (o : Option ℕ). parsed_line_or_flaw say (pair_of_places (Some m) o)) (one_based_decimal_is_read_back n more)
+    ap (λ (o : Option ℕ). line_made_of_value_or_flawed say (both_places_or_flaw o (place_of_word (one_based_decimal n)))) (one_based_decimal_is_read_back m fits)
+    ∙ ap (λ (o : Option ℕ). line_made_of_value_or_flawed say (both_places_or_flaw (Some m) o)) (one_based_decimal_is_read_back n more)
 
 -- and one
-one_place_is_read_back : (say : ℕ → ParsedScriptLine) (at : ℕ) → at + 1 ≤ 2 ^ 32 → parsed_line_or_flaw say (parsed_single_place (one_based_decimal at ∷ [])) ≡ say at
-one_place_is_read_back say at fits = ap (λ (o : Option ℕ). parsed_line_or_flaw say (ok_or o flaw.Number)) (one_based_decimal_is_read_back at fits)
+one_place_is_read_back : (say : ℕ → ParsedScriptLine) (at : ℕ) → at + 1 ≤ 2 ^ 32 → line_made_of_value_or_flawed say (parsed_single_place (one_based_decimal at ∷ [])) ≡ say at
+one_place_is_read_back say at fits = ap (λ (o : Option ℕ). line_made_of_value_or_flawed say (ok_or o flaw.Number)) (one_based_decimal_is_read_back at fits)
 
 -- the words of a command say it where its file is set
-command_words_of_edit_are_read_back : (last : ℕ) (edit : Edit) → IsSpellable edit → parsed_words_of_line (file_set_after_edit last edit) true (command_words_of_edit edit) ≡ parsed_line_of_edit edit
+command_words_of_edit_are_read_back : (last : ℕ) (edit : Edit) → IsSpellable edit → parsed_words_of_line (file_number_set_after_edit last edit) true (command_words_of_edit edit) ≡ parsed_line_of_edit edit
 command_words_of_edit_are_read_back last (Insert file at text) h = one_place_is_read_back (λ n. says.Begin (draft.Insert file n)) at h.0.1
 command_words_of_edit_are_read_back last (Delete file at) h = one_place_is_read_back (λ n. says.Whole (Delete file n)) at h.0.1
 command_words_of_edit_are_read_back last (Move file from to) h = two_places_are_read_back (λ places. says.Whole (Move file places.0 places.1)) from to h.0.1 h.0.2
@@ -253,7 +253,7 @@ command_words_of_edit_are_read_back last (AddDef file line at splice) h = two_pl
 command_words_of_edit_are_read_back last (DropDef file line at) h = two_places_are_read_back (λ places. says.Whole (DropDef file places.0 places.1)) line at h.0.1 h.0.2
 command_words_of_edit_are_read_back last (Rename kind name fresh) h =
     let p = and_parts (is_spellable_word name) (is_spellable_word fresh) h.1 in
-    ap (parsed_line_or_flaw (λ alias. if is_spellable_word alias.2 then says.Whole (Rename alias.0 alias.1 alias.2) else says.Flawed flaw.Word)) (alias_kind_and_name_are_read_back kind name fresh p.0)
+    ap (line_made_of_value_or_flawed (λ alias. if is_spellable_word alias.2 then says.Whole (Rename alias.0 alias.1 alias.2) else says.Flawed flaw.Word)) (alias_kind_and_name_are_read_back kind name fresh p.0)
     ∙ ap (λ (b : Bool). if b then says.Whole (Rename kind name fresh) else says.Flawed flaw.Word) p.1
 command_words_of_edit_are_read_back last (EndLine file) h = refl
 command_words_of_edit_are_read_back last (OpenEnd file) h = refl
@@ -278,20 +278,20 @@ command_words_of_edit_are_split_back : (edit : Edit) → IsSpellable edit → wo
 command_words_of_edit_are_split_back edit h = words_of_known_command_are_split_back (command_words_of_edit edit) (first_command_word_is_known edit) (command_words_are_spellable edit h)
 
 -- the line of a command says it where its file is set
-pub command_line_of_edit_is_read_back : (last : ℕ) (edit : Edit) → IsSpellable edit → parsed_script_line (file_set_after_edit last edit) (command_line_of_edit edit) ≡ parsed_line_of_edit edit
+pub command_line_of_edit_is_read_back : (last : ℕ) (edit : Edit) → IsSpellable edit → parsed_script_line (file_number_set_after_edit last edit) (command_line_of_edit edit) ≡ parsed_line_of_edit edit
 command_line_of_edit_is_read_back last edit h =
-    command_line_parses_as_its_words (file_set_after_edit last edit) edit
-    ∙ joined_words_with_lf_parse_as_words (file_set_after_edit last edit) (command_words_of_edit edit) (command_words_of_edit_are_split_back edit h)
+    command_line_parses_as_its_words (file_number_set_after_edit last edit) edit
+    ∙ joined_words_with_lf_parse_as_words (file_number_set_after_edit last edit) (command_words_of_edit edit) (command_words_of_edit_are_split_back edit h)
     ∙ command_words_of_edit_are_read_back last edit h
 
 -- a `file` line says the file that it sets
-pub file_line_is_read_back : (last file : ℕ) → file + 1 ≤ 2 ^ 32 → parsed_script_line last (file_setting_line file) ≡ says.File (Some file)
+pub file_line_is_read_back : (last file : ℕ) → file + 1 ≤ 2 ^ 32 → parsed_script_line last (script_line_setting_file_number file) ≡ says.File (Some file)
 file_line_is_read_back last file h =
     joined_words_with_lf_parse_as_words last (codes "file" ∷ one_based_decimal file ∷ []) (joined_words_are_split_back (codes "file") (one_based_decimal file ∷ []) (file_line_words_are_spellable file h))
     ∙ ap says.File (one_based_decimal_is_read_back file h)
 
 -- the words of a command name lines if its edit does
-command_words_name_file_if_edit_does : (edit : Edit) → begins_with_file_scoped_word (command_words_of_edit edit) ≡ is_some (file_named_by_edit edit)
+command_words_name_file_if_edit_does : (edit : Edit) → are_words_of_file_scoped_command (command_words_of_edit edit) ≡ is_some (file_number_named_by_edit edit)
 command_words_name_file_if_edit_does (Insert file at text) = refl
 command_words_name_file_if_edit_does (Delete file at) = refl
 command_words_name_file_if_edit_does (Move file from to) = refl
@@ -305,21 +305,21 @@ command_words_name_file_if_edit_does (OpenEnd file) = refl
 command_words_name_file_if_edit_does Prune = refl
 
 -- so does its line
-pub command_line_names_file_if_edit_does : (edit : Edit) → IsSpellable edit → has_file_scoped_command (command_line_of_edit edit) ≡ is_some (file_named_by_edit edit)
+pub command_line_names_file_if_edit_does : (edit : Edit) → IsSpellable edit → is_line_with_file_scoped_command (command_line_of_edit edit) ≡ is_some (file_number_named_by_edit edit)
 command_line_names_file_if_edit_does edit h =
-    ap (λ (t : List ℕ). begins_with_file_scoped_word (words_between_spaces t)) (lf_added_is_removed_again (words_joined_by_spaces (command_words_of_edit edit)))
-    ∙ ap begins_with_file_scoped_word (command_words_of_edit_are_split_back edit h)
+    ap (λ (t : List ℕ). are_words_of_file_scoped_command (words_between_spaces t)) (lf_added_is_removed_again (words_joined_by_spaces (command_words_of_edit edit)))
+    ∙ ap are_words_of_file_scoped_command (command_words_of_edit_are_split_back edit h)
     ∙ command_words_name_file_if_edit_does edit
 
 -- a `file` line does not
-pub file_line_has_no_file_command : (file : ℕ) → file + 1 ≤ 2 ^ 32 → has_file_scoped_command (file_setting_line file) ≡ false
+pub file_line_has_no_file_command : (file : ℕ) → file + 1 ≤ 2 ^ 32 → is_line_with_file_scoped_command (script_line_setting_file_number file) ≡ false
 file_line_has_no_file_command file h =
-    ap (λ (t : List ℕ). begins_with_file_scoped_word (words_between_spaces t)) (lf_added_is_removed_again (words_joined_by_spaces (codes "file" ∷ one_based_decimal file ∷ [])))
-    ∙ ap begins_with_file_scoped_word (joined_words_are_split_back (codes "file") (one_based_decimal file ∷ []) (file_line_words_are_spellable file h))
+    ap (λ (t : List ℕ). are_words_of_file_scoped_command (words_between_spaces t)) (lf_added_is_removed_again (words_joined_by_spaces (codes "file" ∷ one_based_decimal file ∷ [])))
+    ∙ ap are_words_of_file_scoped_command (joined_words_are_split_back (codes "file") (one_based_decimal file ∷ []) (file_line_words_are_spellable file h))
 
 -- so the edit of such a line, where this file is set, names lines of this file
-pub file_command_line_names_set_file : (last : ℕ) (edit : Edit) (l : List ℕ) → IsCommandLineOfEdit last edit l → has_file_scoped_command l ≡ true → file_named_by_edit edit ≡ Some last
-file_command_line_names_set_file last edit l told names = some_last (file_named_by_edit edit) (sym (ap has_file_scoped_command told.0 ∙ command_line_names_file_if_edit_does edit told.1) ∙ names) told.2
+pub file_command_line_names_set_file : (last : ℕ) (edit : Edit) (l : List ℕ) → IsCommandLineOfEdit last edit l → is_line_with_file_scoped_command l ≡ true → file_number_named_by_edit edit ≡ Some last
+file_command_line_names_set_file last edit l told names = some_last (file_number_named_by_edit edit) (sym (ap is_line_with_file_scoped_command told.0 ∙ command_line_names_file_if_edit_does edit told.1) ∙ names) told.2
   where
     some_last : (file : Option ℕ) → is_some file ≡ true → unwrap_or file last ≡ last → file ≡ Some last
     some_last None some same = cc

@@ -4,7 +4,7 @@ use Rattle.std.specs.List.{flat_map, list_any}
 use Rattle.std.proofs.lemmas.Bool.{false≢true, cases_Bool}
 use Rattle.sudoers_text.specs.Ended.{ends_in_lf}
 use Rattle.sudoers_edit_script.specs.Physical.{physical_lines}
-use Rattle.sudoers_edit_script.specs.Script.{payload_of_text, payload_line_of_text_line, payload_lines_of_edit, spelling_of_edit, file_named_by_edit, file_setting_line, file_line_before_edit, file_set_after_edit, spelling_with_file_set, spelling_of_edits, IsSpellable, AreSpellable}
+use Rattle.sudoers_edit_script.specs.Script.{payload_of_text, payload_line_of_text_line, payload_lines_of_edit, spelling_of_edit, file_number_named_by_edit, script_line_setting_file_number, file_line_before_edit, file_number_set_after_edit, spelling_of_edits_with_file_set, spelling_of_edits, IsSpellable, AreSpellable}
 use Rattle.sudoers_edit_script.specs.ScriptReading.{edit_completed_with_text, parsed_script_line, line_without_final_lf}
 use Rattle.sudoers_edit_script.specs.declared.edit.Edit.{Edit}
 use Rattle.sudoers_edit_script.specs.declared.edit.Edit.TheVariants.{Insert, Delete, Move, AddMember, DropMember, AddDef, DropDef, Rename, EndLine, OpenEnd, Prune}
@@ -113,11 +113,11 @@ edit_spelling_begins_without_payload (OpenEnd file) rest = (λ e. omega (arith, 
 edit_spelling_begins_without_payload Prune rest = (λ e. omega (arith, e), λ e. omega (arith, e))
 
 -- nor does a spelling
-spelling_begins_without_payload_line : (last : ℕ) (edits : List Edit) → BeginsWithoutPayloadLine (spelling_with_file_set last edits)
+spelling_begins_without_payload_line : (last : ℕ) (edits : List Edit) → BeginsWithoutPayloadLine (spelling_of_edits_with_file_set last edits)
 spelling_begins_without_payload_line last [] = tt
 spelling_begins_without_payload_line last (edit ∷ edits) =
-    let rest : List ℕ = spelling_with_file_set (file_set_after_edit last edit) edits in
-    elim (edit_needs_file_line_or_none last (file_named_by_edit edit)) [
+    let rest : List ℕ = spelling_of_edits_with_file_set (file_number_set_after_edit last edit) edits in
+    elim (edit_needs_file_line_or_none last (file_number_named_by_edit edit)) [
       | inl u ↦ subst (λ (z : List ℕ). BeginsWithoutPayloadLine (z ++ (spelling_of_edit edit ++ rest))) (sym u.none) (edit_spelling_begins_without_payload edit rest)
       | inr s ↦ subst (λ (z : List ℕ). BeginsWithoutPayloadLine (z ++ (spelling_of_edit edit ++ rest))) (sym s.line) (λ e. omega (arith, e), λ e. omega (arith, e))
     ]
@@ -216,7 +216,7 @@ same_line_and_payload_imply_equal_edits edit other rest more said r s e =
     (m.made ∙ same.0 ∙ ap (λ (x : ParsedScriptLine). edit_of_parsed_line_and_text x n.text) said ∙ sym n.made, same.1)
 
 -- a spelling of an edit has bytes
-spelling_of_edit_is_not_empty : (last : ℕ) (edit : Edit) (edits : List Edit) → last + 1 ≤ 2 ^ 32 → IsSpellable edit → spelling_with_file_set last (edit ∷ edits) ≡ [] → ⊥
+spelling_of_edit_is_not_empty : (last : ℕ) (edit : Edit) (edits : List Edit) → last + 1 ≤ 2 ^ 32 → IsSpellable edit → spelling_of_edits_with_file_set last (edit ∷ edits) ≡ [] → ⊥
 spelling_of_edit_is_not_empty last edit edits fits n e =
     let b = spelling_begins_with_nonpayload_line last edit edits fits n in
     let no : b.line ∷ b.more ≡ [] = sym b.lines ∙ ap physical_lines e in
@@ -224,28 +224,28 @@ spelling_of_edit_is_not_empty last edit edits fits n e =
 
 -- two edits whose spellings begin one text are one if the same file is set for both, and the same is behind them
 same_spelling_in_file_implies_equal_edits : (last : ℕ) (edit other : Edit) (rest more : List ℕ) → IsSpellable edit → IsSpellable other → BeginsWithoutPayloadLine rest → BeginsWithoutPayloadLine more
-    → file_set_after_edit last edit ≡ file_set_after_edit last other
+    → file_number_set_after_edit last edit ≡ file_number_set_after_edit last other
     → spelling_of_edit edit ++ rest ≡ spelling_of_edit other ++ more → (edit ≡ other) × (rest ≡ more)
 same_spelling_in_file_implies_equal_edits last edit other rest more n m r s set e =
     let lines = equal_texts_have_equal_lines _ _ _ _ _ _ (edit_spelling_begins_with_command_line edit rest n) (edit_spelling_begins_with_command_line other more m) e in
     let said : parsed_line_of_edit edit ≡ parsed_line_of_edit other =
-    sym (command_line_of_edit_is_read_back last edit n) ∙ ap (parsed_script_line (file_set_after_edit last edit)) lines.0
+    sym (command_line_of_edit_is_read_back last edit n) ∙ ap (parsed_script_line (file_number_set_after_edit last edit)) lines.0
     ∙ ap (λ (f : ℕ). parsed_script_line f (command_line_of_edit other)) set ∙ command_line_of_edit_is_read_back last other m in
     same_line_and_payload_imply_equal_edits edit other rest more said r s (texts_of_same_physical_lines_are_equal (payload_lines_of_edit edit ++ rest) (payload_lines_of_edit other ++ more) lines.1)
 
 -- the line of a command is no `file` line
-command_spelling_is_no_file_line : (last file : ℕ) (edit : Edit) (rest more : List ℕ) → IsSpellable edit → file + 1 ≤ 2 ^ 32 → spelling_of_edit edit ++ rest ≡ file_setting_line file ++ more → ⊥
+command_spelling_is_no_file_line : (last file : ℕ) (edit : Edit) (rest more : List ℕ) → IsSpellable edit → file + 1 ≤ 2 ^ 32 → spelling_of_edit edit ++ rest ≡ script_line_setting_file_number file ++ more → ⊥
 command_spelling_is_no_file_line last file edit rest more n fits e =
     let lines = equal_texts_have_equal_lines _ _ _ _ _ _ (edit_spelling_begins_with_command_line edit rest n) (file_line_is_first_physical_line file more fits) e in
     let said : parsed_line_of_edit edit ≡ says.File (Some file) =
-    sym (command_line_of_edit_is_read_back last edit n) ∙ ap (parsed_script_line (file_set_after_edit last edit)) lines.0 ∙ file_line_is_read_back (file_set_after_edit last edit) file fits in
+    sym (command_line_of_edit_is_read_back last edit n) ∙ ap (parsed_script_line (file_number_set_after_edit last edit)) lines.0 ∙ file_line_is_read_back (file_number_set_after_edit last edit) file fits in
     property_of_texted_and_whole_edits_holds (λ x. parsed_line_of_edit x ≡ says.File (Some file) → ⊥)
     (λ begun text f. (let no : says.Begin begun ≡ says.File (Some file) = sym (edit_with_text_has_its_command begun text).said ∙ f in cc))
     (λ x whole none f. (let no : says.Whole x ≡ says.File (Some file) = sym whole ∙ f in cc))
     edit said
 
 -- two `file` lines that begin one text set one file, and the same is behind them
-equal_file_lines_have_equal_files : (file other : ℕ) (rest more : List ℕ) → file + 1 ≤ 2 ^ 32 → other + 1 ≤ 2 ^ 32 → file_setting_line file ++ rest ≡ file_setting_line other ++ more
+equal_file_lines_have_equal_files : (file other : ℕ) (rest more : List ℕ) → file + 1 ≤ 2 ^ 32 → other + 1 ≤ 2 ^ 32 → script_line_setting_file_number file ++ rest ≡ script_line_setting_file_number other ++ more
     → (file ≡ other) × (rest ≡ more)
 equal_file_lines_have_equal_files file other rest more fits fit e =
     let lines = equal_texts_have_equal_lines _ _ _ _ _ _ (file_line_is_first_physical_line file rest fits) (file_line_is_first_physical_line other more fit) e in
@@ -254,38 +254,38 @@ equal_file_lines_have_equal_files file other rest more fits fit e =
 
 -- two edits whose spellings, with their `file` lines, begin one text are one, and the same is behind them
 edits_beginning_same_text_are_equal : (last : ℕ) (edit other : Edit) (rest more : List ℕ) → last + 1 ≤ 2 ^ 32 → IsSpellable edit → IsSpellable other → BeginsWithoutPayloadLine rest → BeginsWithoutPayloadLine more
-    → file_line_before_edit last (file_named_by_edit edit) ++ (spelling_of_edit edit ++ rest) ≡ file_line_before_edit last (file_named_by_edit other) ++ (spelling_of_edit other ++ more) → (edit ≡ other) × (rest ≡ more)
+    → file_line_before_edit last (file_number_named_by_edit edit) ++ (spelling_of_edit edit ++ rest) ≡ file_line_before_edit last (file_number_named_by_edit other) ++ (spelling_of_edit other ++ more) → (edit ≡ other) × (rest ≡ more)
 edits_beginning_same_text_are_equal last edit other rest more fits n m r q e =
     let a : List ℕ = spelling_of_edit edit ++ rest in
     let b : List ℕ = spelling_of_edit other ++ more in
-    let known : (z w : List ℕ) → file_line_before_edit last (file_named_by_edit edit) ≡ z → file_line_before_edit last (file_named_by_edit other) ≡ w → z ++ a ≡ w ++ b =
+    let known : (z w : List ℕ) → file_line_before_edit last (file_number_named_by_edit edit) ≡ z → file_line_before_edit last (file_number_named_by_edit other) ≡ w → z ++ a ≡ w ++ b =
     λ z w f g. sym (ap (λ (x : List ℕ). x ++ a) f) ∙ e ∙ ap (λ (x : List ℕ). x ++ b) g in
-    elim (edit_needs_file_line_or_none last (file_named_by_edit edit)) [
-      | inl u ↦ elim (edit_needs_file_line_or_none last (file_named_by_edit other)) [
+    elim (edit_needs_file_line_or_none last (file_number_named_by_edit edit)) [
+      | inl u ↦ elim (edit_needs_file_line_or_none last (file_number_named_by_edit other)) [
         | inl v ↦ same_spelling_in_file_implies_equal_edits last edit other rest more n m r q (u.same ∙ sym v.same) (known [] [] u.none v.none)
-        | inr t ↦ absurd (command_spelling_is_no_file_line last t.to edit rest b n (file_set_by_file_line_fits last other t fits m) (known [] (file_setting_line t.to) u.none t.line))
+        | inr t ↦ absurd (command_spelling_is_no_file_line last t.to edit rest b n (file_set_by_file_line_fits last other t fits m) (known [] (script_line_setting_file_number t.to) u.none t.line))
       ]
-      | inr s ↦ elim (edit_needs_file_line_or_none last (file_named_by_edit other)) [
-        | inl v ↦ absurd (command_spelling_is_no_file_line last s.to other more a m (file_set_by_file_line_fits last edit s fits n) (sym (known (file_setting_line s.to) [] s.line v.none)))
+      | inr s ↦ elim (edit_needs_file_line_or_none last (file_number_named_by_edit other)) [
+        | inl v ↦ absurd (command_spelling_is_no_file_line last s.to other more a m (file_set_by_file_line_fits last edit s fits n) (sym (known (script_line_setting_file_number s.to) [] s.line v.none)))
         | inr t ↦
             let same = equal_file_lines_have_equal_files s.to t.to a b (file_set_by_file_line_fits last edit s fits n) (file_set_by_file_line_fits last other t fits m)
-            (known (file_setting_line s.to) (file_setting_line t.to) s.line t.line) in
+            (known (script_line_setting_file_number s.to) (script_line_setting_file_number t.to) s.line t.line) in
             same_spelling_in_file_implies_equal_edits last edit other rest more n m r q (file_line_sets_file_of_its_edit last edit s ∙ same.0 ∙ sym (file_line_sets_file_of_its_edit last other t)) same.1
       ]
     ]
 
 -- two lists of edits have two spellings where the same file is set
 spelling_with_file_set_is_injective : (last : ℕ) (edits others : List Edit) → last + 1 ≤ 2 ^ 32 → AreSpellable edits → AreSpellable others
-    → spelling_with_file_set last edits ≡ spelling_with_file_set last others → edits ≡ others
+    → spelling_of_edits_with_file_set last edits ≡ spelling_of_edits_with_file_set last others → edits ≡ others
 spelling_with_file_set_is_injective last [] [] fits n m e = refl
 spelling_with_file_set_is_injective last [] (other ∷ others) fits n m e = absurd (spelling_of_edit_is_not_empty last other others fits m.0 (sym e))
 spelling_with_file_set_is_injective last (edit ∷ edits) [] fits n m e = absurd (spelling_of_edit_is_not_empty last edit edits fits n.0 e)
 spelling_with_file_set_is_injective last (edit ∷ edits) (other ∷ others) fits n m e =
-    let f : ℕ = file_set_after_edit last edit in
-    let g : ℕ = file_set_after_edit last other in
-    let same = edits_beginning_same_text_are_equal last edit other (spelling_with_file_set f edits) (spelling_with_file_set g others) fits n.0 m.0
+    let f : ℕ = file_number_set_after_edit last edit in
+    let g : ℕ = file_number_set_after_edit last other in
+    let same = edits_beginning_same_text_are_equal last edit other (spelling_of_edits_with_file_set f edits) (spelling_of_edits_with_file_set g others) fits n.0 m.0
     (spelling_begins_without_payload_line f edits) (spelling_begins_without_payload_line g others) e in
-    let rest : spelling_with_file_set f edits ≡ spelling_with_file_set f others = same.1 ∙ ap (λ (x : Edit). spelling_with_file_set (file_set_after_edit last x) others) (sym same.0) in
+    let rest : spelling_of_edits_with_file_set f edits ≡ spelling_of_edits_with_file_set f others = same.1 ∙ ap (λ (x : Edit). spelling_of_edits_with_file_set (file_number_set_after_edit last x) others) (sym same.0) in
     ap (λ (x : Edit). x ∷ edits) same.0 ∙ ap (λ (xs : List Edit). other ∷ xs) (spelling_with_file_set_is_injective f edits others (file_set_after_edit_fits last edit fits n.0.0) n.1 m.1 rest)
 
 -- THE LAW: two lists of edits have two spellings

@@ -16,8 +16,8 @@ use Rattle.sudoers_edit_script.specs.declared.command_words.EditCommand.TheVaria
 use Rattle.sudoers_edit_script.specs.declared.script_line.CommandFlaw.TheVariants as flaw
 use Rattle.sudoers_edit_script.specs.declared.script_line.ParsedScriptLine.{ParsedScriptLine}
 use Rattle.sudoers_edit_script.specs.declared.script_line.ParsedScriptLine.TheVariants as says
-use Rattle.sudoers_edit_script.specs.Script.{one_based_decimal, word_for_alias_kind, command_words_of_edit, payload_lines_of_edit, file_set_after_edit, is_spellable_word, IsSpellable}
-use Rattle.sudoers_edit_script.specs.ScriptReading.{place_of_word, alias_kinds_by_word, commands_by_word, parsed_single_place, pair_of_places, parsed_two_places, alias_of_kind_or_flaw, parsed_alias_and_word, parsed_line_or_flaw, parsed_one_word_command, parsed_command_arguments, parsed_command_if_ended, parsed_file_line, parsed_words_of_line, edit_completed_with_text}
+use Rattle.sudoers_edit_script.specs.Script.{one_based_decimal, word_for_alias_kind, command_words_of_edit, payload_lines_of_edit, file_number_set_after_edit, is_spellable_word, IsSpellable}
+use Rattle.sudoers_edit_script.specs.ScriptReading.{place_of_word, alias_kinds_by_word, commands_by_word, parsed_single_place, both_places_or_flaw, parsed_two_places, alias_of_kind_or_flaw, parsed_alias_and_word, line_made_of_value_or_flawed, parsed_command_without_arguments, parsed_command_arguments, parsed_command_if_line_ends_in_lf, parsed_file_line, parsed_words_of_line, edit_completed_with_text}
 use Rattle.sudoers_edit_script.proofs.NumberLemmas.{word_of_place_is_its_decimal}
 
 -- what is looked up stands in a row
@@ -70,7 +70,7 @@ word_of_command_is_unique w command e =
 
 -- The words are those of the command of this edit, which needs no `file` line where this file is set.
 abbrev AreCommandWordsOfEdit : ℕ → Edit → List (List ℕ) → Type 0
-AreCommandWordsOfEdit last edit ws = (ws ≡ command_words_of_edit edit) × IsSpellable edit × (file_set_after_edit last edit ≡ last)
+AreCommandWordsOfEdit last edit ws = (ws ≡ command_words_of_edit edit) × IsSpellable edit × (file_number_set_after_edit last edit ≡ last)
 
 -- words that say this where this file is set
 abbrev pub DoWordsMeanParsed : ℕ → ParsedScriptLine → List (List ℕ) → Type 0
@@ -86,13 +86,13 @@ DoWordsMeanParsed last says.Other ws = Unit {0}
 
 -- a place behind a command makes it say so
 word_of_place_gives_meaning : (last : ℕ) (say : ℕ → ParsedScriptLine) (w : List ℕ) (o : Option ℕ) (ws : List (List ℕ)) → place_of_word w ≡ o
-    → ((at : ℕ) → w ≡ one_based_decimal at → at + 1 ≤ 2 ^ 32 → DoWordsMeanParsed last (say at) ws) → DoWordsMeanParsed last (parsed_line_or_flaw say (ok_or o flaw.Number)) ws
+    → ((at : ℕ) → w ≡ one_based_decimal at → at + 1 ≤ 2 ^ 32 → DoWordsMeanParsed last (say at) ws) → DoWordsMeanParsed last (line_made_of_value_or_flawed say (ok_or o flaw.Number)) ws
 word_of_place_gives_meaning last say w (Some at) ws e h = let p = word_of_place_is_its_decimal w at e in h at p.0 p.1
 word_of_place_gives_meaning last say w None ws e h = tt
 
 -- one place behind it does
 command_with_one_place_has_meaning : (last : ℕ) (say : ℕ → ParsedScriptLine) (first : List ℕ) (ws : List (List ℕ)) → ((at : ℕ) → at + 1 ≤ 2 ^ 32 → DoWordsMeanParsed last (say at) (first ∷ one_based_decimal at ∷ []))
-    → DoWordsMeanParsed last (parsed_line_or_flaw say (parsed_single_place ws)) (first ∷ ws)
+    → DoWordsMeanParsed last (line_made_of_value_or_flawed say (parsed_single_place ws)) (first ∷ ws)
 command_with_one_place_has_meaning last say first [] h = tt
 command_with_one_place_has_meaning last say first (w ∷ []) h =
     word_of_place_gives_meaning last say w (place_of_word w) (first ∷ w ∷ []) refl (λ at e fits. subst (λ (z : List ℕ). DoWordsMeanParsed last (say at) (first ∷ z ∷ [])) (sym e) (h at fits))
@@ -100,7 +100,7 @@ command_with_one_place_has_meaning last say first (w ∷ v ∷ ws) h = tt
 
 -- two places
 two_place_words_give_meaning : (last : ℕ) (say : ℕ × ℕ → ParsedScriptLine) (v w : List ℕ) (o p : Option ℕ) (ws : List (List ℕ)) → place_of_word v ≡ o → place_of_word w ≡ p
-    → ((m n : ℕ) → v ≡ one_based_decimal m → w ≡ one_based_decimal n → m + 1 ≤ 2 ^ 32 → n + 1 ≤ 2 ^ 32 → DoWordsMeanParsed last (say (m, n)) ws) → DoWordsMeanParsed last (parsed_line_or_flaw say (pair_of_places o p)) ws
+    → ((m n : ℕ) → v ≡ one_based_decimal m → w ≡ one_based_decimal n → m + 1 ≤ 2 ^ 32 → n + 1 ≤ 2 ^ 32 → DoWordsMeanParsed last (say (m, n)) ws) → DoWordsMeanParsed last (line_made_of_value_or_flawed say (both_places_or_flaw o p)) ws
 two_place_words_give_meaning last say v w (Some m) (Some n) ws e f h = let p = word_of_place_is_its_decimal v m e in let q = word_of_place_is_its_decimal w n f in h m n p.0 q.0 p.1 q.1
 two_place_words_give_meaning last say v w (Some m) None ws e f h = tt
 two_place_words_give_meaning last say v w None p ws e f h = tt
@@ -108,7 +108,7 @@ two_place_words_give_meaning last say v w None p ws e f h = tt
 -- two places behind a command make it say so
 command_with_two_places_has_meaning : (last : ℕ) (say : ℕ × ℕ → ParsedScriptLine) (first : List ℕ) (ws : List (List ℕ))
     → ((m n : ℕ) → m + 1 ≤ 2 ^ 32 → n + 1 ≤ 2 ^ 32 → DoWordsMeanParsed last (say (m, n)) (first ∷ one_based_decimal m ∷ one_based_decimal n ∷ []))
-    → DoWordsMeanParsed last (parsed_line_or_flaw say (parsed_two_places ws)) (first ∷ ws)
+    → DoWordsMeanParsed last (line_made_of_value_or_flawed say (parsed_two_places ws)) (first ∷ ws)
 command_with_two_places_has_meaning last say first [] h = tt
 command_with_two_places_has_meaning last say first (v ∷ []) h = tt
 command_with_two_places_has_meaning last say first (v ∷ w ∷ []) h =
@@ -118,7 +118,7 @@ command_with_two_places_has_meaning last say first (v ∷ w ∷ u ∷ ws) h = tt
 
 -- a kind and a name
 word_of_alias_kind_gives_meaning : (last : ℕ) (say : Kind × List ℕ × List ℕ → ParsedScriptLine) (w name more : List ℕ) (o : Option Kind) (ws : List (List ℕ)) → value_of_matching_row alias_kinds_by_word w ≡ o
-    → ((kind : Kind) → w ≡ word_for_alias_kind kind → is_spellable_word name ≡ true → DoWordsMeanParsed last (say (kind, name, more)) ws) → DoWordsMeanParsed last (parsed_line_or_flaw say (alias_of_kind_or_flaw name more o)) ws
+    → ((kind : Kind) → w ≡ word_for_alias_kind kind → is_spellable_word name ≡ true → DoWordsMeanParsed last (say (kind, name, more)) ws) → DoWordsMeanParsed last (line_made_of_value_or_flawed say (alias_of_kind_or_flaw name more o)) ws
 word_of_alias_kind_gives_meaning last say w name more (Some kind) ws e h =
     elim (cases_Bool (is_spellable_word name)) [
       | inl t ↦ rw t (h kind (word_of_alias_kind_is_unique w kind e) t)
@@ -129,7 +129,7 @@ word_of_alias_kind_gives_meaning last say w name more None ws e h = tt
 -- a kind, a name and one word more behind a command make it say so
 command_with_alias_has_meaning : (last : ℕ) (say : Kind × List ℕ × List ℕ → ParsedScriptLine) (first : List ℕ) (ws : List (List ℕ))
     → ((kind : Kind) (name more : List ℕ) → is_spellable_word name ≡ true → DoWordsMeanParsed last (say (kind, name, more)) (first ∷ word_for_alias_kind kind ∷ name ∷ more ∷ []))
-    → DoWordsMeanParsed last (parsed_line_or_flaw say (parsed_alias_and_word ws)) (first ∷ ws)
+    → DoWordsMeanParsed last (line_made_of_value_or_flawed say (parsed_alias_and_word ws)) (first ∷ ws)
 command_with_alias_has_meaning last say first [] h = tt
 command_with_alias_has_meaning last say first (w ∷ []) h = tt
 command_with_alias_has_meaning last say first (w ∷ name ∷ []) h = tt
@@ -141,15 +141,15 @@ command_with_alias_has_meaning last say first (w ∷ name ∷ more ∷ u ∷ ws)
 -- with a place for that word
 command_with_alias_and_place_has_meaning : (last : ℕ) (say : Kind × List ℕ × List ℕ → ℕ → ParsedScriptLine) (first : List ℕ) (ws : List (List ℕ))
     → ((kind : Kind) (name : List ℕ) (more : List ℕ) (at : ℕ) → is_spellable_word name ≡ true → at + 1 ≤ 2 ^ 32 → DoWordsMeanParsed last (say (kind, name, more) at) (first ∷ word_for_alias_kind kind ∷ name ∷ one_based_decimal at ∷ []))
-    → DoWordsMeanParsed last (parsed_line_or_flaw (λ alias. parsed_line_or_flaw (say alias) (ok_or (place_of_word alias.2) flaw.Number)) (parsed_alias_and_word ws)) (first ∷ ws)
+    → DoWordsMeanParsed last (line_made_of_value_or_flawed (λ alias. line_made_of_value_or_flawed (say alias) (ok_or (place_of_word alias.2) flaw.Number)) (parsed_alias_and_word ws)) (first ∷ ws)
 command_with_alias_and_place_has_meaning last say first ws h =
-    command_with_alias_has_meaning last (λ alias. parsed_line_or_flaw (say alias) (ok_or (place_of_word alias.2) flaw.Number)) first ws (λ kind name more is.
+    command_with_alias_has_meaning last (λ alias. line_made_of_value_or_flawed (say alias) (ok_or (place_of_word alias.2) flaw.Number)) first ws (λ kind name more is.
     word_of_place_gives_meaning last (say (kind, name, more)) more (place_of_word more) (first ∷ word_for_alias_kind kind ∷ name ∷ more ∷ []) refl (λ at e fits.
     subst (λ (z : List ℕ). DoWordsMeanParsed last (say (kind, name, more) at) (first ∷ word_for_alias_kind kind ∷ name ∷ z ∷ [])) (sym e) (h kind name more at is fits)))
 
 -- no word more behind a command makes it say so
 command_of_one_word_has_meaning : (last : ℕ) (edit : Edit) (first : List ℕ) (ws : List (List ℕ)) → AreCommandWordsOfEdit last edit (first ∷ []) → payload_lines_of_edit edit ≡ []
-    → DoWordsMeanParsed last (parsed_one_word_command edit ws) (first ∷ ws)
+    → DoWordsMeanParsed last (parsed_command_without_arguments edit ws) (first ∷ ws)
 command_of_one_word_has_meaning last edit first [] h k = (h, k)
 command_of_one_word_has_meaning last edit first (w ∷ ws) h k = tt
 
@@ -179,7 +179,7 @@ arguments_of_command_have_meaning last set by.Prune ws = command_of_one_word_has
 
 -- so are the words of an ended line, where their first is that of a command
 ended_command_words_have_meaning : (last : ℕ) → last + 1 ≤ 2 ^ 32 → (w : List ℕ) (ws : List (List ℕ)) (o : Option EditCommand) → value_of_matching_row commands_by_word w ≡ o
-    → DoWordsMeanParsed last (parsed_command_if_ended last true ws o) (w ∷ ws)
+    → DoWordsMeanParsed last (parsed_command_if_line_ends_in_lf last true ws o) (w ∷ ws)
 ended_command_words_have_meaning last set w ws None e = tt
 ended_command_words_have_meaning last set w ws (Some command) e =
     subst (λ (z : List ℕ). DoWordsMeanParsed last (parsed_command_arguments last command ws) (z ∷ ws)) (sym (word_of_command_is_unique w command e)) (arguments_of_command_have_meaning last set command ws)

@@ -4,14 +4,14 @@ use Rattle.std.specs.Prelude.{Result, Ok, Err, IfOk, nat_le, ◌==◌}
 use Rattle.std.proofs.lemmas.Bool.{true≢false, cases_Bool, leb-false, eqb-true}
 use Rattle.sudoers_text.specs.Ended.{ends_in_lf}
 use Rattle.sudoers_edit_script.specs.Physical.{physical_lines}
-use Rattle.sudoers_edit_script.specs.Script.{payload_of_text, payload_lines_of_edit, spelling_of_edit, file_named_by_edit, file_setting_line, file_set_after_edit, spelling_with_file_set, spelling_of_edits, IsSpellable, AreSpellable, edit_limit}
-use Rattle.sudoers_edit_script.specs.ScriptReading.{ScriptPosition, Between, Filed, Begun, Going, ReadingOfRemainingLines, edit_before_result, result_within_edit_limit, edit_completed_with_text, fault_of_flawed_line, result_at_file_line, result_at_command_line, result_after_file_line, result_at_first_payload_line, result_at_later_payload_line, edits_from_position, parsed_script_line, has_file_scoped_command, text_of_payload_line, line_without_final_lf, edits_spelled_by_text, MatchesScriptReading}
+use Rattle.sudoers_edit_script.specs.Script.{payload_of_text, payload_lines_of_edit, spelling_of_edit, file_number_named_by_edit, script_line_setting_file_number, file_number_set_after_edit, spelling_of_edits_with_file_set, spelling_of_edits, IsSpellable, AreSpellable, edit_limit}
+use Rattle.sudoers_edit_script.specs.ScriptReading.{ScriptPosition, Between, Filed, Begun, Going, ResultByPositionFileAndCount, edit_before_result, result_within_edit_limit, edit_completed_with_text, fault_of_flawed_line, result_at_file_line, result_at_command_line, result_after_file_line, result_at_first_payload_line, result_at_later_payload_line, edits_from_position, parsed_script_line, is_line_with_file_scoped_command, text_of_payload_line, line_without_final_lf, edits_spelled_by_text, MatchesScriptReading}
 use Rattle.sudoers_edit_script.specs.declared.edit_awaiting_text.EditAwaitingText.{EditAwaitingText}
 use Rattle.sudoers_edit_script.specs.declared.edit.Edit.{Edit}
 use Rattle.sudoers_edit_script.specs.declared.script_line.ParsedScriptLine.{ParsedScriptLine}
 use Rattle.sudoers_edit_script.specs.declared.script_line.ParsedScriptLine.TheVariants as says
-use Rattle.sudoers_edit_script.specs.declared.script.ScriptFault.{ScriptFault}
-use Rattle.sudoers_edit_script.specs.declared.script.ScriptFault.TheVariants as faults
+use Rattle.sudoers_edit_script.specs.declared.script_reader.ScriptFault.{ScriptFault}
+use Rattle.sudoers_edit_script.specs.declared.script_reader.ScriptFault.TheVariants as faults
 use Rattle.sudoers_edit_script.proofs.FileLemmas.{IsFileOfFirstEdit, edit_in_set_file_is_spelled_directly, edit_in_other_file_needs_file_line, text_of_edit_keeps_file_set}
 use Rattle.sudoers_edit_script.proofs.PhysicalLemmas.{IsPhysicalLine, ArePhysicalLines, text_of_joined_lines, physical_lines_are_lines_of_text}
 use Rattle.sudoers_edit_script.proofs.LineLemmas.{command_line_of_edit, edit_with_text_has_its_command, edit_without_payload_is_its_command_line, texted_edit_is_command_line_and_payload, IsCommandLineOfEdit, DoesLineMeanParsed, line_means_what_it_parses_to, file_command_line_names_set_file, file_line_has_no_file_command, text_of_angle_line_is_read_back}
@@ -21,7 +21,7 @@ use Rattle.sudoers_edit_script.proofs.PayloadLemmas.{appended_ended_text_ends_in
 abbrev pub text_read_at_position : ScriptPosition → List ℕ
 text_read_at_position Between = []
 text_read_at_position (Filed None at) = []
-text_read_at_position (Filed (Some file) at) = file_setting_line file
+text_read_at_position (Filed (Some file) at) = script_line_setting_file_number file
 text_read_at_position (Begun begun at) = command_line_of_edit (edit_completed_with_text begun [])
 text_read_at_position (Going begun so_far) = spelling_of_edit (edit_completed_with_text begun so_far)
 
@@ -34,7 +34,7 @@ open_edit_count_at_position (Going begun so_far) = 1
 
 -- The edit that is begun has a spelling, and needs no `file` line where this file is set.
 abbrev pub IsOpenEditInSetFile : ℕ → EditAwaitingText → Type 0
-IsOpenEditInSetFile last begun = IsSpellable (edit_completed_with_text begun []) × (file_set_after_edit last (edit_completed_with_text begun []) ≡ last)
+IsOpenEditInSetFile last begun = IsSpellable (edit_completed_with_text begun []) × (file_number_set_after_edit last (edit_completed_with_text begun []) ≡ last)
 
 -- A `file` line sets another file than this one. An edit that is open needs none, and its text so far ends in LF.
 abbrev pub IsPositionWithFileSet : ℕ → ScriptPosition → Type 0
@@ -49,18 +49,18 @@ abbrev pub IsFirstEditAtPosition : ScriptPosition → List Edit → Type 0
 IsFirstEditAtPosition Between edits = Unit {0}
 IsFirstEditAtPosition (Filed None at) edits = ⊥
 IsFirstEditAtPosition (Filed (Some file) at) edits = IsFileOfFirstEdit (Some file) edits
-IsFirstEditAtPosition (Begun begun at) edits = IsFileOfFirstEdit (file_named_by_edit (edit_completed_with_text begun [])) edits
-IsFirstEditAtPosition (Going begun so_far) edits = IsFileOfFirstEdit (file_named_by_edit (edit_completed_with_text begun [])) edits
+IsFirstEditAtPosition (Begun begun at) edits = IsFileOfFirstEdit (file_number_named_by_edit (edit_completed_with_text begun [])) edits
+IsFirstEditAtPosition (Going begun so_far) edits = IsFileOfFirstEdit (file_number_named_by_edit (edit_completed_with_text begun [])) edits
 
 -- These lines, behind what has been read before them, spell these edits where this file is set.
 pub record SpellsEditsFromPosition (standing : ScriptPosition) (last : ℕ) (lines : List (List ℕ)) (edits : List Edit) (count : ℕ) : Type 0 where
-  pub text : text_read_at_position standing ++ text_of_joined_lines lines ≡ spelling_with_file_set last edits
+  pub text : text_read_at_position standing ++ text_of_joined_lines lines ≡ spelling_of_edits_with_file_set last edits
   pub head : IsFirstEditAtPosition standing edits
   pub few : length edits + count ≤ 65536 + open_edit_count_at_position standing
   pub spellable : AreSpellable edits
 
 -- what the lines behind give is spelled by them
-abbrev pub ReadsOnlySpelledEdits : ReadingOfRemainingLines → List (List ℕ) → Type 0
+abbrev pub ReadsOnlySpelledEdits : ResultByPositionFileAndCount → List (List ℕ) → Type 0
 ReadsOnlySpelledEdits rest lines =
     (standing : ScriptPosition) (last count : ℕ) (edits : List Edit) → last + 1 ≤ 2 ^ 32 → IsPositionWithFileSet last standing → count ≤ 65536
     → rest standing last count ≡ Ok edits → SpellsEditsFromPosition standing last lines edits count
@@ -81,7 +81,7 @@ edits_within_limit_imply_room count r edits e =
 -- COMMANDS
 
 -- the line of a command that is all of its edit, and the lines behind it, spell what they give
-whole_command_line_spells_its_edits : (edit : Edit) (rest : ReadingOfRemainingLines) (lines : List (List ℕ)) (l : List ℕ) (last count : ℕ) (edits : List Edit) → last + 1 ≤ 2 ^ 32
+whole_command_line_spells_its_edits : (edit : Edit) (rest : ResultByPositionFileAndCount) (lines : List (List ℕ)) (l : List ℕ) (last count : ℕ) (edits : List Edit) → last + 1 ≤ 2 ^ 32
     → IsCommandLineOfEdit last edit l → payload_lines_of_edit edit ≡ [] → ReadsOnlySpelledEdits rest lines
     → result_within_edit_limit count (edit_before_result edit (rest Between last (count + 1))) ≡ Ok edits → SpellsEditsFromPosition Between last (l ∷ lines) edits count
 whole_command_line_spells_its_edits edit rest lines l last count edits set told whole behind e =
@@ -98,7 +98,7 @@ whole_command_line_spells_its_edits edit rest lines l last count edits set told 
     })
 
 -- a `file` line that gives edits sets another file
-edits_after_file_line_imply_other_file : (rest : ReadingOfRemainingLines) (last line count file : ℕ) (edits : List Edit) → result_at_file_line rest last line count (Some file) ≡ Ok edits
+edits_after_file_line_imply_other_file : (rest : ResultByPositionFileAndCount) (last line count file : ℕ) (edits : List Edit) → result_at_file_line rest last line count (Some file) ≡ Ok edits
     → ((file == last) ≡ false) × (rest (Filed (Some file) line) last count ≡ Ok edits)
 edits_after_file_line_imply_other_file rest last line count file edits e =
     elim (cases_Bool (file == last)) [
@@ -107,7 +107,7 @@ edits_after_file_line_imply_other_file rest last line count file edits e =
     ]
 
 -- a line where a command has to come, and the lines behind it, spell what they give
-line_between_commands_spells_its_edits : (rest : ReadingOfRemainingLines) (lines : List (List ℕ)) (l : List ℕ) (last line count : ℕ) (edits : List Edit) (said : ParsedScriptLine) → last + 1 ≤ 2 ^ 32
+line_between_commands_spells_its_edits : (rest : ResultByPositionFileAndCount) (lines : List (List ℕ)) (l : List ℕ) (last line count : ℕ) (edits : List Edit) (said : ParsedScriptLine) → last + 1 ≤ 2 ^ 32
     → DoesLineMeanParsed last said l → ReadsOnlySpelledEdits rest lines → count ≤ 65536
     → result_at_command_line rest last line count said ≡ Ok edits → SpellsEditsFromPosition Between last (l ∷ lines) edits count
 line_between_commands_spells_its_edits rest lines l last line count edits (says.Begin begun) set told behind fits e =
@@ -140,8 +140,8 @@ line_between_commands_spells_its_edits rest lines l last line count edits says.U
 line_between_commands_spells_its_edits rest lines l last line count edits says.Other set told behind fits e = cc
 
 -- the first edit that such a line gives, if it names lines, is in the file that is set
-first_file_edit_is_in_set_file : (rest : ReadingOfRemainingLines) (lines : List (List ℕ)) (l : List ℕ) (last line count : ℕ) (edits : List Edit) (said : ParsedScriptLine) → last + 1 ≤ 2 ^ 32
-    → DoesLineMeanParsed last said l → has_file_scoped_command l ≡ true → ReadsOnlySpelledEdits rest lines → count ≤ 65536
+first_file_edit_is_in_set_file : (rest : ResultByPositionFileAndCount) (lines : List (List ℕ)) (l : List ℕ) (last line count : ℕ) (edits : List Edit) (said : ParsedScriptLine) → last + 1 ≤ 2 ^ 32
+    → DoesLineMeanParsed last said l → is_line_with_file_scoped_command l ≡ true → ReadsOnlySpelledEdits rest lines → count ≤ 65536
     → result_at_command_line rest last line count said ≡ Ok edits → IsFileOfFirstEdit (Some last) edits
 first_file_edit_is_in_set_file rest lines l last line count edits (says.Begin begun) set told names behind fits e =
     let r = edits_within_limit_imply_room count (rest (Begun begun line) last (count + 1)) edits e in
@@ -152,7 +152,7 @@ first_file_edit_is_in_set_file rest lines l last line count edits (says.Whole ed
     let b = edits_with_edit_before_have_rest_read edit (rest Between last (count + 1)) edits r.1 in
     subst (λ (es : List Edit). IsFileOfFirstEdit (Some last) es) (sym b.2) (file_command_line_names_set_file last edit l told.0 names)
 first_file_edit_is_in_set_file rest lines l last line count edits (says.File (Some file)) set told names behind fits e =
-    absurd (true≢false (sym names ∙ ap has_file_scoped_command told.0 ∙ file_line_has_no_file_command file told.1))
+    absurd (true≢false (sym names ∙ ap is_line_with_file_scoped_command told.0 ∙ file_line_has_no_file_command file told.1))
 first_file_edit_is_in_set_file rest lines l last line count edits (says.File None) set told names behind fits e =
     let s = behind (Filed None line) last count edits set tt fits e in
     absurd s.head
@@ -163,8 +163,8 @@ first_file_edit_is_in_set_file rest lines l last line count edits says.Unended s
 first_file_edit_is_in_set_file rest lines l last line count edits says.Other set told names behind fits e = cc
 
 -- a line right behind a `file` line, and the lines behind it, spell what they give
-line_after_file_line_spells_its_edits : (rest : ReadingOfRemainingLines) (lines : List (List ℕ)) (l : List ℕ) (last line count at : ℕ) (file : Option ℕ) (edits : List Edit) (names : Bool)
-    → has_file_scoped_command l ≡ names → IsPositionWithFileSet last (Filed file at) → ReadsOnlySpelledEdits rest lines → count ≤ 65536
+line_after_file_line_spells_its_edits : (rest : ResultByPositionFileAndCount) (lines : List (List ℕ)) (l : List ℕ) (last line count at : ℕ) (file : Option ℕ) (edits : List Edit) (names : Bool)
+    → is_line_with_file_scoped_command l ≡ names → IsPositionWithFileSet last (Filed file at) → ReadsOnlySpelledEdits rest lines → count ≤ 65536
     → result_after_file_line (λ f. result_at_command_line rest f line count (parsed_script_line f l)) at file names ≡ Ok edits → SpellsEditsFromPosition (Filed file at) last (l ∷ lines) edits count
 line_after_file_line_spells_its_edits rest lines l last line count at file edits false names fair behind fits e = cc
 line_after_file_line_spells_its_edits rest lines l last line count at None edits true names fair behind fits e = cc
@@ -172,7 +172,7 @@ line_after_file_line_spells_its_edits rest lines l last line count at (Some file
     let s = line_between_commands_spells_its_edits rest lines l file line count edits (parsed_script_line file l) fair.1 (line_means_what_it_parses_to file l fair.1) behind fits e in
     let head : IsFileOfFirstEdit (Some file) edits = first_file_edit_is_in_set_file rest lines l file line count edits (parsed_script_line file l) fair.1 (line_means_what_it_parses_to file l fair.1) names behind fits e in
     record {
-      text = ap (λ (z : List ℕ). file_setting_line file ++ z) s.text ∙ sym (edit_in_other_file_needs_file_line last file edits head fair.0);
+      text = ap (λ (z : List ℕ). script_line_setting_file_number file ++ z) s.text ∙ sym (edit_in_other_file_needs_file_line last file edits head fair.0);
       head = head;
       few = s.few;
       spellable = s.spellable;
@@ -214,7 +214,7 @@ only_unended_payload_line_spells_edits lines l t begun last at count more e is n
     }
 
 -- a line right behind a command that wants a text, and the lines behind it, spell what they give
-first_payload_line_spells_its_edits : (rest : ReadingOfRemainingLines) (lines : List (List ℕ)) (l : List ℕ) (last line count : ℕ) (begun : EditAwaitingText) (at : ℕ) (edits : List Edit) (said : ParsedScriptLine)
+first_payload_line_spells_its_edits : (rest : ResultByPositionFileAndCount) (lines : List (List ℕ)) (l : List ℕ) (last line count : ℕ) (begun : EditAwaitingText) (at : ℕ) (edits : List Edit) (said : ParsedScriptLine)
     → last + 1 ≤ 2 ^ 32 → DoesLineMeanParsed last said l → IsPhysicalLine l → ReadsOnlySpelledEdits rest lines → IsOpenEditInSetFile last begun → count ≤ 65536
     → result_at_first_payload_line rest last line count begun at (text_of_payload_line said l) said ≡ Ok edits → SpellsEditsFromPosition (Begun begun at) last (l ∷ lines) edits count
 first_payload_line_spells_its_edits rest lines l last line count begun at edits says.More set told is behind n fits e =
@@ -265,14 +265,14 @@ last_payload_line_spells_edits lines l t begun last count so_far more e some is 
     }
 
 -- a last line that gives edits is not empty
-last_payload_line_read_is_not_empty : (rest : ReadingOfRemainingLines) (last line count : ℕ) (begun : EditAwaitingText) (so_far t : List ℕ) (edits : List Edit)
+last_payload_line_read_is_not_empty : (rest : ResultByPositionFileAndCount) (last line count : ℕ) (begun : EditAwaitingText) (so_far t : List ℕ) (edits : List Edit)
     → result_at_later_payload_line rest last line count begun so_far t says.Last ≡ Ok edits
     → (t ≡ [] → ⊥) × (edit_before_result (edit_completed_with_text begun (so_far ++ t)) (rest Between last count) ≡ Ok edits)
 last_payload_line_read_is_not_empty rest last line count begun so_far [] edits e = cc
 last_payload_line_read_is_not_empty rest last line count begun so_far (b ∷ t) edits e = (λ z. cc, e)
 
 -- a line that is none of the text, behind it
-command_after_payload_spells_its_edits : (rest : ReadingOfRemainingLines) (lines : List (List ℕ)) (l : List ℕ) (last line count : ℕ) (begun : EditAwaitingText) (so_far : List ℕ) (edits : List Edit) (said : ParsedScriptLine)
+command_after_payload_spells_its_edits : (rest : ResultByPositionFileAndCount) (lines : List (List ℕ)) (l : List ℕ) (last line count : ℕ) (begun : EditAwaitingText) (so_far : List ℕ) (edits : List Edit) (said : ParsedScriptLine)
     → last + 1 ≤ 2 ^ 32 → DoesLineMeanParsed last said l → ReadsOnlySpelledEdits rest lines → IsOpenEditInSetFile last begun → count ≤ 65536
     → edit_before_result (edit_completed_with_text begun so_far) (result_at_command_line rest last line count said) ≡ Ok edits → SpellsEditsFromPosition (Going begun so_far) last (l ∷ lines) edits count
 command_after_payload_spells_its_edits rest lines l last line count begun so_far edits said set told behind n fits e =
@@ -287,7 +287,7 @@ command_after_payload_spells_its_edits rest lines l last line count begun so_far
     })
 
 -- a line behind a part of a text, and the lines behind it, spell what they give
-later_payload_line_spells_its_edits : (rest : ReadingOfRemainingLines) (lines : List (List ℕ)) (l : List ℕ) (last line count : ℕ) (begun : EditAwaitingText) (so_far : List ℕ) (edits : List Edit) (said : ParsedScriptLine) → last + 1 ≤ 2 ^ 32 → DoesLineMeanParsed last said l
+later_payload_line_spells_its_edits : (rest : ResultByPositionFileAndCount) (lines : List (List ℕ)) (l : List ℕ) (last line count : ℕ) (begun : EditAwaitingText) (so_far : List ℕ) (edits : List Edit) (said : ParsedScriptLine) → last + 1 ≤ 2 ^ 32 → DoesLineMeanParsed last said l
     → IsPhysicalLine l → ReadsOnlySpelledEdits rest lines → IsOpenEditInSetFile last begun → ends_in_lf so_far ≡ true → count ≤ 65536
     → result_at_later_payload_line rest last line count begun so_far (text_of_payload_line said l) said ≡ Ok edits
     → SpellsEditsFromPosition (Going begun so_far) last (l ∷ lines) edits count
@@ -341,7 +341,7 @@ line_before_spelled_lines_spells_edits : (l : List ℕ) (lines : List (List ℕ)
 line_before_spelled_lines_spells_edits l lines line is behind Between last count edits set fair fits e =
     line_between_commands_spells_its_edits (edits_from_position lines (line + 1)) lines l last line count edits (parsed_script_line last l) set (line_means_what_it_parses_to last l set) behind fits e
 line_before_spelled_lines_spells_edits l lines line is behind (Filed file at) last count edits set fair fits e =
-    line_after_file_line_spells_its_edits (edits_from_position lines (line + 1)) lines l last line count at file edits (has_file_scoped_command l) refl fair behind fits e
+    line_after_file_line_spells_its_edits (edits_from_position lines (line + 1)) lines l last line count at file edits (is_line_with_file_scoped_command l) refl fair behind fits e
 line_before_spelled_lines_spells_edits l lines line is behind (Begun begun at) last count edits set fair fits e =
     first_payload_line_spells_its_edits (edits_from_position lines (line + 1)) lines l last line count begun at edits (parsed_script_line last l) set (line_means_what_it_parses_to last l set) is behind fair fits e
 line_before_spelled_lines_spells_edits l lines line is behind (Going begun so_far) last count edits set fair fits e =

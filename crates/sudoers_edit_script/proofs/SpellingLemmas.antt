@@ -6,14 +6,14 @@ use Rattle.std.specs.Option.{is_some}
 use Rattle.std.proofs.lemmas.Bool.{true≢false, cases_Bool, lt-leb, or_parts}
 use Rattle.sudoers_text.specs.Ended.{ends_in_lf, has_inner_line_without_lf}
 use Rattle.sudoers_edit_script.specs.Physical.{physical_lines}
-use Rattle.sudoers_edit_script.specs.Script.{payload_of_text, payload_line_of_text_line, payload_lines_of_edit, spelling_of_edit, file_named_by_edit, file_setting_line, file_set_after_edit, spelling_with_file_set, spelling_of_edits, IsSpellable, AreSpellable, edit_limit}
-use Rattle.sudoers_edit_script.specs.ScriptReading.{Between, Filed, Begun, Going, ReadingOfRemainingLines, edit_before_result, result_within_edit_limit, edit_completed_with_text, result_at_command_line, result_after_file_line, result_at_first_payload_line, result_at_later_payload_line, edits_from_position, parsed_script_line, text_of_payload_line, edits_spelled_by_text}
+use Rattle.sudoers_edit_script.specs.Script.{payload_of_text, payload_line_of_text_line, payload_lines_of_edit, spelling_of_edit, file_number_named_by_edit, script_line_setting_file_number, file_number_set_after_edit, spelling_of_edits_with_file_set, spelling_of_edits, IsSpellable, AreSpellable, edit_limit}
+use Rattle.sudoers_edit_script.specs.ScriptReading.{Between, Filed, Begun, Going, ResultByPositionFileAndCount, edit_before_result, result_within_edit_limit, edit_completed_with_text, result_at_command_line, result_after_file_line, result_at_first_payload_line, result_at_later_payload_line, edits_from_position, parsed_script_line, text_of_payload_line, edits_spelled_by_text}
 use Rattle.sudoers_edit_script.specs.declared.edit_awaiting_text.EditAwaitingText.{EditAwaitingText}
 use Rattle.sudoers_edit_script.specs.declared.edit.Edit.{Edit}
 use Rattle.sudoers_edit_script.specs.declared.script_line.ParsedScriptLine.{ParsedScriptLine}
 use Rattle.sudoers_edit_script.specs.declared.script_line.ParsedScriptLine.TheVariants as says
-use Rattle.sudoers_edit_script.specs.declared.script.ScriptFault.{ScriptFault}
-use Rattle.sudoers_edit_script.specs.declared.script.ScriptFault.TheVariants as faults
+use Rattle.sudoers_edit_script.specs.declared.script_reader.ScriptFault.{ScriptFault}
+use Rattle.sudoers_edit_script.specs.declared.script_reader.ScriptFault.TheVariants as faults
 use Rattle.sudoers_edit_script.proofs.FileLemmas.{NeedsFileLine, edit_needs_file_line_or_none, file_set_after_edit_fits, file_line_sets_file_of_its_edit, edit_spelling_begins_with_command_line}
 use Rattle.sudoers_edit_script.proofs.PhysicalLemmas.{IsPhysicalLine, ArePhysicalLines, text_of_joined_lines, physical_lines_are_lines_of_text, unended_line_has_no_lf}
 use Rattle.sudoers_edit_script.proofs.ReadingLemmas.{IsNoPayloadLine, command_after_text_completes_open_edit}
@@ -66,19 +66,19 @@ pub record BeginsWithNonpayloadLine (last : ℕ) (text : List ℕ) : Type 0 wher
 
 -- the lines of a spelling that begins with a `file` line
 file_line_and_command_are_first_lines : (file : ℕ) (edit : Edit) (rest : List ℕ) → file + 1 ≤ 2 ^ 32 → IsSpellable edit
-    → physical_lines (file_setting_line file ++ (spelling_of_edit edit ++ rest)) ≡ file_setting_line file ∷ command_line_of_edit edit ∷ physical_lines (payload_lines_of_edit edit ++ rest)
+    → physical_lines (script_line_setting_file_number file ++ (spelling_of_edit edit ++ rest)) ≡ script_line_setting_file_number file ∷ command_line_of_edit edit ∷ physical_lines (payload_lines_of_edit edit ++ rest)
 file_line_and_command_are_first_lines file edit rest fits h =
-    file_line_is_first_physical_line file (spelling_of_edit edit ++ rest) fits ∙ ap (λ (ls : List (List ℕ)). file_setting_line file ∷ ls) (edit_spelling_begins_with_command_line edit rest h)
+    file_line_is_first_physical_line file (spelling_of_edit edit ++ rest) fits ∙ ap (λ (ls : List (List ℕ)). script_line_setting_file_number file ∷ ls) (edit_spelling_begins_with_command_line edit rest h)
 
 -- a file that a `file` line sets has a number that fits
-pub file_set_by_file_line_fits : (last : ℕ) (edit : Edit) (s : NeedsFileLine last (file_named_by_edit edit)) → last + 1 ≤ 2 ^ 32 → IsSpellable edit → s.to + 1 ≤ 2 ^ 32
+pub file_set_by_file_line_fits : (last : ℕ) (edit : Edit) (s : NeedsFileLine last (file_number_named_by_edit edit)) → last + 1 ≤ 2 ^ 32 → IsSpellable edit → s.to + 1 ≤ 2 ^ 32
 file_set_by_file_line_fits last edit s fits h = subst (λ (f : ℕ). f + 1 ≤ 2 ^ 32) (file_line_sets_file_of_its_edit last edit s) (file_set_after_edit_fits last edit fits h.0)
 
 -- a spelling begins with such a line
-pub spelling_begins_with_nonpayload_line : (last : ℕ) (edit : Edit) (edits : List Edit) → last + 1 ≤ 2 ^ 32 → IsSpellable edit → BeginsWithNonpayloadLine last (spelling_with_file_set last (edit ∷ edits))
+pub spelling_begins_with_nonpayload_line : (last : ℕ) (edit : Edit) (edits : List Edit) → last + 1 ≤ 2 ^ 32 → IsSpellable edit → BeginsWithNonpayloadLine last (spelling_of_edits_with_file_set last (edit ∷ edits))
 spelling_begins_with_nonpayload_line last edit edits fits h =
-    let rest : List ℕ = spelling_with_file_set (file_set_after_edit last edit) edits in
-    elim (edit_needs_file_line_or_none last (file_named_by_edit edit)) [
+    let rest : List ℕ = spelling_of_edits_with_file_set (file_number_set_after_edit last edit) edits in
+    elim (edit_needs_file_line_or_none last (file_number_named_by_edit edit)) [
       | inl u ↦ record {
         line = command_line_of_edit edit;
         more = physical_lines (payload_lines_of_edit edit ++ rest);
@@ -87,16 +87,16 @@ spelling_begins_with_nonpayload_line last edit edits fits h =
             ∙ ap (λ (f : ℕ). parsed_script_line f (command_line_of_edit edit)) u.same) (parsed_command_is_no_payload_line edit);
       }
       | inr s ↦ record {
-        line = file_setting_line s.to;
+        line = script_line_setting_file_number s.to;
         more = command_line_of_edit edit ∷ physical_lines (payload_lines_of_edit edit ++ rest);
         lines = ap (λ (z : List ℕ). physical_lines (z ++ (spelling_of_edit edit ++ rest))) s.line ∙ file_line_and_command_are_first_lines s.to edit rest (file_set_by_file_line_fits last edit s fits h) h;
-        none = parsed_file_line_is_no_payload_line (parsed_script_line last (file_setting_line s.to)) (Some s.to) (file_line_is_read_back last s.to (file_set_by_file_line_fits last edit s fits h));
+        none = parsed_file_line_is_no_payload_line (parsed_script_line last (script_line_setting_file_number s.to)) (Some s.to) (file_line_is_read_back last s.to (file_set_by_file_line_fits last edit s fits h));
       }
     ]
 
 -- a spelling that gives its edits where a command has to come gives them behind a text too
-spelling_read_between_is_read_after_payload : (edits : List Edit) (last count : ℕ) → last + 1 ≤ 2 ^ 32 → AreSpellable edits → ReadsAsEditsBetweenCommands (spelling_with_file_set last edits) last count edits
-    → ReadsAsEditsAfterPayload (spelling_with_file_set last edits) last count edits
+spelling_read_between_is_read_after_payload : (edits : List Edit) (last count : ℕ) → last + 1 ≤ 2 ^ 32 → AreSpellable edits → ReadsAsEditsBetweenCommands (spelling_of_edits_with_file_set last edits) last count edits
+    → ReadsAsEditsAfterPayload (spelling_of_edits_with_file_set last edits) last count edits
 spelling_read_between_is_read_after_payload [] last count fits n h = λ line begun so_far. refl
 spelling_read_between_is_read_after_payload (edit ∷ edits) last count fits n h =
     λ line begun so_far.
@@ -106,10 +106,10 @@ spelling_read_between_is_read_after_payload (edit ∷ edits) last count fits n h
     (sym (ap (λ (ls : List (List ℕ)). edits_from_position ls line Between last count) b.lines) ∙ h line)
 
 -- behind a `file` line the line of an edit in its file is read with that file set
-edit_after_file_line_is_read : (edit : Edit) (last : ℕ) (s : NeedsFileLine last (file_named_by_edit edit)) (ls : List (List ℕ)) (line count : ℕ) → s.to + 1 ≤ 2 ^ 32 → IsSpellable edit
-    → edits_from_position (file_setting_line s.to ∷ command_line_of_edit edit ∷ ls) line Between last count ≡ edits_from_position (command_line_of_edit edit ∷ ls) (line + 1) Between s.to count
+edit_after_file_line_is_read : (edit : Edit) (last : ℕ) (s : NeedsFileLine last (file_number_named_by_edit edit)) (ls : List (List ℕ)) (line count : ℕ) → s.to + 1 ≤ 2 ^ 32 → IsSpellable edit
+    → edits_from_position (script_line_setting_file_number s.to ∷ command_line_of_edit edit ∷ ls) line Between last count ≡ edits_from_position (command_line_of_edit edit ∷ ls) (line + 1) Between s.to count
 edit_after_file_line_is_read edit last s ls line count fits h =
-    let rest : ReadingOfRemainingLines = edits_from_position (command_line_of_edit edit ∷ ls) (line + 1) in
+    let rest : ResultByPositionFileAndCount = edits_from_position (command_line_of_edit edit ∷ ls) (line + 1) in
     let gives : ℕ → Result (List Edit) ScriptFault = λ f. result_at_command_line (edits_from_position ls (line + 1 + 1)) f (line + 1) count (parsed_script_line f (command_line_of_edit edit)) in
     ap (result_at_command_line rest last line count) (file_line_is_read_back last s.to fits)
     ∙ ap (λ (b : Bool). if b then Err (faults.BadWord line) else rest (Filed (Some s.to) line) last count) s.other
@@ -139,23 +139,23 @@ unended_payload_begins_with_angle_line k rest is unended =
     ∙ angle_line_is_first_physical_line k rest (unended_line_has_no_lf k is unended)
 
 -- a line with LF grows a text
-later_bar_line_extends_open_text : (rest : ReadingOfRemainingLines) (last line count : ℕ) (begun : EditAwaitingText) (so_far k : List ℕ) (said : ParsedScriptLine) → said ≡ says.More
+later_bar_line_extends_open_text : (rest : ResultByPositionFileAndCount) (last line count : ℕ) (begun : EditAwaitingText) (so_far k : List ℕ) (said : ParsedScriptLine) → said ≡ says.More
     → result_at_later_payload_line rest last line count begun so_far (text_of_payload_line said (124 ∷ k)) said ≡ rest (Going begun (so_far ++ k)) last count
 later_bar_line_extends_open_text rest last line count begun so_far k said e = rw e refl
 
 -- a line with LF begins a text
-first_bar_line_begins_open_text : (rest : ReadingOfRemainingLines) (last line count : ℕ) (begun : EditAwaitingText) (at : ℕ) (k : List ℕ) (said : ParsedScriptLine) → said ≡ says.More
+first_bar_line_begins_open_text : (rest : ResultByPositionFileAndCount) (last line count : ℕ) (begun : EditAwaitingText) (at : ℕ) (k : List ℕ) (said : ParsedScriptLine) → said ≡ says.More
     → result_at_first_payload_line rest last line count begun at (text_of_payload_line said (124 ∷ k)) said ≡ rest (Going begun k) last count
 first_bar_line_begins_open_text rest last line count begun at k said e = rw e refl
 
 -- a line without LF ends a text
-nonempty_last_line_completes_open_edit : (rest : ReadingOfRemainingLines) (last line count : ℕ) (begun : EditAwaitingText) (so_far k : List ℕ) → IsPhysicalLine k
+nonempty_last_line_completes_open_edit : (rest : ResultByPositionFileAndCount) (last line count : ℕ) (begun : EditAwaitingText) (so_far k : List ℕ) → IsPhysicalLine k
     → result_at_later_payload_line rest last line count begun so_far k says.Last ≡ edit_before_result (edit_completed_with_text begun (so_far ++ k)) (rest Between last count)
 nonempty_last_line_completes_open_edit rest last line count begun so_far [] is = absurd is
 nonempty_last_line_completes_open_edit rest last line count begun so_far (b ∷ bs) is = refl
 
 -- so it does as it is spelled
-later_angle_line_completes_open_edit : (rest : ReadingOfRemainingLines) (last line count : ℕ) (begun : EditAwaitingText) (so_far k : List ℕ) → IsPhysicalLine k
+later_angle_line_completes_open_edit : (rest : ResultByPositionFileAndCount) (last line count : ℕ) (begun : EditAwaitingText) (so_far k : List ℕ) → IsPhysicalLine k
     → result_at_later_payload_line rest last line count begun so_far (text_of_payload_line (parsed_script_line last (62 ∷ k ++ 10 ∷ [])) (62 ∷ k ++ 10 ∷ [])) (parsed_script_line last (62 ∷ k ++ 10 ∷ [])) ≡ edit_before_result (edit_completed_with_text begun (so_far ++ k)) (rest Between last count)
 later_angle_line_completes_open_edit rest last line count begun so_far k is =
     ap (λ (s : ParsedScriptLine). result_at_later_payload_line rest last line count begun so_far (text_of_payload_line s (62 ∷ k ++ 10 ∷ [])) s) (angle_line_parses_as_last_payload last k)
@@ -163,7 +163,7 @@ later_angle_line_completes_open_edit rest last line count begun so_far k is =
     ∙ nonempty_last_line_completes_open_edit rest last line count begun so_far k is
 
 -- a line without LF alone is a text
-first_angle_line_completes_open_edit : (rest : ReadingOfRemainingLines) (last line count : ℕ) (begun : EditAwaitingText) (at : ℕ) (k : List ℕ)
+first_angle_line_completes_open_edit : (rest : ResultByPositionFileAndCount) (last line count : ℕ) (begun : EditAwaitingText) (at : ℕ) (k : List ℕ)
     → result_at_first_payload_line rest last line count begun at (text_of_payload_line (parsed_script_line last (62 ∷ k ++ 10 ∷ [])) (62 ∷ k ++ 10 ∷ [])) (parsed_script_line last (62 ∷ k ++ 10 ∷ [])) ≡ edit_before_result (edit_completed_with_text begun k) (rest Between last count)
 first_angle_line_completes_open_edit rest last line count begun at k =
     ap (λ (s : ParsedScriptLine). result_at_first_payload_line rest last line count begun at (text_of_payload_line s (62 ∷ k ++ 10 ∷ [])) s) (angle_line_parses_as_last_payload last k)
@@ -246,16 +246,16 @@ payload_is_read_back (b ∷ bs) rest last count edits between going line begun a
 -- An edit, where its file is set, and the lines behind it are read, with room for it.
 abbrev IsEditReadBackInItsFile : ℕ → ℕ → List Edit → Edit → Type 0
 IsEditReadBackInItsFile last count edits edit =
-    IsSpellable edit → (rest : List ℕ) → ReadsAsEditsBetweenCommands rest (file_set_after_edit last edit) (count + 1) edits → ReadsAsEditsAfterPayload rest (file_set_after_edit last edit) (count + 1) edits
-    → ReadsAsEditsBetweenCommands (spelling_of_edit edit ++ rest) (file_set_after_edit last edit) count (edit ∷ edits)
+    IsSpellable edit → (rest : List ℕ) → ReadsAsEditsBetweenCommands rest (file_number_set_after_edit last edit) (count + 1) edits → ReadsAsEditsAfterPayload rest (file_number_set_after_edit last edit) (count + 1) edits
+    → ReadsAsEditsBetweenCommands (spelling_of_edit edit ++ rest) (file_number_set_after_edit last edit) count (edit ∷ edits)
 
 -- an edit with a text is read
 edit_with_text_is_read_back : (last count : ℕ) (edits : List Edit) → count < 65536 → (begun : EditAwaitingText) (text : List ℕ) → IsEditReadBackInItsFile last count edits (edit_completed_with_text begun text)
 edit_with_text_is_read_back last count edits fits begun text n rest between going line =
     let edit : Edit = edit_completed_with_text begun text in
     let t = edit_with_text_has_its_command begun text in
-    let file : ℕ = file_set_after_edit last edit in
-    let lines : ReadingOfRemainingLines = edits_from_position (physical_lines (payload_of_text text ++ rest)) (line + 1) in
+    let file : ℕ = file_number_set_after_edit last edit in
+    let lines : ResultByPositionFileAndCount = edits_from_position (physical_lines (payload_of_text text ++ rest)) (line + 1) in
     ap (λ (ls : List (List ℕ)). edits_from_position ls line Between file count) (edit_spelling_begins_with_command_line edit rest n)
     ∙ ap (λ (z : List ℕ). result_at_command_line (edits_from_position (physical_lines (z ++ rest)) (line + 1)) file line count (parsed_script_line file (command_line_of_edit edit))) t.lines
     ∙ ap (result_at_command_line lines file line count) (command_line_of_edit_is_read_back last edit n ∙ t.said)
@@ -266,8 +266,8 @@ edit_with_text_is_read_back last count edits fits begun text n rest between goin
 edit_without_text_is_read_back : (last count : ℕ) (edits : List Edit) → count < 65536 → (edit : Edit) → parsed_line_of_edit edit ≡ says.Whole edit → payload_lines_of_edit edit ≡ []
     → IsEditReadBackInItsFile last count edits edit
 edit_without_text_is_read_back last count edits fits edit said none n rest between going line =
-    let file : ℕ = file_set_after_edit last edit in
-    let lines : ReadingOfRemainingLines = edits_from_position (physical_lines rest) (line + 1) in
+    let file : ℕ = file_number_set_after_edit last edit in
+    let lines : ResultByPositionFileAndCount = edits_from_position (physical_lines rest) (line + 1) in
     ap (λ (ls : List (List ℕ)). edits_from_position ls line Between file count) (edit_spelling_begins_with_command_line edit rest n)
     ∙ ap (λ (z : List ℕ). result_at_command_line (edits_from_position (physical_lines (z ++ rest)) (line + 1)) file line count (parsed_script_line file (command_line_of_edit edit))) none
     ∙ ap (result_at_command_line lines file line count) (command_line_of_edit_is_read_back last edit n ∙ said)
@@ -281,11 +281,11 @@ edit_is_read_back_in_its_file last count edits fits edit =
 
 -- and so it is where its file is not set
 edit_with_file_line_is_read_back : (last count : ℕ) (edit : Edit) (edits : List Edit) → last + 1 ≤ 2 ^ 32 → IsSpellable edit
-    → ReadsAsEditsBetweenCommands (spelling_of_edit edit ++ spelling_with_file_set (file_set_after_edit last edit) edits) (file_set_after_edit last edit) count (edit ∷ edits)
-    → ReadsAsEditsBetweenCommands (spelling_with_file_set last (edit ∷ edits)) last count (edit ∷ edits)
+    → ReadsAsEditsBetweenCommands (spelling_of_edit edit ++ spelling_of_edits_with_file_set (file_number_set_after_edit last edit) edits) (file_number_set_after_edit last edit) count (edit ∷ edits)
+    → ReadsAsEditsBetweenCommands (spelling_of_edits_with_file_set last (edit ∷ edits)) last count (edit ∷ edits)
 edit_with_file_line_is_read_back last count edit edits fits n gives line =
-    let rest : List ℕ = spelling_with_file_set (file_set_after_edit last edit) edits in
-    elim (edit_needs_file_line_or_none last (file_named_by_edit edit)) [
+    let rest : List ℕ = spelling_of_edits_with_file_set (file_number_set_after_edit last edit) edits in
+    elim (edit_needs_file_line_or_none last (file_number_named_by_edit edit)) [
       | inl u ↦
           ap (λ (z : List ℕ). edits_from_position (physical_lines (z ++ (spelling_of_edit edit ++ rest))) line Between last count) u.none
           ∙ subst (λ (f : ℕ). edits_from_position (physical_lines (spelling_of_edit edit ++ rest)) line Between f count ≡ Ok (edit ∷ edits)) u.same (gives line)
@@ -299,14 +299,14 @@ edit_with_file_line_is_read_back last count edit edits fits n gives line =
 
 -- a spelling is read, with room for it
 spelling_with_file_set_is_read_back : (edits : List Edit) → AreSpellable edits → (last count : ℕ) → last + 1 ≤ 2 ^ 32 → length edits + count ≤ 65536
-    → ReadsAsEditsBetweenCommands (spelling_with_file_set last edits) last count edits
+    → ReadsAsEditsBetweenCommands (spelling_of_edits_with_file_set last edits) last count edits
 spelling_with_file_set_is_read_back [] n last count set fits = λ line. refl
 spelling_with_file_set_is_read_back (edit ∷ edits) n last count set fits =
-    let file : ℕ = file_set_after_edit last edit in
+    let file : ℕ = file_number_set_after_edit last edit in
     let set_file : file + 1 ≤ 2 ^ 32 = file_set_after_edit_fits last edit set n.0.0 in
-    let behind : ReadsAsEditsBetweenCommands (spelling_with_file_set file edits) file (count + 1) edits = spelling_with_file_set_is_read_back edits n.1 file (count + 1) set_file (omega (arith, fits)) in
+    let behind : ReadsAsEditsBetweenCommands (spelling_of_edits_with_file_set file edits) file (count + 1) edits = spelling_with_file_set_is_read_back edits n.1 file (count + 1) set_file (omega (arith, fits)) in
     edit_with_file_line_is_read_back last count edit edits set n.0
-    (edit_is_read_back_in_its_file last count edits (omega (arith, fits)) edit n.0 (spelling_with_file_set file edits) behind (spelling_read_between_is_read_after_payload edits file (count + 1) set_file n.1 behind))
+    (edit_is_read_back_in_its_file last count edits (omega (arith, fits)) edit n.0 (spelling_of_edits_with_file_set file edits) behind (spelling_read_between_is_read_after_payload edits file (count + 1) set_file n.1 behind))
 
 -- THE LAW: the spelling of a list of edits is read as that list
 pub spelling_of_edits_is_read_back : (edits : List Edit) → AreSpellable edits → length edits ≤ edit_limit → edits_spelled_by_text (spelling_of_edits edits) ≡ Ok edits

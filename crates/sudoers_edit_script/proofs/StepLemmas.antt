@@ -4,13 +4,13 @@ use Rattle.std.specs.Prelude.{Result, Ok, Err, nat_le, codes}
 use Rattle.std.proofs.lemmas.Bool.{cases_Bool, leb-true, leb-false}
 use Rattle.sudoers_text.specs.Ended.{ends_in_lf}
 use Rattle.sudoers_edit_script.specs.Script.{command_words_of_edit, words_joined_by_spaces, one_based_decimal}
-use Rattle.sudoers_edit_script.specs.ScriptReading.{ScriptPosition, Between, Filed, Begun, Going, ReadingOfRemainingLines, edit_before_result, result_within_edit_limit, edit_completed_with_text, fault_of_flawed_line, result_at_file_line, result_at_command_line, result_after_file_line, result_at_first_payload_line, result_at_later_payload_line, edits_from_position, parsed_script_line, has_file_scoped_command, text_of_payload_line}
+use Rattle.sudoers_edit_script.specs.ScriptReading.{ScriptPosition, Between, Filed, Begun, Going, ResultByPositionFileAndCount, edit_before_result, result_within_edit_limit, edit_completed_with_text, fault_of_flawed_line, result_at_file_line, result_at_command_line, result_after_file_line, result_at_first_payload_line, result_at_later_payload_line, edits_from_position, parsed_script_line, is_line_with_file_scoped_command, text_of_payload_line}
 use Rattle.sudoers_edit_script.specs.declared.edit_awaiting_text.EditAwaitingText.{EditAwaitingText}
 use Rattle.sudoers_edit_script.specs.declared.edit.Edit.{Edit}
 use Rattle.sudoers_edit_script.specs.declared.script_line.ParsedScriptLine.{ParsedScriptLine}
 use Rattle.sudoers_edit_script.specs.declared.script_line.ParsedScriptLine.TheVariants as says
-use Rattle.sudoers_edit_script.specs.declared.script.ScriptFault.{ScriptFault}
-use Rattle.sudoers_edit_script.specs.declared.script.ScriptFault.TheVariants as faults
+use Rattle.sudoers_edit_script.specs.declared.script_reader.ScriptFault.{ScriptFault}
+use Rattle.sudoers_edit_script.specs.declared.script_reader.ScriptFault.TheVariants as faults
 use Rattle.sudoers_edit_script.proofs.CommandLemmas.{IsParsedCommandOrFlaw, line_with_file_command_parses_as_command}
 use Rattle.sudoers_edit_script.proofs.LineLemmas.{IsCommandLineOfEdit, DoesLineMeanParsed, line_means_what_it_parses_to}
 use Rattle.sudoers_edit_script.proofs.ToldLemmas.{FailsAtLine, IsFaultReportedAsResult, IsLivePosition, GoesOnOrFailsAtLine, line_with_bad_word_fails, edit_before_edits_joins_them, edit_before_result_is_result_after_one, result_after_no_edits_is_result, bar_before_ended_text_ends_in_lf, body_and_lf_end_in_lf, flawed_line_fails, count_below_limit_keeps_result, count_at_limit_gives_too_many, result_at_line_from_position, fault_between_commands_is_reported_elsewhere, command_beyond_limit_fails}
@@ -44,7 +44,7 @@ whole_command_line_goes_on_or_fails edit text last line count set told fits =
 -- FILE LINES
 
 -- a command behind a `file` line is one too many
-command_beyond_limit_is_too_many : (rest : ReadingOfRemainingLines) (file line count : ℕ) (said : ParsedScriptLine) → IsParsedCommandOrFlaw said → nat_le 65536 count ≡ true
+command_beyond_limit_is_too_many : (rest : ResultByPositionFileAndCount) (file line count : ℕ) (said : ParsedScriptLine) → IsParsedCommandOrFlaw said → nat_le 65536 count ≡ true
     → result_at_command_line rest file line count said ≡ Err faults.TooMany
 command_beyond_limit_is_too_many rest file line count (says.Begin begun) is t = count_at_limit_gives_too_many count (rest (Begun begun line) file (count + 1)) t
 command_beyond_limit_is_too_many rest file line count (says.Whole edit) is t = count_at_limit_gives_too_many count (edit_before_result edit (rest Between file (count + 1))) t
@@ -61,7 +61,7 @@ reading_after_file_line_at_limit_fails : (lines : List (List ℕ)) (file last li
 reading_after_file_line_at_limit_fails [] file last line count fits t = record { fault = faults.BadWord line; gives = refl; told = inl refl }
 reading_after_file_line_at_limit_fails (text ∷ lines) file last line count fits t =
     let gives : ℕ → Result (List Edit) ScriptFault = λ f. result_at_command_line (edits_from_position lines (line + 1 + 1)) f (line + 1) count (parsed_script_line f text) in
-    elim (cases_Bool (has_file_scoped_command text)) [
+    elim (cases_Bool (is_line_with_file_scoped_command text)) [
       | inl y ↦ record {
         fault = faults.TooMany;
         gives = ap (result_after_file_line gives line (Some file)) y
@@ -76,7 +76,7 @@ reading_after_file_line_without_number_fails : (lines : List (List ℕ)) (last l
 reading_after_file_line_without_number_fails [] last line count = record { fault = faults.BadWord line; gives = refl; told = inl refl }
 reading_after_file_line_without_number_fails (text ∷ lines) last line count =
     let gives : ℕ → Result (List Edit) ScriptFault = λ f. result_at_command_line (edits_from_position lines (line + 1 + 1)) f (line + 1) count (parsed_script_line f text) in
-    elim (cases_Bool (has_file_scoped_command text)) [
+    elim (cases_Bool (is_line_with_file_scoped_command text)) [
       | inl y ↦ record { fault = faults.BadNumber line; gives = ap (result_after_file_line gives line None) y; told = refl }
       | inr n ↦ record { fault = faults.BadWord line; gives = ap (result_after_file_line gives line None) n; told = inl refl }
     ]
@@ -152,7 +152,7 @@ command_line_goes_on_or_fails says.Other text last line count set told pos fits 
 -- A LINE BEHIND A `FILE` LINE
 
 -- a line right behind a `file` line
-filed_line_goes_on_or_fails : (text : List ℕ) (file at last line count : ℕ) (names : Bool) → has_file_scoped_command text ≡ names → 0 < line → IsLivePosition (Filed (Some file) at) line count
+filed_line_goes_on_or_fails : (text : List ℕ) (file at last line count : ℕ) (names : Bool) → is_line_with_file_scoped_command text ≡ names → 0 < line → IsLivePosition (Filed (Some file) at) line count
     → GoesOnOrFailsAtLine (λ rest. result_after_file_line (λ f. result_at_command_line rest f line count (parsed_script_line f text)) at (Some file) names) text (Filed (Some file) at) last line count
 filed_line_goes_on_or_fails text file at last line count false names pos live =
     inr (λ lines. record { fault = faults.BadWord at; gives = refl; told = inr (live.0, live.1, refl) })
@@ -181,8 +181,8 @@ filed_line_goes_on_or_fails text file at last line count true names pos live =
 -- THE FIRST LINE OF A TEXT
 
 -- no text behind a command
-missing_payload_fails : (result : ReadingOfRemainingLines → Result (List Edit) ScriptFault) (last line count : ℕ) (begun : EditAwaitingText) (at : ℕ) → (at + 1 ≡ line) × (0 < at)
-    → ((rest : ReadingOfRemainingLines) → result rest ≡ Err (faults.NoPayload at)) → FailsAtLine result (Begun begun at) last line count
+missing_payload_fails : (result : ResultByPositionFileAndCount → Result (List Edit) ScriptFault) (last line count : ℕ) (begun : EditAwaitingText) (at : ℕ) → (at + 1 ≡ line) × (0 < at)
+    → ((rest : ResultByPositionFileAndCount) → result rest ≡ Err (faults.NoPayload at)) → FailsAtLine result (Begun begun at) last line count
 missing_payload_fails result last line count begun at placed gives lines = record { fault = faults.NoPayload at; gives = gives (edits_from_position lines (line + 1)); told = (placed.0, placed.1, refl) }
 
 -- a line right behind a command that wants a text
@@ -298,7 +298,7 @@ pub script_line_goes_on_or_fails : (standing : ScriptPosition) (text : List ℕ)
     → GoesOnOrFailsAtLine (result_at_line_from_position standing last line count text) text standing last line count
 script_line_goes_on_or_fails Between text last line count pos set live fits = command_line_goes_on_or_fails (parsed_script_line last text) text last line count set (line_means_what_it_parses_to last text set) pos fits
 script_line_goes_on_or_fails (Filed None at) text last line count pos set live fits = absurd live
-script_line_goes_on_or_fails (Filed (Some file) at) text last line count pos set live fits = filed_line_goes_on_or_fails text file at last line count (has_file_scoped_command text) refl pos live
+script_line_goes_on_or_fails (Filed (Some file) at) text last line count pos set live fits = filed_line_goes_on_or_fails text file at last line count (is_line_with_file_scoped_command text) refl pos live
 script_line_goes_on_or_fails (Begun begun at) text last line count pos set live fits =
     first_payload_line_goes_on_or_fails (parsed_script_line last text) text (text_of_payload_line (parsed_script_line last text) text) last line count begun at set (line_means_what_it_parses_to last text set) live fits
 script_line_goes_on_or_fails (Going begun so_far) text last line count pos set live fits =

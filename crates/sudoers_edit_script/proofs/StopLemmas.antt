@@ -8,8 +8,8 @@ use Rattle.sudoers_edit_script.specs.ScriptReading.{ScriptPosition, Between, Fil
 use Rattle.sudoers_edit_script.specs.internal.ScriptStanding.{result_after_edits}
 use Rattle.sudoers_edit_script.specs.declared.edit.Edit.{Edit}
 use Rattle.sudoers_edit_script.specs.declared.edit.Edit.TheVariants.{EndLine}
-use Rattle.sudoers_edit_script.specs.declared.script.ScriptFault.{ScriptFault}
-use Rattle.sudoers_edit_script.specs.declared.script.ScriptFault.TheVariants as faults
+use Rattle.sudoers_edit_script.specs.declared.script_reader.ScriptFault.{ScriptFault}
+use Rattle.sudoers_edit_script.specs.declared.script_reader.ScriptFault.TheVariants as faults
 use Rattle.sudoers_edit_script.proofs.PhysicalLemmas.{ArePhysicalLines, text_without_lf_and_lf_are_line}
 use Rattle.sudoers_edit_script.proofs.ScriptLemmas.{open_edit_count_at_position}
 use Rattle.sudoers_edit_script.proofs.StepLemmas.{script_line_goes_on_or_fails}

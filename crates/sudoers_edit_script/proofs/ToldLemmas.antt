@@ -3,20 +3,20 @@ use Rattle.std.proofs.Common.{◌≡◌, ◌⊎◌, ℕ, ◌+◌, ◌^◌, ◌<�
 use Rattle.std.specs.Prelude.{Result, Ok, Err, nat_le}
 use Rattle.std.proofs.lemmas.Bool.{false≢true, leb-true}
 use Rattle.sudoers_text.specs.Ended.{ends_in_lf}
-use Rattle.sudoers_edit_script.specs.ScriptReading.{ScriptPosition, Between, Filed, Begun, Going, ReadingOfRemainingLines, edit_before_result, result_within_edit_limit, fault_of_flawed_line, result_at_command_line, result_after_file_line, result_at_first_payload_line, result_at_later_payload_line, edits_from_position, parsed_script_line, has_file_scoped_command, text_of_payload_line}
+use Rattle.sudoers_edit_script.specs.ScriptReading.{ScriptPosition, Between, Filed, Begun, Going, ResultByPositionFileAndCount, edit_before_result, result_within_edit_limit, fault_of_flawed_line, result_at_command_line, result_after_file_line, result_at_first_payload_line, result_at_later_payload_line, edits_from_position, parsed_script_line, is_line_with_file_scoped_command, text_of_payload_line}
 use Rattle.sudoers_edit_script.specs.internal.ScriptStanding.{result_after_edits}
 use Rattle.sudoers_edit_script.specs.declared.edit.Edit.{Edit}
 use Rattle.sudoers_edit_script.specs.declared.script_line.CommandFlaw.{CommandFlaw}
 use Rattle.sudoers_edit_script.specs.declared.script_line.CommandFlaw.TheVariants as flaw
-use Rattle.sudoers_edit_script.specs.declared.script.ScriptFault.{ScriptFault}
-use Rattle.sudoers_edit_script.specs.declared.script.ScriptFault.TheVariants as faults
+use Rattle.sudoers_edit_script.specs.declared.script_reader.ScriptFault.{ScriptFault}
+use Rattle.sudoers_edit_script.specs.declared.script_reader.ScriptFault.TheVariants as faults
 use Rattle.sudoers_edit_script.proofs.EndLemmas.{text_with_lf_added_ends_in_lf}
 use Rattle.sudoers_edit_script.proofs.ScriptLemmas.{open_edit_count_at_position}
 
 -- what a line does, by where it stands
-abbrev pub result_at_line_from_position : ScriptPosition → ℕ → ℕ → ℕ → List ℕ → ReadingOfRemainingLines → Result (List Edit) ScriptFault
+abbrev pub result_at_line_from_position : ScriptPosition → ℕ → ℕ → ℕ → List ℕ → ResultByPositionFileAndCount → Result (List Edit) ScriptFault
 result_at_line_from_position Between last line count text rest = result_at_command_line rest last line count (parsed_script_line last text)
-result_at_line_from_position (Filed file at) last line count text rest = result_after_file_line (λ f. result_at_command_line rest f line count (parsed_script_line f text)) at file (has_file_scoped_command text)
+result_at_line_from_position (Filed file at) last line count text rest = result_after_file_line (λ f. result_at_command_line rest f line count (parsed_script_line f text)) at file (is_line_with_file_scoped_command text)
 result_at_line_from_position (Begun begun at) last line count text rest = result_at_first_payload_line rest last line count begun at (text_of_payload_line (parsed_script_line last text) text) (parsed_script_line last text)
 result_at_line_from_position (Going begun so_far) last line count text rest = result_at_later_payload_line rest last line count begun so_far (text_of_payload_line (parsed_script_line last text) text) (parsed_script_line last text)
 
@@ -49,12 +49,12 @@ IsFaultReportedAtPosition faults.TooMany line alone standing count = (edits : Li
 IsFaultReportedAtPosition faults.NoMemory line alone standing count = ⊥
 
 -- A line after which the reading goes on.
-pub record GoesOnAfterLine (result : ReadingOfRemainingLines → Result (List Edit) ScriptFault) (text : List ℕ) (standing : ScriptPosition) (line count : ℕ) : Type 0 where
+pub record GoesOnAfterLine (result : ResultByPositionFileAndCount → Result (List Edit) ScriptFault) (text : List ℕ) (standing : ScriptPosition) (line count : ℕ) : Type 0 where
   pub edits : List Edit
   pub next : ScriptPosition
   pub file : ℕ
   pub total : ℕ
-  pub gives : (rest : ReadingOfRemainingLines) → result rest ≡ result_after_edits edits (rest next file total)
+  pub gives : (rest : ResultByPositionFileAndCount) → result rest ≡ result_after_edits edits (rest next file total)
   pub ended : ends_in_lf text ≡ true
   pub live : IsLivePosition next (line + 1) total
   pub set : file + 1 ≤ 2 ^ 32
@@ -68,11 +68,11 @@ pub record IsFaultReportedAsResult (result : Result (List Edit) ScriptFault) (st
   pub told : IsFaultReportedAtPosition fault line (edits_from_position [] line standing last count) standing count
 
 -- A line at which the reading fails, whatever lines follow.
-abbrev pub FailsAtLine : (ReadingOfRemainingLines → Result (List Edit) ScriptFault) → ScriptPosition → ℕ → ℕ → ℕ → Type 0
+abbrev pub FailsAtLine : (ResultByPositionFileAndCount → Result (List Edit) ScriptFault) → ScriptPosition → ℕ → ℕ → ℕ → Type 0
 FailsAtLine result standing last line count = (lines : List (List ℕ)) → IsFaultReportedAsResult (result (edits_from_position lines (line + 1))) standing last line count
 
 -- After a line the reading goes on, or it fails there.
-abbrev pub GoesOnOrFailsAtLine : (ReadingOfRemainingLines → Result (List Edit) ScriptFault) → List ℕ → ScriptPosition → ℕ → ℕ → ℕ → Type 0
+abbrev pub GoesOnOrFailsAtLine : (ResultByPositionFileAndCount → Result (List Edit) ScriptFault) → List ℕ → ScriptPosition → ℕ → ℕ → ℕ → Type 0
 GoesOnOrFailsAtLine result text standing last line count = GoesOnAfterLine result text standing line count ⊎ FailsAtLine result standing last line count
 
 -- nothing before
@@ -110,19 +110,19 @@ count_below_limit_keeps_result count r f = rw f refl
 -- FAULTS
 
 -- one command too many
-pub command_beyond_limit_fails : (result : ReadingOfRemainingLines → Result (List Edit) ScriptFault) (last line count : ℕ) → count ≤ 65536 → nat_le 65536 count ≡ true
-    → ((rest : ReadingOfRemainingLines) → result rest ≡ Err faults.TooMany) → FailsAtLine result Between last line count
+pub command_beyond_limit_fails : (result : ResultByPositionFileAndCount → Result (List Edit) ScriptFault) (last line count : ℕ) → count ≤ 65536 → nat_le 65536 count ≡ true
+    → ((rest : ResultByPositionFileAndCount) → result rest ≡ Err faults.TooMany) → FailsAtLine result Between last line count
 command_beyond_limit_fails result last line count fits t gives lines =
     let full : 65536 ≤ count = leb-true 65536 count t in
     record { fault = faults.TooMany; gives = gives (edits_from_position lines (line + 1)); told = ([], refl, omega arith) }
 
 -- a line that may not stand there
-pub line_with_bad_word_fails : (result : ReadingOfRemainingLines → Result (List Edit) ScriptFault) (standing : ScriptPosition) (last line count : ℕ)
-    → ((rest : ReadingOfRemainingLines) → result rest ≡ Err (faults.BadWord line)) → FailsAtLine result standing last line count
+pub line_with_bad_word_fails : (result : ResultByPositionFileAndCount → Result (List Edit) ScriptFault) (standing : ScriptPosition) (last line count : ℕ)
+    → ((rest : ResultByPositionFileAndCount) → result rest ≡ Err (faults.BadWord line)) → FailsAtLine result standing last line count
 line_with_bad_word_fails result standing last line count gives lines = record { fault = faults.BadWord line; gives = gives (edits_from_position lines (line + 1)); told = inl refl }
 
 -- a line with a flaw
-pub flawed_line_fails : (f : CommandFlaw) (result : ReadingOfRemainingLines → Result (List Edit) ScriptFault) (last line count : ℕ) → ((rest : ReadingOfRemainingLines) → result rest ≡ Err (fault_of_flawed_line f line))
+pub flawed_line_fails : (f : CommandFlaw) (result : ResultByPositionFileAndCount → Result (List Edit) ScriptFault) (last line count : ℕ) → ((rest : ResultByPositionFileAndCount) → result rest ≡ Err (fault_of_flawed_line f line))
     → FailsAtLine result Between last line count
 flawed_line_fails flaw.Word result last line count gives = line_with_bad_word_fails result Between last line count gives
 flawed_line_fails flaw.Number result last line count gives = λ lines. record { fault = faults.BadNumber line; gives = gives (edits_from_position lines (line + 1)); told = refl }

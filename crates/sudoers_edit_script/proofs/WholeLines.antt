@@ -3,7 +3,7 @@ use Rattle.std.proofs.Common.{◌≡◌, ◌≢◌, ℕ, ◌+◌, ◌≤◌, ◌
 use Rattle.std.specs.List.{flat_map, AllByRecursion}
 use Rattle.sudoers_text.specs.Ended.{ends_in_lf}
 use Rattle.sudoers_edit_script.specs.Physical.{physical_lines}
-use Rattle.sudoers_edit_script.specs.Script.{payload_of_text, payload_line_of_text_line, payload_lines_of_edit, spelling_of_edit, file_named_by_edit, file_setting_line, file_line_before_edit, file_set_after_edit, spelling_with_file_set, spelling_of_edits, IsSpellable, AreSpellable}
+use Rattle.sudoers_edit_script.specs.Script.{payload_of_text, payload_line_of_text_line, payload_lines_of_edit, spelling_of_edit, file_number_named_by_edit, script_line_setting_file_number, file_line_before_edit, file_number_set_after_edit, spelling_of_edits_with_file_set, spelling_of_edits, IsSpellable, AreSpellable}
 use Rattle.sudoers_edit_script.specs.ScriptReading.{edit_completed_with_text}
 use Rattle.sudoers_edit_script.specs.declared.edit.Edit.{Edit}
 use Rattle.sudoers_edit_script.specs.declared.edit.Edit.TheVariants.{Insert, Delete, Move, AddMember, DropMember, AddDef, DropDef, Rename, EndLine, OpenEnd, Prune}
@@ -61,12 +61,12 @@ command_line_is_whole_line edit n = record {
 }
 
 -- the `file` line before a command, if there is one
-file_line_before_edit_is_whole_lines : (last : ℕ) (edit : Edit) → last + 1 ≤ 2 ^ 32 → IsSpellable edit → IsWholeLinesWithoutPercent (file_line_before_edit last (file_named_by_edit edit))
+file_line_before_edit_is_whole_lines : (last : ℕ) (edit : Edit) → last + 1 ≤ 2 ^ 32 → IsSpellable edit → IsWholeLinesWithoutPercent (file_line_before_edit last (file_number_named_by_edit edit))
 file_line_before_edit_is_whole_lines last edit fits n =
-    elim (edit_needs_file_line_or_none last (file_named_by_edit edit)) [
+    elim (edit_needs_file_line_or_none last (file_number_named_by_edit edit)) [
       | inl u ↦ subst IsWholeLinesWithoutPercent (sym u.none) empty_text_is_whole_lines
       | inr s ↦ subst IsWholeLinesWithoutPercent (sym s.line) (record {
-        lines = file_setting_line s.to ∷ [];
+        lines = script_line_setting_file_number s.to ∷ [];
         before = λ rest. file_line_is_first_physical_line s.to rest (file_set_by_file_line_fits last edit s fits n);
         plain = (λ e. omega (arith, e), tt);
       })
@@ -102,12 +102,12 @@ spelling_of_edit_is_whole_lines edit =
     edit
 
 -- edits, where this file is set
-spelling_with_file_set_is_whole_lines : (last : ℕ) (edits : List Edit) → last + 1 ≤ 2 ^ 32 → AreSpellable edits → IsWholeLinesWithoutPercent (spelling_with_file_set last edits)
+spelling_with_file_set_is_whole_lines : (last : ℕ) (edits : List Edit) → last + 1 ≤ 2 ^ 32 → AreSpellable edits → IsWholeLinesWithoutPercent (spelling_of_edits_with_file_set last edits)
 spelling_with_file_set_is_whole_lines last [] fits n = empty_text_is_whole_lines
 spelling_with_file_set_is_whole_lines last (edit ∷ edits) fits n =
-    let rest : List ℕ = spelling_with_file_set (file_set_after_edit last edit) edits in
-    appended_whole_lines_are_whole_lines (file_line_before_edit last (file_named_by_edit edit)) (spelling_of_edit edit ++ rest) (file_line_before_edit_is_whole_lines last edit fits n.0)
-    (appended_whole_lines_are_whole_lines (spelling_of_edit edit) rest (spelling_of_edit_is_whole_lines edit n.0) (spelling_with_file_set_is_whole_lines (file_set_after_edit last edit) edits (file_set_after_edit_fits last edit fits n.0.0) n.1))
+    let rest : List ℕ = spelling_of_edits_with_file_set (file_number_set_after_edit last edit) edits in
+    appended_whole_lines_are_whole_lines (file_line_before_edit last (file_number_named_by_edit edit)) (spelling_of_edit edit ++ rest) (file_line_before_edit_is_whole_lines last edit fits n.0)
+    (appended_whole_lines_are_whole_lines (spelling_of_edit edit) rest (spelling_of_edit_is_whole_lines edit n.0) (spelling_with_file_set_is_whole_lines (file_number_set_after_edit last edit) edits (file_set_after_edit_fits last edit fits n.0.0) n.1))
 
 spelling_of_edits_is_whole_lines : (edits : List Edit) → AreSpellable edits → IsWholeLinesWithoutPercent (spelling_of_edits edits)
 spelling_of_edits_is_whole_lines edits n = spelling_with_file_set_is_whole_lines 0 edits (omega arith) n

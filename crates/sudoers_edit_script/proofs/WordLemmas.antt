@@ -12,7 +12,7 @@ use Rattle.sudoers_edit_script.specs.declared.edit.Edit.{Edit}
 use Rattle.sudoers_edit_script.specs.declared.edit.Edit.TheVariants.{Insert, Delete, Move, AddMember, DropMember, AddDef, DropDef, Rename, EndLine, OpenEnd, Prune}
 use Rattle.sudoers_edit_script.specs.Script.{one_based_decimal, word_for_alias_kind, command_words_of_edit, words_joined_by_spaces, is_spellable_word, IsSpellable}
 use Rattle.sudoers_edit_script.specs.ScriptReading.{words_between_spaces, place_of_word}
-use Rattle.sudoers_edit_script.specs.internal.ScriptStanding.{words_after_first}
+use Rattle.sudoers_edit_script.specs.internal.ScriptStanding.{words_behind_leading_space}
 use Rattle.sudoers_edit_script.proofs.NumberLemmas.{one_based_decimal_is_read_back, one_based_decimal_has_digits_only}
 
 -- a byte other than a space goes onto the first word of the rest
@@ -24,7 +24,7 @@ space_is_end_of_empty_word : (b : ℕ) (bs : List ℕ) → (b == 32) ≡ true �
 space_is_end_of_empty_word b bs h = rw h refl
 
 -- up to the first space
-first_word_ends_at_first_space : (text : List ℕ) (n : ℕ) → n < length text → (slice_index text n == 32) ≡ true → ((k : ℕ) → k < n → (slice_index text k == 32) ≡ true → ⊥) → words_between_spaces text ≡ take n text ∷ words_after_first (drop n text)
+first_word_ends_at_first_space : (text : List ℕ) (n : ℕ) → n < length text → (slice_index text n == 32) ≡ true → ((k : ℕ) → k < n → (slice_index text k == 32) ≡ true → ⊥) → words_between_spaces text ≡ take n text ∷ words_behind_leading_space (drop n text)
 first_word_ends_at_first_space [] n l h none = absurd (omega arith)
 first_word_ends_at_first_space (b ∷ bs) zero l h none = space_is_end_of_empty_word b bs h
 first_word_ends_at_first_space (b ∷ bs) (suc n) l h none =
@@ -43,11 +43,11 @@ text_with_space_nowhere_is_one_word (b ∷ bs) none =
     ]
 
 -- by what a search for a space gives
-pub space_found_ends_first_word : (text : List ℕ) (n : ℕ) → NoneBefore (Passes (is_byte 32) text) 0 (length text) n × Passes (is_byte 32) text n → words_between_spaces text ≡ take n text ∷ words_after_first (drop n text)
+pub space_found_ends_first_word : (text : List ℕ) (n : ℕ) → NoneBefore (Passes (is_byte 32) text) 0 (length text) n × Passes (is_byte 32) text n → words_between_spaces text ≡ take n text ∷ words_behind_leading_space (drop n text)
 space_found_ends_first_word text n h = first_word_ends_at_first_space text n h.0.high h.1 (λ k m e. h.0.before k (omega arith) m e)
 
 -- where a search for a space finds none
-pub no_space_found_leaves_one_word : (text : List ℕ) → Nowhere (Passes (is_byte 32) text) 0 (length text) → words_between_spaces text ≡ take (length text) text ∷ words_after_first (drop (length text) text)
+pub no_space_found_leaves_one_word : (text : List ℕ) → Nowhere (Passes (is_byte 32) text) 0 (length text) → words_between_spaces text ≡ take (length text) text ∷ words_behind_leading_space (drop (length text) text)
 no_space_found_leaves_one_word text h =
     text_with_space_nowhere_is_one_word text (λ k m e. h k (omega arith) m e) ∙ sym (rw (take_all (length text) text (omega arith), drop_all (length text) text (omega arith)) refl)
 

@@ -5,10 +5,10 @@ use Rattle.std.specs.List.{prefix_len}
 use Rattle.std.proofs.lemmas.Bool.{cases_Bool, and_cases, and_right, le-ltb, ltb-false}
 use Rattle.std.proofs.lemmas.List.Sums.{prefix_len-le-length}
 use Rattle.sudoers_edit_script.specs.Physical.{physical_lines}
-use Rattle.sudoers_edit_script.specs.Script.{spelling_of_edits, has_word_names, HaveFittingNumbers, AreSpellable, script_or_fault_at_name, script_or_first_fault}
+use Rattle.sudoers_edit_script.specs.Script.{spelling_of_edits, has_word_names, HaveFittingNumbers, AreSpellable, script_or_fault_at_bad_name, script_or_first_fault}
 use Rattle.sudoers_edit_script.specs.ScriptReading.{edits_spelled_by_text}
 use Rattle.sudoers_edit_script.specs.declared.edit.Edit.{Edit}
-use Rattle.sudoers_edit_script.specs.declared.script.ScriptFault.TheVariants as faults
+use Rattle.sudoers_edit_script.specs.declared.script_reader.ScriptFault.TheVariants as faults
 use Rattle.sudoers_edit_script.proofs.ScriptLemmas.{text_read_as_edits_is_their_spelling}
 use Rattle.sudoers_edit_script.proofs.SpellingLemmas.{spelling_of_edits_is_read_back}
 
@@ -33,7 +33,7 @@ record IsScriptWrittenOfEdits (named : ℕ) (edits : List Edit) (text : List ℕ
   spelled : text ≡ spelling_of_edits edits
 
 -- where a text is written
-written_script_is_spelling_of_its_edits : (named : ℕ) (edits : List Edit) (text : List ℕ) → script_or_fault_at_name named edits ≡ Ok text → IsScriptWrittenOfEdits named edits text
+written_script_is_spelling_of_its_edits : (named : ℕ) (edits : List Edit) (text : List ℕ) → script_or_fault_at_bad_name named edits ≡ Ok text → IsScriptWrittenOfEdits named edits text
 written_script_is_spelling_of_its_edits named edits text e =
     elim (cases_Bool (nat_lt named 65536 && nat_lt named (length edits))) [
       | inl t ↦ let none : Err (faults.BadWord (length (physical_lines (spelling_of_edits (take named edits))) + 1)) ≡ Ok text = rw t at e in cc

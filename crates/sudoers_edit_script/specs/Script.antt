@@ -9,8 +9,8 @@ use Rattle.sudoers_grammar.specs.declared.node.Kind.TheVariants as kind_of
 use Rattle.sudoers_edit_script.specs.Physical.{physical_lines}
 use Rattle.sudoers_edit_script.specs.declared.edit.Edit.{Edit}
 use Rattle.sudoers_edit_script.specs.declared.edit.Edit.TheVariants.{Insert, Delete, Move, AddMember, DropMember, AddDef, DropDef, Rename, EndLine, OpenEnd, Prune}
-use Rattle.sudoers_edit_script.specs.declared.script.ScriptFault.{ScriptFault}
-use Rattle.sudoers_edit_script.specs.declared.script.ScriptFault.TheVariants as faults
+use Rattle.sudoers_edit_script.specs.declared.script_reader.ScriptFault.{ScriptFault}
+use Rattle.sudoers_edit_script.specs.declared.script_reader.ScriptFault.TheVariants as faults
 
 -- the most edits that a script has
 abbrev pub edit_limit : ℕ
@@ -69,42 +69,42 @@ spelling_of_edit edit = words_joined_by_spaces (command_words_of_edit edit) ++ 1
 -- FILES
 
 -- the file whose lines an edit names, if it names any
-abbrev pub file_named_by_edit : Edit → Option ℕ
-file_named_by_edit (Insert file at text) = Some file
-file_named_by_edit (Delete file at) = Some file
-file_named_by_edit (Move file from to) = Some file
-file_named_by_edit (AddDef file line at splice) = Some file
-file_named_by_edit (DropDef file line at) = Some file
-file_named_by_edit (EndLine file) = Some file
-file_named_by_edit (OpenEnd file) = Some file
-file_named_by_edit _ = None
+abbrev pub file_number_named_by_edit : Edit → Option ℕ
+file_number_named_by_edit (Insert file at text) = Some file
+file_number_named_by_edit (Delete file at) = Some file
+file_number_named_by_edit (Move file from to) = Some file
+file_number_named_by_edit (AddDef file line at splice) = Some file
+file_number_named_by_edit (DropDef file line at) = Some file
+file_number_named_by_edit (EndLine file) = Some file
+file_number_named_by_edit (OpenEnd file) = Some file
+file_number_named_by_edit _ = None
 
 -- the line that sets the file of the commands after it
-abbrev pub file_setting_line : ℕ → List ℕ
-file_setting_line file = words_joined_by_spaces (codes "file" ∷ one_based_decimal file ∷ []) ++ 10 ∷ []
+abbrev pub script_line_setting_file_number : ℕ → List ℕ
+script_line_setting_file_number file = words_joined_by_spaces (codes "file" ∷ one_based_decimal file ∷ []) ++ 10 ∷ []
 
 -- what stands before the command of an edit in this file, if in any, where the file `last` was set last
 abbrev pub file_line_before_edit : ℕ → Option ℕ → List ℕ
 file_line_before_edit last None = []
-file_line_before_edit last (Some file) = if file == last then [] else file_setting_line file
+file_line_before_edit last (Some file) = if file == last then [] else script_line_setting_file_number file
 
 -- the file that is set after an edit where the file `last` was set before it
-abbrev pub file_set_after_edit : ℕ → Edit → ℕ
-file_set_after_edit last edit = unwrap_or (file_named_by_edit edit) last
+abbrev pub file_number_set_after_edit : ℕ → Edit → ℕ
+file_number_set_after_edit last edit = unwrap_or (file_number_named_by_edit edit) last
 
 -- the edits, one after another, where the file `last` was set last
-abbrev pub spelling_with_file_set : ℕ → List Edit → List ℕ
-spelling_with_file_set last [] = []
-spelling_with_file_set last (edit ∷ edits) = file_line_before_edit last (file_named_by_edit edit) ++ (spelling_of_edit edit ++ spelling_with_file_set (file_set_after_edit last edit) edits)
+abbrev pub spelling_of_edits_with_file_set : ℕ → List Edit → List ℕ
+spelling_of_edits_with_file_set last [] = []
+spelling_of_edits_with_file_set last (edit ∷ edits) = file_line_before_edit last (file_number_named_by_edit edit) ++ (spelling_of_edit edit ++ spelling_of_edits_with_file_set (file_number_set_after_edit last edit) edits)
 
 -- the same after edits
-abbrev pub file_set_after_edits : ℕ → List Edit → ℕ
-file_set_after_edits last [] = last
-file_set_after_edits last (edit ∷ edits) = file_set_after_edits (file_set_after_edit last edit) edits
+abbrev pub file_number_set_after_edits : ℕ → List Edit → ℕ
+file_number_set_after_edits last [] = last
+file_number_set_after_edits last (edit ∷ edits) = file_number_set_after_edits (file_number_set_after_edit last edit) edits
 
 -- the edits, one after another; at first the file 0 is set
 abbrev pub spelling_of_edits : List Edit → List ℕ
-spelling_of_edits edits = spelling_with_file_set 0 edits
+spelling_of_edits edits = spelling_of_edits_with_file_set 0 edits
 
 -- EDITS THAT HAVE A SPELLING
 
@@ -146,15 +146,15 @@ AreSpellable (edit ∷ edits) = IsSpellable edit × AreSpellable edits
 
 -- Of these edits so many stand before the first with a name that is no word. If that one is among those that a script may
 -- have, it has no spelling, and its line is the one behind their lines, counted from 1; else only the count can be too large.
-abbrev pub script_or_fault_at_name : ℕ → List Edit → Result (List ℕ) ScriptFault
-script_or_fault_at_name named edits =
+abbrev pub script_or_fault_at_bad_name : ℕ → List Edit → Result (List ℕ) ScriptFault
+script_or_fault_at_bad_name named edits =
     if nat_lt named edit_limit && nat_lt named (length edits)
     then Err (faults.BadWord (length (physical_lines (spelling_of_edits (take named edits))) + 1))
     else (if nat_lt edit_limit (length edits) then Err faults.TooMany else Ok (spelling_of_edits edits))
 
 -- the text of a list of edits, or the first fault
 abbrev pub script_or_first_fault : List Edit → Result (List ℕ) ScriptFault
-script_or_first_fault edits = script_or_fault_at_name (prefix_len has_word_names edits) edits
+script_or_first_fault edits = script_or_fault_at_bad_name (prefix_len has_word_names edits) edits
 
 -- FRONTS
 
@@ -175,7 +175,7 @@ pub record IsFirstBadScriptLine (line : ℕ) (lines : List (List ℕ)) : Type 0 
 
 -- Up to this line, counted from 1, these lines are a front of a script, and no script; and no line follows, or one
 -- with which they are no front.
-pub record EndsIncompleteAtLine (line : ℕ) (lines : List (List ℕ)) : Type 0 where
+pub record IsUnfinishedScriptUpToLine (line : ℕ) (lines : List (List ℕ)) : Type 0 where
   pub counted : 0 < line
   pub within : line ≤ length lines
   pub front : IsScriptPrefix (take line lines)

@@ -18,8 +18,8 @@ use Rattle.sudoers_edit_script.specs.declared.script_line.CommandFlaw.{CommandFl
 use Rattle.sudoers_edit_script.specs.declared.script_line.CommandFlaw.TheVariants as flaw
 use Rattle.sudoers_edit_script.specs.declared.script_line.ParsedScriptLine.{ParsedScriptLine}
 use Rattle.sudoers_edit_script.specs.declared.script_line.ParsedScriptLine.TheVariants as says
-use Rattle.sudoers_edit_script.specs.declared.script.ScriptFault.{ScriptFault}
-use Rattle.sudoers_edit_script.specs.declared.script.ScriptFault.TheVariants as faults
+use Rattle.sudoers_edit_script.specs.declared.script_reader.ScriptFault.{ScriptFault}
+use Rattle.sudoers_edit_script.specs.declared.script_reader.ScriptFault.TheVariants as faults
 
 -- NUMBERS
 
@@ -64,13 +64,13 @@ abbrev pub parsed_single_place : List (List ℕ) → Result ℕ CommandFlaw
 parsed_single_place (word ∷ []) = ok_or (place_of_word word) flaw.Number
 parsed_single_place _ = Err flaw.Word
 
-abbrev pub pair_of_places : Option ℕ → Option ℕ → Result (ℕ × ℕ) CommandFlaw
-pair_of_places (Some first) (Some second) = Ok (first, second)
-pair_of_places _ _ = Err flaw.Number
+abbrev pub both_places_or_flaw : Option ℕ → Option ℕ → Result (ℕ × ℕ) CommandFlaw
+both_places_or_flaw (Some first) (Some second) = Ok (first, second)
+both_places_or_flaw _ _ = Err flaw.Number
 
 -- they are two places
 abbrev pub parsed_two_places : List (List ℕ) → Result (ℕ × ℕ) CommandFlaw
-parsed_two_places (word ∷ next ∷ []) = pair_of_places (place_of_word word) (place_of_word next)
+parsed_two_places (word ∷ next ∷ []) = both_places_or_flaw (place_of_word word) (place_of_word next)
 parsed_two_places _ = Err flaw.Word
 
 abbrev pub alias_of_kind_or_flaw : List ℕ → List ℕ → Option Kind → Result (Kind × List ℕ × List ℕ) CommandFlaw
@@ -83,48 +83,48 @@ parsed_alias_and_word (word ∷ name ∷ more ∷ []) = alias_of_kind_or_flaw na
 parsed_alias_and_word _ = Err flaw.Word
 
 -- what they make a command say, or their flaw
-abbrev pub parsed_line_or_flaw : {A : Type 0} → (A → ParsedScriptLine) → Result A CommandFlaw → ParsedScriptLine
-parsed_line_or_flaw say (Ok x) = say x
-parsed_line_or_flaw say (Err f) = says.Flawed f
+abbrev pub line_made_of_value_or_flawed : {A : Type 0} → (A → ParsedScriptLine) → Result A CommandFlaw → ParsedScriptLine
+line_made_of_value_or_flawed say (Ok x) = say x
+line_made_of_value_or_flawed say (Err f) = says.Flawed f
 
 -- a command of one word
-abbrev pub parsed_one_word_command : Edit → List (List ℕ) → ParsedScriptLine
-parsed_one_word_command edit [] = says.Whole edit
-parsed_one_word_command edit (word ∷ more) = says.Flawed flaw.Word
+abbrev pub parsed_command_without_arguments : Edit → List (List ℕ) → ParsedScriptLine
+parsed_command_without_arguments edit [] = says.Whole edit
+parsed_command_without_arguments edit (word ∷ more) = says.Flawed flaw.Word
 
 -- what `add` says, by the words behind it
 abbrev pub parsed_add_command : List (List ℕ) → ParsedScriptLine
 parsed_add_command more =
-    parsed_line_or_flaw (λ alias. parsed_line_or_flaw (λ at. says.Begin (draft.AddMember alias.0 alias.1 at)) (ok_or (place_of_word alias.2) flaw.Number)) (parsed_alias_and_word more)
+    line_made_of_value_or_flawed (λ alias. line_made_of_value_or_flawed (λ at. says.Begin (draft.AddMember alias.0 alias.1 at)) (ok_or (place_of_word alias.2) flaw.Number)) (parsed_alias_and_word more)
 
 -- what `drop` says
 abbrev pub parsed_drop_command : List (List ℕ) → ParsedScriptLine
 parsed_drop_command more =
-    parsed_line_or_flaw (λ alias. parsed_line_or_flaw (λ at. says.Whole (DropMember alias.0 alias.1 at)) (ok_or (place_of_word alias.2) flaw.Number)) (parsed_alias_and_word more)
+    line_made_of_value_or_flawed (λ alias. line_made_of_value_or_flawed (λ at. says.Whole (DropMember alias.0 alias.1 at)) (ok_or (place_of_word alias.2) flaw.Number)) (parsed_alias_and_word more)
 
 -- what `rename` says
 abbrev pub parsed_rename_command : List (List ℕ) → ParsedScriptLine
-parsed_rename_command more = parsed_line_or_flaw (λ alias. if is_spellable_word alias.2 then says.Whole (Rename alias.0 alias.1 alias.2) else says.Flawed flaw.Word) (parsed_alias_and_word more)
+parsed_rename_command more = line_made_of_value_or_flawed (λ alias. if is_spellable_word alias.2 then says.Whole (Rename alias.0 alias.1 alias.2) else says.Flawed flaw.Word) (parsed_alias_and_word more)
 
 -- what a command of an ended line says where this file is set, by the words behind its first
 abbrev pub parsed_command_arguments : ℕ → EditCommand → List (List ℕ) → ParsedScriptLine
-parsed_command_arguments file by.Insert more = parsed_line_or_flaw (λ at. says.Begin (draft.Insert file at)) (parsed_single_place more)
-parsed_command_arguments file by.Delete more = parsed_line_or_flaw (λ at. says.Whole (Delete file at)) (parsed_single_place more)
-parsed_command_arguments file by.Move more = parsed_line_or_flaw (λ places. says.Whole (Move file places.0 places.1)) (parsed_two_places more)
+parsed_command_arguments file by.Insert more = line_made_of_value_or_flawed (λ at. says.Begin (draft.Insert file at)) (parsed_single_place more)
+parsed_command_arguments file by.Delete more = line_made_of_value_or_flawed (λ at. says.Whole (Delete file at)) (parsed_single_place more)
+parsed_command_arguments file by.Move more = line_made_of_value_or_flawed (λ places. says.Whole (Move file places.0 places.1)) (parsed_two_places more)
 parsed_command_arguments file by.AddMember more = parsed_add_command more
 parsed_command_arguments file by.DropMember more = parsed_drop_command more
-parsed_command_arguments file by.AddDef more = parsed_line_or_flaw (λ places. says.Begin (draft.AddDef file places.0 places.1)) (parsed_two_places more)
-parsed_command_arguments file by.DropDef more = parsed_line_or_flaw (λ places. says.Whole (DropDef file places.0 places.1)) (parsed_two_places more)
+parsed_command_arguments file by.AddDef more = line_made_of_value_or_flawed (λ places. says.Begin (draft.AddDef file places.0 places.1)) (parsed_two_places more)
+parsed_command_arguments file by.DropDef more = line_made_of_value_or_flawed (λ places. says.Whole (DropDef file places.0 places.1)) (parsed_two_places more)
 parsed_command_arguments file by.Rename more = parsed_rename_command more
-parsed_command_arguments file by.EndLine more = parsed_one_word_command (EndLine file) more
-parsed_command_arguments file by.OpenEnd more = parsed_one_word_command (OpenEnd file) more
-parsed_command_arguments file by.Prune more = parsed_one_word_command Prune more
+parsed_command_arguments file by.EndLine more = parsed_command_without_arguments (EndLine file) more
+parsed_command_arguments file by.OpenEnd more = parsed_command_without_arguments (OpenEnd file) more
+parsed_command_arguments file by.Prune more = parsed_command_without_arguments Prune more
 
 -- the same, if the line ends in LF and begins with the word of a command
-abbrev pub parsed_command_if_ended : ℕ → Bool → List (List ℕ) → Option EditCommand → ParsedScriptLine
-parsed_command_if_ended file ended more None = says.Other
-parsed_command_if_ended file true more (Some command) = parsed_command_arguments file command more
-parsed_command_if_ended file false more (Some command) = says.Flawed flaw.Word
+abbrev pub parsed_command_if_line_ends_in_lf : ℕ → Bool → List (List ℕ) → Option EditCommand → ParsedScriptLine
+parsed_command_if_line_ends_in_lf file ended more None = says.Other
+parsed_command_if_line_ends_in_lf file true more (Some command) = parsed_command_arguments file command more
+parsed_command_if_line_ends_in_lf file false more (Some command) = says.Flawed flaw.Word
 
 -- what a line whose first word is `file` says, by the words behind it: the line ends in LF, and they are one
 abbrev pub parsed_file_line : Bool → List (List ℕ) → ParsedScriptLine
@@ -134,7 +134,7 @@ parsed_file_line _ _ = says.Other
 abbrev pub parsed_words_of_line : ℕ → Bool → List (List ℕ) → ParsedScriptLine
 parsed_words_of_line file ended [] = says.Other
 parsed_words_of_line file ended (word ∷ more) =
-    if bytes_eq word (codes "file") then parsed_file_line ended more else parsed_command_if_ended file ended more (value_of_matching_row commands_by_word word)
+    if bytes_eq word (codes "file") then parsed_file_line ended more else parsed_command_if_line_ends_in_lf file ended more (value_of_matching_row commands_by_word word)
 
 -- the line without the LF that it ends in
 abbrev pub line_without_final_lf : List ℕ → List ℕ
@@ -167,13 +167,13 @@ abbrev pub is_file_scoped_word : List ℕ → Bool
 is_file_scoped_word word = option_map_or is_file_scoped_command (value_of_matching_row commands_by_word word) false
 
 -- the first of these words is
-abbrev pub begins_with_file_scoped_word : List (List ℕ) → Bool
-begins_with_file_scoped_word [] = false
-begins_with_file_scoped_word (word ∷ more) = is_file_scoped_word word
+abbrev pub are_words_of_file_scoped_command : List (List ℕ) → Bool
+are_words_of_file_scoped_command [] = false
+are_words_of_file_scoped_command (word ∷ more) = is_file_scoped_word word
 
 -- the first word of a line is
-abbrev pub has_file_scoped_command : List ℕ → Bool
-has_file_scoped_command line = begins_with_file_scoped_word (words_between_spaces (line_without_final_lf line))
+abbrev pub is_line_with_file_scoped_command : List ℕ → Bool
+is_line_with_file_scoped_command line = are_words_of_file_scoped_command (words_between_spaces (line_without_final_lf line))
 
 -- SCRIPTS
 
@@ -193,8 +193,8 @@ pub data ScriptPosition : Type 0 where
   Going : EditAwaitingText → List ℕ → ScriptPosition
 
 -- what the lines behind give, by where they stand, by the file that is set, and by how many commands stand before them
-abbrev pub ReadingOfRemainingLines : Type 0
-ReadingOfRemainingLines = ScriptPosition → ℕ → ℕ → Result (List Edit) ScriptFault
+abbrev pub ResultByPositionFileAndCount : Type 0
+ResultByPositionFileAndCount = ScriptPosition → ℕ → ℕ → Result (List Edit) ScriptFault
 
 -- an edit before those that the lines behind give
 abbrev pub edit_before_result : Edit → Result (List Edit) ScriptFault → Result (List Edit) ScriptFault
@@ -211,12 +211,12 @@ fault_of_flawed_line flaw.Word line = faults.BadWord line
 fault_of_flawed_line flaw.Number line = faults.BadNumber line
 
 -- Where a command has to come and the file `last` is set stands a `file` line, of this file or of a number that is none.
-abbrev pub result_at_file_line : ReadingOfRemainingLines → ℕ → ℕ → ℕ → Option ℕ → Result (List Edit) ScriptFault
+abbrev pub result_at_file_line : ResultByPositionFileAndCount → ℕ → ℕ → ℕ → Option ℕ → Result (List Edit) ScriptFault
 result_at_file_line rest last line count None = rest (Filed None line) last count
 result_at_file_line rest last line count (Some file) = if file == last then Err (faults.BadWord line) else rest (Filed (Some file) line) last count
 
 -- Where a command has to come and the file `last` is set, behind so many commands, this line stands.
-abbrev pub result_at_command_line : ReadingOfRemainingLines → ℕ → ℕ → ℕ → ParsedScriptLine → Result (List Edit) ScriptFault
+abbrev pub result_at_command_line : ResultByPositionFileAndCount → ℕ → ℕ → ℕ → ParsedScriptLine → Result (List Edit) ScriptFault
 result_at_command_line rest last line count (says.Begin begun) = result_within_edit_limit count (rest (Begun begun line) last (count + 1))
 result_at_command_line rest last line count (says.Whole edit) = result_within_edit_limit count (edit_before_result edit (rest Between last (count + 1)))
 result_at_command_line rest last line count (says.Flawed f) = result_within_edit_limit count (Err (fault_of_flawed_line f line))
@@ -231,14 +231,14 @@ result_after_file_line gives at None true = Err (faults.BadNumber at)
 result_after_file_line gives at (Some file) true = gives file
 
 -- Right behind a command that wants a text, and that stands on the line `at`, this line stands, with this text.
-abbrev pub result_at_first_payload_line : ReadingOfRemainingLines → ℕ → ℕ → ℕ → EditAwaitingText → ℕ → List ℕ → ParsedScriptLine → Result (List Edit) ScriptFault
+abbrev pub result_at_first_payload_line : ResultByPositionFileAndCount → ℕ → ℕ → ℕ → EditAwaitingText → ℕ → List ℕ → ParsedScriptLine → Result (List Edit) ScriptFault
 result_at_first_payload_line rest last line count begun at text says.More = rest (Going begun text) last count
 result_at_first_payload_line rest last line count begun at text says.Last = edit_before_result (edit_completed_with_text begun text) (rest Between last count)
 result_at_first_payload_line rest last line count begun at text says.Unended = Err (faults.BadWord line)
 result_at_first_payload_line rest last line count begun at text _ = Err (faults.NoPayload at)
 
 -- Behind the first part of a text this line stands: more of the text, its end, or the next command.
-abbrev pub result_at_later_payload_line : ReadingOfRemainingLines → ℕ → ℕ → ℕ → EditAwaitingText → List ℕ → List ℕ → ParsedScriptLine → Result (List Edit) ScriptFault
+abbrev pub result_at_later_payload_line : ResultByPositionFileAndCount → ℕ → ℕ → ℕ → EditAwaitingText → List ℕ → List ℕ → ParsedScriptLine → Result (List Edit) ScriptFault
 result_at_later_payload_line rest last line count begun so_far text says.More = rest (Going begun (so_far ++ text)) last count
 result_at_later_payload_line rest last line count begun so_far [] says.Last = Err (faults.BadWord line)
 result_at_later_payload_line rest last line count begun so_far (b ∷ text) says.Last = edit_before_result (edit_completed_with_text begun (so_far ++ b ∷ text)) (rest Between last count)
@@ -253,7 +253,7 @@ edits_from_position [] line (Begun begun at) last count = Err (faults.NoPayload 
 edits_from_position [] line (Going begun so_far) last count = Ok (edit_completed_with_text begun so_far ∷ [])
 edits_from_position (text ∷ lines) line Between last count = result_at_command_line (edits_from_position lines (line + 1)) last line count (parsed_script_line last text)
 edits_from_position (text ∷ lines) line (Filed file at) last count =
-    result_after_file_line (λ f. result_at_command_line (edits_from_position lines (line + 1)) f line count (parsed_script_line f text)) at file (has_file_scoped_command text)
+    result_after_file_line (λ f. result_at_command_line (edits_from_position lines (line + 1)) f line count (parsed_script_line f text)) at file (is_line_with_file_scoped_command text)
 edits_from_position (text ∷ lines) line (Begun begun at) last count =
     result_at_first_payload_line (edits_from_position lines (line + 1)) last line count begun at (text_of_payload_line (parsed_script_line last text) text) (parsed_script_line last text)
 edits_from_position (text ∷ lines) line (Going begun so_far) last count =
@@ -276,10 +276,10 @@ MatchesScriptReading (Ok edits) wanted = wanted ≡ Ok edits
 MatchesScriptReading (Err fault) wanted = IsFaultOrNoMemory fault wanted
 
 -- A fault that is told when this line is read.
-abbrev pub IsFaultReportedAtLine : ℕ → Result (List Edit) ScriptFault → Type 0
-IsFaultReportedAtLine line (Ok edits) = ⊥
-IsFaultReportedAtLine line (Err (faults.BadWord at)) = (at ≡ line) ⊎ (at + 1 ≡ line)
-IsFaultReportedAtLine line (Err (faults.BadNumber at)) = at ≡ line
-IsFaultReportedAtLine line (Err (faults.NoPayload at)) = at + 1 ≡ line
-IsFaultReportedAtLine line (Err faults.TooMany) = Unit {0}
-IsFaultReportedAtLine line (Err faults.NoMemory) = ⊥
+abbrev pub IsFaultFoundWhenReadingLine : ℕ → Result (List Edit) ScriptFault → Type 0
+IsFaultFoundWhenReadingLine line (Ok edits) = ⊥
+IsFaultFoundWhenReadingLine line (Err (faults.BadWord at)) = (at ≡ line) ⊎ (at + 1 ≡ line)
+IsFaultFoundWhenReadingLine line (Err (faults.BadNumber at)) = at ≡ line
+IsFaultFoundWhenReadingLine line (Err (faults.NoPayload at)) = at + 1 ≡ line
+IsFaultFoundWhenReadingLine line (Err faults.TooMany) = Unit {0}
+IsFaultFoundWhenReadingLine line (Err faults.NoMemory) = ⊥

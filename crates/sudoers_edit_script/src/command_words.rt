@@ -34,7 +34,7 @@ impl EditCommand {
     }
 }
 
-/// The command that a word begins.
+/// Returns the command that a word begins.
 pub fn command_of_word(word: &[u8]) -> Option<EditCommand>
     ensures { result ≡ value_of_matching_row commands_by_word word.now }
 {

@@ -80,7 +80,7 @@ pub type Text = Items<u8>;
 pub type Edits = Items<Edit>;
 
 impl Edit {
-    /// A copy of the edit.
+    /// Returns a copy of the edit.
     ///
     /// # Errors
     ///

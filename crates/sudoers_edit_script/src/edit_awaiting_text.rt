@@ -14,7 +14,7 @@ pub enum EditAwaitingText {
 }
 
 impl EditAwaitingText {
-    /// The edit with this text.
+    /// Returns the edit with this text.
     pub fn into_edit_with_text(self, text: Text) -> Edit
         ensures { result ≡ edit_completed_with_text self text }
     {

@@ -3,13 +3,13 @@
 ghost use Rattle.std.specs.Prelude.{◌≡◌, ◌⊎◌, ◌+◌, ◌≤◌, ◌<◌, ◌++◌, ◌≢◌, ℕ, List, true, length, take, slice_index, Ok, Err};
 ghost use Rattle.std.specs.List.{AllByRecursion};
 ghost use Rattle.sudoers_text.specs.Ended.{ends_in_lf as has_lf};
-ghost use Rattle.sudoers_edit_script.specs.Script.{one_based_decimal, spelling_of_edits, script_or_first_fault, edit_limit, HaveFittingNumbers, AreSpellable, IsScriptPrefix, IsFirstBadScriptLine, EndsIncompleteAtLine, HasMaxEditsBeforeLine};
-ghost use Rattle.sudoers_edit_script.specs.ScriptReading.{edits_spelled_by_text, IsFaultReportedAtLine};
+ghost use Rattle.sudoers_edit_script.specs.Script.{one_based_decimal, spelling_of_edits, script_or_first_fault, edit_limit, HaveFittingNumbers, AreSpellable, IsScriptPrefix, IsFirstBadScriptLine, IsUnfinishedScriptUpToLine, HasMaxEditsBeforeLine};
+ghost use Rattle.sudoers_edit_script.specs.ScriptReading.{edits_spelled_by_text, IsFaultFoundWhenReadingLine};
 ghost use Rattle.sudoers_edit_script.specs.declared.edit.Edit.{Edit as AnEdit};
 ghost use Rattle.sudoers_text.specs.Line.{join};
 ghost use Rattle.sudoers_edit_script.specs.Physical.{physical_lines};
 
-use crate::script::ScriptFault;
+use crate::script_reader::ScriptFault;
 
 /// A law: the physical lines of a text are its pieces.
 pub fn physical_lines_join()
@@ -52,7 +52,7 @@ pub fn spelling_is_whole_lines()
 /// line too, or a `file` line that wants a command which does not follow.
 pub fn word_fault_is_at_the_first_dead_line()
     ensures word { (text : List ℕ) (line : ℕ) → edits_spelled_by_text text ≡ Err (ScriptFault.BadWord line)
-        → IsFirstBadScriptLine line (physical_lines text) ⊎ EndsIncompleteAtLine line (physical_lines text) }
+        → IsFirstBadScriptLine line (physical_lines text) ⊎ IsUnfinishedScriptUpToLine line (physical_lines text) }
     ensures number { (text : List ℕ) (line : ℕ) → edits_spelled_by_text text ≡ Err (ScriptFault.BadNumber line)
         → IsFirstBadScriptLine line (physical_lines text) }
 {}
@@ -60,7 +60,7 @@ pub fn word_fault_is_at_the_first_dead_line()
 /// `NoPayload` names a command that needs a text which does not follow.
 pub fn payload_fault_is_at_a_command_without_text()
     ensures { (text : List ℕ) (line : ℕ) → edits_spelled_by_text text ≡ Err (ScriptFault.NoPayload line)
-        → EndsIncompleteAtLine line (physical_lines text) }
+        → IsUnfinishedScriptUpToLine line (physical_lines text) }
 {}
 
 /// A text with the fault `TooMany` has a dead line. The lines before it are a script with as many edits as there may be.
@@ -85,5 +85,5 @@ pub fn first_dead_line_is_told()
     ensures one { (lines : List (List ℕ)) (line other : ℕ) → IsFirstBadScriptLine line lines
         → IsFirstBadScriptLine other lines → line ≡ other }
     ensures told { (text : List ℕ) (line : ℕ) → IsFirstBadScriptLine line (physical_lines text)
-        → IsFaultReportedAtLine line (edits_spelled_by_text text) }
+        → IsFaultFoundWhenReadingLine line (edits_spelled_by_text text) }
 {}

@@ -6,11 +6,11 @@ mod edit;
 mod edit_awaiting_text;
 pub mod laws;
 mod physical_lines;
-mod script;
 mod script_line;
+mod script_reader;
 mod spelling;
 
 pub use edit::{Edit, Edits, Text};
 pub use physical_lines::first_physical_line_len;
-pub use script::{MAX_EDITS, ScriptFault, read_script};
+pub use script_reader::{MAX_EDITS, ScriptFault, read_script};
 pub use spelling::write_script;

@@ -4,7 +4,7 @@ ghost use Rattle.sudoers_edit_script.specs.Physical.{physical_lines};
 
 use memchr::memchr;
 
-/// How many bytes the first physical line has, its LF included.
+/// Returns how many bytes the first physical line has, its LF included.
 pub fn first_physical_line_len(text: &[u8]) -> usize
     requires { 0 < length text.now }
     ensures within { result ≤ length text.now }

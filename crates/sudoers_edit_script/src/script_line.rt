@@ -3,8 +3,8 @@ ghost use Rattle.std.specs.Prelude.{◌≡◌, ◌≤◌, ◌∷◌, ◌==◌, �
 ghost use Rattle.std.specs.List.{list_any};
 ghost use Rattle.sudoers_grammar.specs.Piece.{value_of_matching_row};
 ghost use Rattle.sudoers_edit_script.specs.Script.{is_spellable_word as has_word};
-ghost use Rattle.sudoers_edit_script.specs.ScriptReading.{parsed_add_command, parsed_alias_and_word, parsed_one_word_command, parsed_drop_command, parsed_file_line, alias_kinds_by_word, has_file_scoped_command as has_line_word, parsed_single_place, place_of_word, parsed_rename_command, parsed_command_arguments, parsed_words_of_line, parsed_script_line, text_of_payload_line, parsed_two_places, line_without_final_lf as line_body, words_between_spaces};
-ghost use Rattle.sudoers_edit_script.specs.internal.ScriptStanding.{words_after_first};
+ghost use Rattle.sudoers_edit_script.specs.ScriptReading.{parsed_add_command, parsed_alias_and_word, parsed_command_without_arguments, parsed_drop_command, parsed_file_line, alias_kinds_by_word, is_line_with_file_scoped_command as has_line_word, parsed_single_place, place_of_word, parsed_rename_command, parsed_command_arguments, parsed_words_of_line, parsed_script_line, text_of_payload_line, parsed_two_places, line_without_final_lf as line_body, words_between_spaces};
+ghost use Rattle.sudoers_edit_script.specs.internal.ScriptStanding.{words_behind_leading_space};
 
 use crate::command_words::{EditCommand, command_of_word};
 use crate::edit::{Edit, Text};
@@ -47,7 +47,7 @@ pub enum CommandFlaw {
     Number,
 }
 
-/// The kind that a word stands for.
+/// Returns the kind that a word stands for.
 fn alias_kind_of_word(word: &[u8]) -> Option<Kind>
     ensures { result ≡ value_of_matching_row alias_kinds_by_word word.now }
 {
@@ -64,21 +64,21 @@ fn alias_kind_of_word(word: &[u8]) -> Option<Kind>
     }
 }
 
-/// Whether a space or LF stands in a text.
+/// Returns whether a space or LF stands in a text.
 fn has_space_or_lf(text: &[u8]) -> bool
     ensures { result ≡ list_any (λ byte. (byte == 32) || (byte == 10)) text.now }
 {
     text.iter().any(|byte| *byte == b' ' || *byte == b'\n')
 }
 
-/// Whether a name has a spelling: one or more bytes other than space and LF.
+/// Returns whether a name has a spelling: one or more bytes other than space and LF.
 pub fn is_script_word(name: &[u8]) -> bool
     ensures { result ≡ has_word name.now }
 {
     !name.is_empty() && !has_space_or_lf(name)
 }
 
-/// The place that a word stands for.
+/// Returns the place that a word stands for.
 fn parse_place_number(word: &[u8]) -> Option<u32>
     ensures { result ≡ place_of_word word.now }
 {
@@ -98,10 +98,10 @@ fn parse_place_number(word: &[u8]) -> Option<u32>
     Some((number - 1) as u32)
 }
 
-/// How many bytes stand before the first space.
+/// Returns how many bytes stand before the first space.
 fn first_word_len(text: &[u8]) -> usize
     ensures within { result ≤ length text.now }
-    ensures first { words_between_spaces text.now ≡ take result text.now ∷ words_after_first (drop result text.now) }
+    ensures first { words_between_spaces text.now ≡ take result text.now ∷ words_behind_leading_space (drop result text.now) }
 {
     match memchr(b' ', text) {
         Some(at) => at,
@@ -109,39 +109,39 @@ fn first_word_len(text: &[u8]) -> usize
     }
 }
 
-/// The word behind a space, and the rest behind that word; the whole is empty or begins with the space.
-fn split_next_word(rest: &[u8]) -> Option<(&[u8], &[u8])>
-    ensures { MatchOption result (words_after_first rest.now ≡ [])
-        (λ next. words_after_first rest.now ≡ next.0.now ∷ words_after_first next.1.now) }
+/// Returns the word behind a space, and the rest behind that word; the whole is empty or begins with the space.
+fn split_word_behind_leading_space(rest: &[u8]) -> Option<(&[u8], &[u8])>
+    ensures { MatchOption result (words_behind_leading_space rest.now ≡ [])
+        (λ next. words_behind_leading_space rest.now ≡ next.0.now ∷ words_behind_leading_space next.1.now) }
 {
     let (_, text) = rest.split_first()?;
     Some(text.split_at(first_word_len(text)))
 }
 
-/// The one place behind the first word of a command.
+/// Returns the one place behind the first word of a command.
 fn parse_one_place(rest: &[u8]) -> Result<u32, CommandFlaw>
-    ensures { result ≡ parsed_single_place (words_after_first rest.now) }
+    ensures { result ≡ parsed_single_place (words_behind_leading_space rest.now) }
 {
-    let Some((word, rest)) = split_next_word(rest) else {
+    let Some((word, rest)) = split_word_behind_leading_space(rest) else {
         return Err(CommandFlaw::Word);
     };
-    if split_next_word(rest).is_some() {
+    if split_word_behind_leading_space(rest).is_some() {
         return Err(CommandFlaw::Word);
     }
     parse_place_number(word).ok_or(CommandFlaw::Number)
 }
 
-/// The two places behind the first word of a command.
+/// Returns the two places behind the first word of a command.
 fn parse_two_places(rest: &[u8]) -> Result<(u32, u32), CommandFlaw>
-    ensures { result ≡ parsed_two_places (words_after_first rest.now) }
+    ensures { result ≡ parsed_two_places (words_behind_leading_space rest.now) }
 {
-    let Some((word, rest)) = split_next_word(rest) else {
+    let Some((word, rest)) = split_word_behind_leading_space(rest) else {
         return Err(CommandFlaw::Word);
     };
-    let Some((next, rest)) = split_next_word(rest) else {
+    let Some((next, rest)) = split_word_behind_leading_space(rest) else {
         return Err(CommandFlaw::Word);
     };
-    if split_next_word(rest).is_some() {
+    if split_word_behind_leading_space(rest).is_some() {
         return Err(CommandFlaw::Word);
     }
     match (parse_place_number(word), parse_place_number(next)) {
@@ -150,21 +150,21 @@ fn parse_two_places(rest: &[u8]) -> Result<(u32, u32), CommandFlaw>
     }
 }
 
-/// The kind and the name of an alias, and one word more, behind the first word of a command.
+/// Returns the kind and the name of an alias, and one word more, behind the first word of a command.
 fn parse_alias_and_word(rest: &[u8]) -> Result<(Kind, &[u8], &[u8]), CommandFlaw>
-    ensures { MatchResult result (λ alias. parsed_alias_and_word (words_after_first rest.now) ≡ Ok (alias.0, alias.1.now, alias.2.now))
-        (λ flaw. parsed_alias_and_word (words_after_first rest.now) ≡ Err flaw) }
+    ensures { MatchResult result (λ alias. parsed_alias_and_word (words_behind_leading_space rest.now) ≡ Ok (alias.0, alias.1.now, alias.2.now))
+        (λ flaw. parsed_alias_and_word (words_behind_leading_space rest.now) ≡ Err flaw) }
 {
-    let Some((word, rest)) = split_next_word(rest) else {
+    let Some((word, rest)) = split_word_behind_leading_space(rest) else {
         return Err(CommandFlaw::Word);
     };
-    let Some((name, rest)) = split_next_word(rest) else {
+    let Some((name, rest)) = split_word_behind_leading_space(rest) else {
         return Err(CommandFlaw::Word);
     };
-    let Some((more, rest)) = split_next_word(rest) else {
+    let Some((more, rest)) = split_word_behind_leading_space(rest) else {
         return Err(CommandFlaw::Word);
     };
-    if split_next_word(rest).is_some() {
+    if split_word_behind_leading_space(rest).is_some() {
         return Err(CommandFlaw::Word);
     }
     match alias_kind_of_word(word) {
@@ -173,9 +173,9 @@ fn parse_alias_and_word(rest: &[u8]) -> Result<(Kind, &[u8], &[u8]), CommandFlaw
     }
 }
 
-/// What `add` says, by the rest of its line.
+/// Returns what `add` says, by the rest of its line.
 fn parse_add_command(alloc: Global, rest: &[u8]) -> Result<ParsedScriptLine, AllocError>
-    ensures { IfOk result (λ said. said ≡ parsed_add_command (words_after_first rest.now)) }
+    ensures { IfOk result (λ said. said ≡ parsed_add_command (words_behind_leading_space rest.now)) }
 {
     match parse_alias_and_word(rest) {
         Ok((kind, name, word)) => match parse_place_number(word) {
@@ -189,9 +189,9 @@ fn parse_add_command(alloc: Global, rest: &[u8]) -> Result<ParsedScriptLine, All
     }
 }
 
-/// What `drop` says, by the rest of its line.
+/// Returns what `drop` says, by the rest of its line.
 fn parse_drop_command(alloc: Global, rest: &[u8]) -> Result<ParsedScriptLine, AllocError>
-    ensures { IfOk result (λ said. said ≡ parsed_drop_command (words_after_first rest.now)) }
+    ensures { IfOk result (λ said. said ≡ parsed_drop_command (words_behind_leading_space rest.now)) }
 {
     match parse_alias_and_word(rest) {
         Ok((kind, name, word)) => match parse_place_number(word) {
@@ -205,9 +205,9 @@ fn parse_drop_command(alloc: Global, rest: &[u8]) -> Result<ParsedScriptLine, Al
     }
 }
 
-/// What `rename` says, by the rest of its line.
+/// Returns what `rename` says, by the rest of its line.
 fn parse_rename_command(alloc: Global, rest: &[u8]) -> Result<ParsedScriptLine, AllocError>
-    ensures { IfOk result (λ said. said ≡ parsed_rename_command (words_after_first rest.now)) }
+    ensures { IfOk result (λ said. said ≡ parsed_rename_command (words_behind_leading_space rest.now)) }
 {
     match parse_alias_and_word(rest) {
         Ok((kind, name, fresh)) => {
@@ -222,11 +222,11 @@ fn parse_rename_command(alloc: Global, rest: &[u8]) -> Result<ParsedScriptLine, 
     }
 }
 
-/// What a command of one word says, by the rest of its line.
-fn parse_one_word_command(edit: Edit, rest: &[u8]) -> ParsedScriptLine
-    ensures { result ≡ parsed_one_word_command edit (words_after_first rest.now) }
+/// Returns what a command of one word says, by the rest of its line.
+fn parse_command_without_arguments(edit: Edit, rest: &[u8]) -> ParsedScriptLine
+    ensures { result ≡ parsed_command_without_arguments edit (words_behind_leading_space rest.now) }
 {
-    if split_next_word(rest).is_some() {
+    if split_word_behind_leading_space(rest).is_some() {
         return ParsedScriptLine::Flawed(CommandFlaw::Word);
     }
     ParsedScriptLine::Whole(edit)
@@ -239,7 +239,7 @@ fn parse_command_arguments(
     command: EditCommand,
     rest: &[u8],
 ) -> Result<ParsedScriptLine, AllocError>
-    ensures { IfOk result (λ said. said ≡ parsed_command_arguments file command (words_after_first rest.now)) }
+    ensures { IfOk result (λ said. said ≡ parsed_command_arguments file command (words_behind_leading_space rest.now)) }
 {
     match command {
         EditCommand::Insert => match parse_one_place(rest) {
@@ -269,20 +269,19 @@ fn parse_command_arguments(
         EditCommand::AddMember => parse_add_command(alloc, rest),
         EditCommand::DropMember => parse_drop_command(alloc, rest),
         EditCommand::Rename => parse_rename_command(alloc, rest),
-        EditCommand::EndLine => Ok(parse_one_word_command(Edit::EndLine { file }, rest)),
-        EditCommand::OpenEnd => Ok(parse_one_word_command(Edit::OpenEnd { file }, rest)),
-        EditCommand::Prune => Ok(parse_one_word_command(Edit::Prune, rest)),
+        EditCommand::EndLine => Ok(parse_command_without_arguments(Edit::EndLine { file }, rest)),
+        EditCommand::OpenEnd => Ok(parse_command_without_arguments(Edit::OpenEnd { file }, rest)),
+        EditCommand::Prune => Ok(parse_command_without_arguments(Edit::Prune, rest)),
     }
 }
 
 /// Returns what a `file` line says, by the rest of it.
 fn parse_file_line(rest: &[u8], is_ended: bool) -> ParsedScriptLine
-    ensures { result ≡ parsed_file_line is_ended (words_after_first rest.now) }
+    ensures { result ≡ parsed_file_line is_ended (words_behind_leading_space rest.now) }
 {
-    match split_next_word(rest) {
-        Some((word, rest)) if is_ended && split_next_word(rest).is_none() => ParsedScriptLine::File(
-            parse_place_number(word),
-        ),
+    match split_word_behind_leading_space(rest) {
+        Some((word, rest)) if is_ended && split_word_behind_leading_space(rest).is_none() =>
+            ParsedScriptLine::File(parse_place_number(word)),
         _ => ParsedScriptLine::Other,
     }
 }
@@ -357,7 +356,7 @@ fn drop_first_byte(text: &[u8]) -> &[u8]
     }
 }
 
-/// The text that a line stands for.
+/// Returns the text that a line stands for.
 pub fn payload_text_of_line<'a>(line: &'a [u8], said: &ParsedScriptLine) -> &'a [u8]
     ensures { result.now ≡ text_of_payload_line said.now line.now }
 {

@@ -1,14 +1,14 @@
 //! The spelling of a list of edits, and the laws between spelling and reading.
 ghost use Rattle.std.specs.Prelude.{◌≡◌, ◌+◌, ◌≤◌, ◌<◌, ◌++◌, ◌∷◌, [], true, length, MatchResult, IfOk, OnOk, Ok, Err};
 ghost use Rattle.sudoers_edit_script.specs.Physical.{physical_lines};
-ghost use Rattle.sudoers_edit_script.specs.Script.{one_based_decimal, word_for_alias_kind, command_words_of_edit, words_joined_by_spaces, payload_lines_of_edit, payload_of_text, payload_line_of_text_line, spelling_of_edit, file_named_by_edit, file_setting_line, file_set_after_edit, file_line_before_edit, has_word_names as has_names, script_or_first_fault};
+ghost use Rattle.sudoers_edit_script.specs.Script.{one_based_decimal, word_for_alias_kind, command_words_of_edit, words_joined_by_spaces, payload_lines_of_edit, payload_of_text, payload_line_of_text_line, spelling_of_edit, file_number_named_by_edit, script_line_setting_file_number, file_number_set_after_edit, file_line_before_edit, has_word_names as has_names, script_or_first_fault};
 ghost use Rattle.sudoers_edit_script.specs.ScriptReading.{edits_spelled_by_text, IsFaultOrNoMemory};
 ghost use Rattle.sudoers_edit_script.specs.declared.edit.Edit.TheVariants.{Rename};
 
 use crate::edit::Edit;
 use crate::physical_lines::first_physical_line_len;
-use crate::script::{MAX_EDITS, ScriptFault};
 use crate::script_line::is_script_word;
+use crate::script_reader::{MAX_EDITS, ScriptFault};
 use std::alloc::{AllocError, Global};
 use sudoers_grammar::Kind;
 use sudoers_text::{append_decimal_number, ends_in_lf};
@@ -52,7 +52,11 @@ fn append_space_and_word(out: &mut Vec<u8>, word: &[u8]) -> Result<(), AllocErro
 }
 
 /// Appends a space and a number.
-fn append_space_and_number(alloc: Global, out: &mut Vec<u8>, at: u32) -> Result<(), AllocError>
+fn append_space_and_one_based_number(
+    alloc: Global,
+    out: &mut Vec<u8>,
+    at: u32,
+) -> Result<(), AllocError>
     ensures { OnOk result (out.new.items ≡ out.old.items ++ 32 ∷ one_based_decimal at) }
 {
     out.extend_from_slice(b" ")?;
@@ -60,7 +64,7 @@ fn append_space_and_number(alloc: Global, out: &mut Vec<u8>, at: u32) -> Result<
 }
 
 /// Appends a word and a number.
-fn append_word_and_number(
+fn append_word_and_one_based_number(
     alloc: Global,
     out: &mut Vec<u8>,
     word: &[u8],
@@ -69,11 +73,11 @@ fn append_word_and_number(
     ensures { OnOk result (out.new.items ≡ out.old.items ++ words_joined_by_spaces (word.now ∷ one_based_decimal at ∷ [])) }
 {
     out.extend_from_slice(word)?;
-    append_space_and_number(alloc, out, at)
+    append_space_and_one_based_number(alloc, out, at)
 }
 
 /// Appends a word and two numbers.
-fn append_word_and_two_numbers(
+fn append_word_and_two_one_based_numbers(
     alloc: Global,
     out: &mut Vec<u8>,
     word: &[u8],
@@ -82,11 +86,11 @@ fn append_word_and_two_numbers(
 ) -> Result<(), AllocError>
     ensures { OnOk result (out.new.items ≡ out.old.items ++ words_joined_by_spaces (word.now ∷ one_based_decimal first ∷ one_based_decimal second ∷ [])) }
 {
-    append_word_and_number(alloc, out, word, first)?;
-    append_space_and_number(alloc, out, second)
+    append_word_and_one_based_number(alloc, out, word, first)?;
+    append_space_and_one_based_number(alloc, out, second)
 }
 
-/// The word for a kind.
+/// Returns the word for a kind.
 fn script_word_of_alias_kind(kind: Kind) -> &'static [u8]
     ensures { result.now ≡ word_for_alias_kind kind }
 {
@@ -124,7 +128,7 @@ fn append_member_command(
     ensures { OnOk result (out.new.items ≡ out.old.items ++ words_joined_by_spaces (word.now ∷ word_for_alias_kind kind ∷ name.now ∷ one_based_decimal at ∷ [])) }
 {
     append_word_kind_and_name(out, word, kind, name)?;
-    append_space_and_number(alloc, out, at)
+    append_space_and_one_based_number(alloc, out, at)
 }
 
 /// Appends the command of a renaming.
@@ -145,19 +149,21 @@ fn append_command_words(alloc: Global, out: &mut Vec<u8>, edit: &Edit) -> Result
     ensures { OnOk result (out.new.items ≡ out.old.items ++ words_joined_by_spaces (command_words_of_edit edit.now)) }
 {
     match edit {
-        Edit::Insert { at, .. } => append_word_and_number(alloc, out, b"insert", *at),
-        Edit::Delete { at, .. } => append_word_and_number(alloc, out, b"delete", *at),
-        Edit::Move { from, to, .. } => append_word_and_two_numbers(alloc, out, b"move", *from, *to),
+        Edit::Insert { at, .. } => append_word_and_one_based_number(alloc, out, b"insert", *at),
+        Edit::Delete { at, .. } => append_word_and_one_based_number(alloc, out, b"delete", *at),
+        Edit::Move { from, to, .. } => append_word_and_two_one_based_numbers(
+            alloc, out, b"move", *from, *to,
+        ),
         Edit::AddMember { kind, name, at, .. } => {
             append_member_command(alloc, out, b"add", *kind, name.as_slice(), *at)
         }
         Edit::DropMember { kind, name, at } => {
             append_member_command(alloc, out, b"drop", *kind, name.as_slice(), *at)
         }
-        Edit::AddDef { line, at, .. } => append_word_and_two_numbers(
+        Edit::AddDef { line, at, .. } => append_word_and_two_one_based_numbers(
             alloc, out, b"adddef", *line, *at,
         ),
-        Edit::DropDef { line, at, .. } => append_word_and_two_numbers(
+        Edit::DropDef { line, at, .. } => append_word_and_two_one_based_numbers(
             alloc, out, b"dropdef", *line, *at,
         ),
         Edit::Rename { kind, name, fresh } => {
@@ -191,8 +197,8 @@ fn append_edit_spelling(alloc: Global, out: &mut Vec<u8>, edit: &Edit) -> Result
 }
 
 /// Returns the file whose lines an edit names, if it names any.
-fn file_of_edit(edit: &Edit) -> Option<u32>
-    ensures { result ≡ file_named_by_edit edit.now }
+fn file_number_of_edit(edit: &Edit) -> Option<u32>
+    ensures { result ≡ file_number_named_by_edit edit.now }
 {
     match edit {
         Edit::Insert { file, .. }
@@ -214,12 +220,12 @@ fn append_file_line_if_changed(
     last: u32,
     edit: &Edit,
 ) -> Result<u32, AllocError>
-    ensures out { OnOk result (out.new.items ≡ out.old.items ++ file_line_before_edit last (file_named_by_edit edit.now)) }
-    ensures file { IfOk result (λ file. file ≡ file_set_after_edit last edit.now) }
+    ensures out { OnOk result (out.new.items ≡ out.old.items ++ file_line_before_edit last (file_number_named_by_edit edit.now)) }
+    ensures file { IfOk result (λ file. file ≡ file_number_set_after_edit last edit.now) }
 {
-    match file_of_edit(edit) {
+    match file_number_of_edit(edit) {
         Some(file) if file != last => {
-            append_word_and_number(alloc, out, b"file", file)?;
+            append_word_and_one_based_number(alloc, out, b"file", file)?;
             out.extend_from_slice(b"\n")?;
             Ok(file)
         }
@@ -227,7 +233,7 @@ fn append_file_line_if_changed(
     }
 }
 
-/// Whether the names in an edit have a spelling.
+/// Returns whether the names in an edit have a spelling.
 fn has_spellable_names(edit: &Edit) -> bool
     ensures { result ≡ has_names edit.now }
 {
@@ -240,7 +246,7 @@ fn has_spellable_names(edit: &Edit) -> bool
     }
 }
 
-/// How many physical lines a text has.
+/// Returns how many physical lines a text has.
 fn physical_line_count(text: &[u8]) -> usize
     ensures lines { result ≡ length (physical_lines text.now) }
     ensures within { result ≤ length text.now }
@@ -255,7 +261,7 @@ fn physical_line_count(text: &[u8]) -> usize
     count
 }
 
-/// The text of a list of edits.
+/// Returns the text of a list of edits.
 ///
 /// # Errors
 ///

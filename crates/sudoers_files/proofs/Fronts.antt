@@ -5,7 +5,7 @@ use Rattle.std.proofs.lemmas.Bool.{cases_lt}
 use Rattle.std.proofs.lemmas.List.{take_all, length-take}
 use Rattle.sudoers_text.specs.Fault.{text_limit}
 use Rattle.sudoers_tree.specs.declared.named_files.NamedFile.{NamedFile}
-use Rattle.sudoers_files.specs.Shelf.{limited_bytes_of_named_file}
+use Rattle.sudoers_files.specs.Shelf.{named_file_bytes_truncated_past_limit}
 
 -- the first n bytes, or all of them if they are fewer
 pub taking_at_most_length_is_taking : (bytes : List ℕ) (n : ℕ) → take (min (length bytes) n) bytes ≡ take n bytes
@@ -16,19 +16,19 @@ taking_at_most_length_is_taking bytes n = elim (cases_lt n (length bytes)) [
       ∙ take_all (length bytes) bytes (omega arith) ∙ sym (take_all n bytes more)
 ]
 
-pub limited_bytes_are_within_text_limit : (name : List ℕ) (files : List NamedFile) (bytes : List ℕ) → limited_bytes_of_named_file name files ≡ Some bytes → length bytes ≤ text_limit + 1
+pub limited_bytes_are_within_text_limit : (name : List ℕ) (files : List NamedFile) (bytes : List ℕ) → named_file_bytes_truncated_past_limit name files ≡ Some bytes → length bytes ≤ text_limit + 1
 limited_bytes_are_within_text_limit name [] bytes is = absurd cc
 limited_bytes_are_within_text_limit name (file ∷ files) bytes is = by (bytes_eq name file.name) is (limited_bytes_are_within_text_limit name files bytes)
   where
-    by : (t : Bool) → (if t then Some (take (text_limit + 1) file.bytes) else limited_bytes_of_named_file name files) ≡ Some bytes
-        → (limited_bytes_of_named_file name files ≡ Some bytes → length bytes ≤ text_limit + 1) → length bytes ≤ text_limit + 1
+    by : (t : Bool) → (if t then Some (take (text_limit + 1) file.bytes) else named_file_bytes_truncated_past_limit name files) ≡ Some bytes
+        → (named_file_bytes_truncated_past_limit name files ≡ Some bytes → length bytes ≤ text_limit + 1) → length bytes ≤ text_limit + 1
     by true e later = let same : take (text_limit + 1) file.bytes ≡ bytes = cc in omega (arith, ap length same, length-take (text_limit + 1) file.bytes)
     by false e later = later e
 
 -- the first file, if it has the name
 pub limited_bytes_are_those_of_first_named_file : (name : List ℕ) (file : NamedFile) (files : List NamedFile) → bytes_eq name file.name ≡ true
-    → limited_bytes_of_named_file name (file ∷ files) ≡ Some (take (text_limit + 1) file.bytes)
-limited_bytes_are_those_of_first_named_file name file files is = ap (λ t. if t then Some (take (text_limit + 1) file.bytes) else limited_bytes_of_named_file name files) is
+    → named_file_bytes_truncated_past_limit name (file ∷ files) ≡ Some (take (text_limit + 1) file.bytes)
+limited_bytes_are_those_of_first_named_file name file files is = ap (λ t. if t then Some (take (text_limit + 1) file.bytes) else named_file_bytes_truncated_past_limit name files) is
 
 -- ---- bytes followed by one more
 

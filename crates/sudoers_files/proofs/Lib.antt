@@ -5,3 +5,4 @@ pub mod Visited
 pub mod Gathered
 pub mod Keeping
 pub mod Settling
+pub mod ReadingLemmas

@@ -11,34 +11,34 @@ use Rattle.std.proofs.lemmas.Slice.Eq.{bytes_eq-Decides}
 use Rattle.sudoers_tree.specs.declared.named_files.NamedFile.{NamedFile}
 use Rattle.sudoers_tree.specs.Load.{file_limit, has_file_with_name}
 use Rattle.sudoers_files.specs.declared.fault.GatherFault.TheVariants.{TooManyFiles}
-use Rattle.sudoers_files.specs.Gather.{gather_result_and_then, gathered_with_file, gathered_unless_found, gathered_unless_full, gathered_after_visit, gathered_after_visits}
+use Rattle.sudoers_files.specs.Gather.{gather_result_and_then, gathered_with_file_and_includes, gathered_unless_found, gathered_unless_missing_or_full, gathered_after_file_visit, gathered_after_file_visits}
 use Rattle.sudoers_files.specs.Folder.{sorted_file_names_in_folder}
 use Rattle.sudoers_files.specs.Included.{file_names_included_by_file}
-use Rattle.sudoers_files.specs.Shelf.{limited_bytes_of_named_file, included_base_names_in}
-use Rattle.sudoers_files.specs.internal.Gathering.{AreFoundOrMissing, AreFolderNamesSettled, IsFoundOrMissing, name_byte_order}
+use Rattle.sudoers_files.specs.Shelf.{named_file_bytes_truncated_past_limit, included_base_names_in}
+use Rattle.sudoers_files.specs.internal.Gathering.{AreFoundOrMissing, AreFilesOfFoldersFoundOrMissing, IsFoundOrMissing, name_byte_order}
 use Rattle.sudoers_files.proofs.Keeping.{visits_keep_property_kept_by_visit, visit_keeps_names_found, equal_results_have_equal_files, appended_file_has_its_name_found, name_after_append_is_in_old_or_new}
 use Rattle.sudoers_files.proofs.Visited.{GatherResult, visit_of_missing_file_adds_nothing, visit_of_found_name_adds_nothing}
 
 -- ---- visits of settled names
 
-visit_of_settled_name_changes_nothing : (known found : List NamedFile) (left : ℕ) (name : List ℕ) → IsFoundOrMissing known found name → gathered_after_visit left known found name ≡ Ok found
+visit_of_settled_name_changes_nothing : (known found : List NamedFile) (left : ℕ) (name : List ℕ) → IsFoundOrMissing known found name → gathered_after_file_visit left known found name ≡ Ok found
 visit_of_settled_name_changes_nothing known found left name (inl has) = visit_of_found_name_adds_nothing known found left name has
 visit_of_settled_name_changes_nothing known found left name (inr gone) = by (has_file_with_name name found) refl
   where
-    by : (t : Bool) → has_file_with_name name found ≡ t → gathered_after_visit left known found name ≡ Ok found
+    by : (t : Bool) → has_file_with_name name found ≡ t → gathered_after_file_visit left known found name ≡ Ok found
     by true has = visit_of_found_name_adds_nothing known found left name has
     by false other = visit_of_missing_file_adds_nothing known found left name other gone
 
-pub visits_of_settled_names_change_nothing : (known found : List NamedFile) (left : ℕ) (names : List (List ℕ)) → AreFoundOrMissing known found names → gathered_after_visits (gathered_after_visit left known) found names ≡ Ok found
+pub visits_of_settled_names_change_nothing : (known found : List NamedFile) (left : ℕ) (names : List (List ℕ)) → AreFoundOrMissing known found names → gathered_after_file_visits (gathered_after_file_visit left known) found names ≡ Ok found
 visits_of_settled_names_change_nothing known found left [] all = refl
 visits_of_settled_names_change_nothing known found left (name ∷ names) all =
-    ap (λ r. gather_result_and_then r (λ now. gathered_after_visits (gathered_after_visit left known) now names)) (visit_of_settled_name_changes_nothing known found left name all.0) ∙ visits_of_settled_names_change_nothing known found left names all.1
+    ap (λ r. gather_result_and_then r (λ now. gathered_after_file_visits (gathered_after_file_visit left known) now names)) (visit_of_settled_name_changes_nothing known found left name all.0) ∙ visits_of_settled_names_change_nothing known found left names all.1
 
 -- ---- what a visit settles
 
-visits_keep_name_settled : (known before now : List NamedFile) (left : ℕ) (names : List (List ℕ)) (q : List ℕ) → gathered_after_visits (gathered_after_visit left known) before names ≡ Ok now
+visits_keep_name_settled : (known before now : List NamedFile) (left : ℕ) (names : List (List ℕ)) (q : List ℕ) → gathered_after_file_visits (gathered_after_file_visit left known) before names ≡ Ok now
     → IsFoundOrMissing known before q → IsFoundOrMissing known now q
-visits_keep_name_settled known before now left names q is (inl has) = inl (visits_keep_property_kept_by_visit (λ files. has_file_with_name q files ≡ true) (gathered_after_visit left known) (visit_keeps_names_found known left q) before now names has is)
+visits_keep_name_settled known before now left names q is (inl has) = inl (visits_keep_property_kept_by_visit (λ files. has_file_with_name q files ≡ true) (gathered_after_file_visit left known) (visit_keeps_names_found known left q) before now names has is)
 visits_keep_name_settled known before now left names q is (inr gone) = inr gone
 
 names_stay_settled_if_each_name_does : (known before now : List NamedFile) (names : List (List ℕ)) → ((q : List ℕ) → IsFoundOrMissing known before q → IsFoundOrMissing known now q)
@@ -47,7 +47,7 @@ names_stay_settled_if_each_name_does known before now [] keeps all = tt
 names_stay_settled_if_each_name_does known before now (name ∷ names) keeps all = (keeps name all.0, names_stay_settled_if_each_name_does known before now names keeps all.1)
 
 -- The name of a visit is settled after it.
-visit_settles_its_name : (known before now : List NamedFile) (left : ℕ) (name : List ℕ) → gathered_after_visit left known before name ≡ Ok now → IsFoundOrMissing known now name
+visit_settles_its_name : (known before now : List NamedFile) (left : ℕ) (name : List ℕ) → gathered_after_file_visit left known before name ≡ Ok now → IsFoundOrMissing known now name
 visit_settles_its_name known before now left name is = by_left left is
   where
     by_next : (next : NamedFile → GatherResult) → ((bytes : List ℕ) → next (record { name = name; bytes = bytes }) ≡ Ok now → has_file_with_name name now ≡ true)
@@ -58,40 +58,40 @@ visit_settles_its_name known before now left name is = by_left left is
         by_limit true bytes f = absurd cc
         by_limit false bytes f = inl (taken bytes f)
 
-        by_front : (o : Option (List ℕ)) → limited_bytes_of_named_file name known ≡ o → gathered_unless_full next before name o ≡ Ok now → IsFoundOrMissing known now name
+        by_front : (o : Option (List ℕ)) → named_file_bytes_truncated_past_limit name known ≡ o → gathered_unless_missing_or_full next before name o ≡ Ok now → IsFoundOrMissing known now name
         by_front None gone f = inr gone
         by_front (Some bytes) there f = by_limit (nat_le file_limit (length before)) bytes f
 
-        by_name : (t : Bool) → has_file_with_name name before ≡ t → (if t then Ok before else gathered_unless_full next before name (limited_bytes_of_named_file name known)) ≡ Ok now → IsFoundOrMissing known now name
+        by_name : (t : Bool) → has_file_with_name name before ≡ t → (if t then Ok before else gathered_unless_missing_or_full next before name (named_file_bytes_truncated_past_limit name known)) ≡ Ok now → IsFoundOrMissing known now name
         by_name true has f = inl (subst (λ fs. has_file_with_name name fs ≡ true) (equal_results_have_equal_files before now f) has)
-        by_name false other f = by_front (limited_bytes_of_named_file name known) refl f
+        by_name false other f = by_front (named_file_bytes_truncated_past_limit name known) refl f
 
-    by_left : (l : ℕ) → gathered_after_visit l known before name ≡ Ok now → IsFoundOrMissing known now name
+    by_left : (l : ℕ) → gathered_after_file_visit l known before name ≡ Ok now → IsFoundOrMissing known now name
     by_left zero e = by_next (λ file. Err TooManyFiles) (λ bytes f. absurd cc) e
     by_left (suc l) e =
-        by_next (gathered_with_file (gathered_after_visit l known) known before)
+        by_next (gathered_with_file_and_includes (gathered_after_file_visit l known) known before)
         (λ bytes f.
         let file : NamedFile = record { name = name; bytes = bytes } in
-        visits_keep_property_kept_by_visit (λ files. has_file_with_name name files ≡ true) (gathered_after_visit l known) (visit_keeps_names_found known l name) (before ++ file ∷ []) now (file_names_included_by_file known file) (appended_file_has_its_name_found before file) f)
+        visits_keep_property_kept_by_visit (λ files. has_file_with_name name files ≡ true) (gathered_after_file_visit l known) (visit_keeps_names_found known l name) (before ++ file ∷ []) now (file_names_included_by_file known file) (appended_file_has_its_name_found before file) f)
         e
 
-pub visits_settle_their_names : (known before now : List NamedFile) (left : ℕ) (names : List (List ℕ)) → gathered_after_visits (gathered_after_visit left known) before names ≡ Ok now → AreFoundOrMissing known now names
+pub visits_settle_their_names : (known before now : List NamedFile) (left : ℕ) (names : List (List ℕ)) → gathered_after_file_visits (gathered_after_file_visit left known) before names ≡ Ok now → AreFoundOrMissing known now names
 visits_settle_their_names known before now left [] is = tt
-visits_settle_their_names known before now left (name ∷ names) is = by (gathered_after_visit left known before name) refl is (λ mid. visits_settle_their_names known mid now left names)
+visits_settle_their_names known before now left (name ∷ names) is = by (gathered_after_file_visit left known before name) refl is (λ mid. visits_settle_their_names known mid now left names)
   where
-    by : (r : GatherResult) → gathered_after_visit left known before name ≡ r → gather_result_and_then r (λ mid. gathered_after_visits (gathered_after_visit left known) mid names) ≡ Ok now
-        → ((mid : List NamedFile) → gathered_after_visits (gathered_after_visit left known) mid names ≡ Ok now → AreFoundOrMissing known now names) → AreFoundOrMissing known now (name ∷ names)
+    by : (r : GatherResult) → gathered_after_file_visit left known before name ≡ r → gather_result_and_then r (λ mid. gathered_after_file_visits (gathered_after_file_visit left known) mid names) ≡ Ok now
+        → ((mid : List NamedFile) → gathered_after_file_visits (gathered_after_file_visit left known) mid names ≡ Ok now → AreFoundOrMissing known now names) → AreFoundOrMissing known now (name ∷ names)
     by (Ok mid) here e later = (visits_keep_name_settled known mid now left names name e (visit_settles_its_name known before mid left name here), later mid e)
     by (Err fault) here e later = absurd cc
 
 -- ---- settled folders
 
 -- no folders
-pub empty_folder_set_is_settled : (known found : List NamedFile) (folders : BTreeSet (Vec ℕ Global)) → folders.keys ≡ [] → AreFolderNamesSettled known found folders
+pub empty_folder_set_is_settled : (known found : List NamedFile) (folders : BTreeSet (Vec ℕ Global)) → folders.keys ≡ [] → AreFilesOfFoldersFoundOrMissing known found folders
 empty_folder_set_is_settled known found folders none folder has = absurd (let no : false ≡ true = sym (ap (list_any (λ k. is_eq (name_byte_order folder k))) none) ∙ has in cc)
 
 -- after a file is appended
-pub appending_file_keeps_folders_settled : (known before : List NamedFile) (file : NamedFile) (folders : BTreeSet (Vec ℕ Global)) → AreFolderNamesSettled known before folders → AreFolderNamesSettled known (before ++ file ∷ []) folders
+pub appending_file_keeps_folders_settled : (known before : List NamedFile) (file : NamedFile) (folders : BTreeSet (Vec ℕ Global)) → AreFilesOfFoldersFoundOrMissing known before folders → AreFilesOfFoldersFoundOrMissing known (before ++ file ∷ []) folders
 appending_file_keeps_folders_settled known before file folders settled folder has =
     names_stay_settled_if_each_name_does known before (before ++ file ∷ []) (sorted_file_names_in_folder folder.items (included_base_names_in folder.items known)) keeps (settled folder has)
   where
@@ -129,7 +129,7 @@ key_after_insert_is_inserted_or_old key x (y ∷ keys) has = by (name_byte_order
 
 -- after a folder is inserted of which all is settled
 pub inserting_settled_folder_keeps_settled : (known found : List NamedFile) (folders more : BTreeSet (Vec ℕ Global)) (key : Vec ℕ Global) → more.keys ≡ insert_key name_byte_order folders.keys key
-    → AreFolderNamesSettled known found folders → AreFoundOrMissing known found (sorted_file_names_in_folder key.items (included_base_names_in key.items known)) → AreFolderNamesSettled known found more
+    → AreFilesOfFoldersFoundOrMissing known found folders → AreFoundOrMissing known found (sorted_file_names_in_folder key.items (included_base_names_in key.items known)) → AreFilesOfFoldersFoundOrMissing known found more
 inserting_settled_folder_keeps_settled known found folders more key is settled all folder has =
     by (key_after_insert_is_inserted_or_old key folder folders.keys (sym (ap (list_any (λ k. is_eq (name_byte_order folder k))) is) ∙ has))
   where

@@ -6,7 +6,7 @@ use Rattle.sudoers_files.specs.declared.fault.FileFault.{FileFault}
 use Rattle.sudoers_files.specs.declared.fault.FileFault.TheVariants as file_fault
 use Rattle.sudoers_files.specs.declared.fault.GatherFault.{GatherFault}
 use Rattle.sudoers_files.specs.declared.fault.GatherFault.TheVariants.{NoRoot, Device, TooManyFiles, NoMemory}
-use Rattle.sudoers_files.specs.Shelf.{FileDeviceState, IsFailureCountAfter, IsEndlessCountAfter, limited_bytes_of_named_file}
+use Rattle.sudoers_files.specs.Shelf.{FileDeviceState, IsFailureCountAfter, IsEndlessCountAfter, named_file_bytes_truncated_past_limit}
 use Rattle.sudoers_files.specs.Included.{file_names_included_by_file}
 
 -- a fault of a file, as one of gathering
@@ -20,38 +20,38 @@ gather_result_and_then (Ok found) next = next found
 gather_result_and_then (Err fault) next = Err fault
 
 -- the outcome of a visit of a name after these files are found: the files that are found then, or a fault
-abbrev pub GatherVisit : Type 0
-GatherVisit = List NamedFile → List ℕ → Result (List NamedFile) GatherFault
+abbrev pub GatherVisitFunction : Type 0
+GatherVisitFunction = List NamedFile → List ℕ → Result (List NamedFile) GatherFault
 
 -- the outcome of visits of these names, one after another
-abbrev pub gathered_after_visits : GatherVisit → List NamedFile → List (List ℕ) → Result (List NamedFile) GatherFault
-gathered_after_visits gathered_after_visit found [] = Ok found
-gathered_after_visits gathered_after_visit found (name ∷ names) = gather_result_and_then (gathered_after_visit found name) (λ now. gathered_after_visits gathered_after_visit now names)
+abbrev pub gathered_after_file_visits : GatherVisitFunction → List NamedFile → List (List ℕ) → Result (List NamedFile) GatherFault
+gathered_after_file_visits gathered_after_file_visit found [] = Ok found
+gathered_after_file_visits gathered_after_file_visit found (name ∷ names) = gather_result_and_then (gathered_after_file_visit found name) (λ now. gathered_after_file_visits gathered_after_file_visit now names)
 
 -- the files that are found, then the file, then the files to which it leads
-abbrev pub gathered_with_file : GatherVisit → List NamedFile → List NamedFile → NamedFile → Result (List NamedFile) GatherFault
-gathered_with_file gathered_after_visit files found file = gathered_after_visits gathered_after_visit (found ++ file ∷ []) (file_names_included_by_file files file)
+abbrev pub gathered_with_file_and_includes : GatherVisitFunction → List NamedFile → List NamedFile → NamedFile → Result (List NamedFile) GatherFault
+gathered_with_file_and_includes gathered_after_file_visit files found file = gathered_after_file_visits gathered_after_file_visit (found ++ file ∷ []) (file_names_included_by_file files file)
 
 -- the outcome `next` of the file, if it is there. If as many files are found as there may be, it is a fault. A missing file adds nothing.
-abbrev pub gathered_unless_full : (NamedFile → Result (List NamedFile) GatherFault) → List NamedFile → List ℕ → Option (List ℕ) → Result (List NamedFile) GatherFault
-gathered_unless_full next found name None = Ok found
-gathered_unless_full next found name (Some bytes) = if nat_le file_limit (length found) then Err TooManyFiles else next (record { name = name; bytes = bytes })
+abbrev pub gathered_unless_missing_or_full : (NamedFile → Result (List NamedFile) GatherFault) → List NamedFile → List ℕ → Option (List ℕ) → Result (List NamedFile) GatherFault
+gathered_unless_missing_or_full next found name None = Ok found
+gathered_unless_missing_or_full next found name (Some bytes) = if nat_le file_limit (length found) then Err TooManyFiles else next (record { name = name; bytes = bytes })
 
 abbrev pub gathered_unless_found : (NamedFile → Result (List NamedFile) GatherFault) → List NamedFile → List NamedFile → List ℕ → Result (List NamedFile) GatherFault
-gathered_unless_found next files found name = if has_file_with_name name found then Ok found else gathered_unless_full next found name (limited_bytes_of_named_file name files)
+gathered_unless_found next files found name = if has_file_with_name name found then Ok found else gathered_unless_missing_or_full next found name (named_file_bytes_truncated_past_limit name files)
 
 -- the outcome of a visit of a name, where files may be nested `left` levels deeper
-abbrev pub gathered_after_visit : ℕ → List NamedFile → GatherVisit
-gathered_after_visit zero files found name = gathered_unless_found (λ file. Err TooManyFiles) files found name
-gathered_after_visit (suc left) files found name = gathered_unless_found (gathered_with_file (gathered_after_visit left files) files found) files found name
+abbrev pub gathered_after_file_visit : ℕ → List NamedFile → GatherVisitFunction
+gathered_after_file_visit zero files found name = gathered_unless_found (λ file. Err TooManyFiles) files found name
+gathered_after_file_visit (suc left) files found name = gathered_unless_found (gathered_with_file_and_includes (gathered_after_file_visit left files) files found) files found name
 
 abbrev pub gathered_from_root_bytes : List NamedFile → List ℕ → Option (List ℕ) → Result (List NamedFile) GatherFault
 gathered_from_root_bytes files root None = Err NoRoot
-gathered_from_root_bytes files root (Some bytes) = gathered_with_file (gathered_after_visit file_limit files) files [] (record { name = root; bytes = bytes })
+gathered_from_root_bytes files root (Some bytes) = gathered_with_file_and_includes (gathered_after_file_visit file_limit files) files [] (record { name = root; bytes = bytes })
 
 -- the root and the files to which it leads, or the fault of gathering them
 unfoldable pub gathered_files_or_fault : List NamedFile → List ℕ → Result (List NamedFile) GatherFault
-gathered_files_or_fault files root = gathered_from_root_bytes files root (limited_bytes_of_named_file root files)
+gathered_files_or_fault files root = gathered_from_root_bytes files root (named_file_bytes_truncated_past_limit root files)
 
 -- ---- what a gathering does to its files
 

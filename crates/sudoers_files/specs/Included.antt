@@ -16,13 +16,13 @@ file_names_of_lead files (Some (File name)) = name ∷ []
 file_names_of_lead files (Some (Dir dir)) = sorted_file_names_in_folder dir (included_base_names_in dir files)
 
 -- the names that `names_of` gives for each of these lines of the file `name`, in the order of the lines
-abbrev pub names_for_each_line : (Option Lead → List (List ℕ)) → List ℕ → List (List ℕ) → List (List ℕ)
-names_for_each_line names_of name [] = []
-names_for_each_line names_of name (line ∷ lines) = names_of (include_lead_of_line name line) ++ names_for_each_line names_of name lines
+abbrev pub names_from_include_leads_of_lines : (Option Lead → List (List ℕ)) → List ℕ → List (List ℕ) → List (List ℕ)
+names_from_include_leads_of_lines names_of name [] = []
+names_from_include_leads_of_lines names_of name (line ∷ lines) = names_of (include_lead_of_line name line) ++ names_from_include_leads_of_lines names_of name lines
 
 -- the names of the files to which these lines of the file `name` lead, in the order of the lines
 abbrev pub file_names_included_by_lines : List NamedFile → List ℕ → List (List ℕ) → List (List ℕ)
-file_names_included_by_lines files = names_for_each_line (file_names_of_lead files)
+file_names_included_by_lines files = names_from_include_leads_of_lines (file_names_of_lead files)
 
 -- the lines of a text; none if the text cannot be cut
 abbrev pub lines_of_cut_or_none : Result (List (List ℕ)) TextFault → List (List ℕ)

@@ -1,3 +1,5 @@
+pub mod Device
+pub mod Reading
 pub mod Shelf
 pub mod Folder
 pub mod Included

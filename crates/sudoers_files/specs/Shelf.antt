@@ -7,7 +7,8 @@ use Rattle.std.specs.Str.{bytes_eq}
 use Rattle.sudoers_text.specs.Fault.{text_limit}
 use Rattle.sudoers_tree.specs.declared.named_files.NamedFile.{NamedFile}
 use Rattle.sudoers_tree.specs.Lead.{folder_of}
-use Rattle.sudoers_tree.specs.Targets.{base_name_of_file, is_includable_base_name}
+use Rattle.sudoers_tree.specs.Targets.{base_name_of_file_name, is_includable_base_name}
+use Rattle.sudoers_files.specs.Device.{IsCountHigherOrAtMaximum}
 use Rattle.sudoers_files.specs.declared.fault.FileFault.{FileFault}
 use Rattle.sudoers_files.specs.declared.fault.FileFault.TheVariants.{Failed, NoEnd, NoMemory}
 
@@ -18,20 +19,16 @@ pub record FileDeviceState : Type 0 where
   pub failures : ℕ
   pub endless : ℕ
 
--- a count rose, or is the greatest that it can be
-abbrev pub HasCountRisen : ℕ → ℕ → Type 0
-HasCountRisen old new = (old < new) ⊎ (new ≡ 2 ^ 64 - 1)
-
 -- `Failed` raises the count of failures. Other faults do not change it.
 abbrev pub IsFailureCountAfter : FileFault → ℕ → ℕ → Type 0
-IsFailureCountAfter Failed old new = HasCountRisen old new
+IsFailureCountAfter Failed old new = IsCountHigherOrAtMaximum old new
 IsFailureCountAfter NoEnd old new = new ≡ old
 IsFailureCountAfter NoMemory old new = new ≡ old
 
 -- `NoEnd` raises the count of files without an end. Other faults do not change it.
 abbrev pub IsEndlessCountAfter : FileFault → ℕ → ℕ → Type 0
 IsEndlessCountAfter Failed old new = new ≡ old
-IsEndlessCountAfter NoEnd old new = HasCountRisen old new
+IsEndlessCountAfter NoEnd old new = IsCountHigherOrAtMaximum old new
 IsEndlessCountAfter NoMemory old new = new ≡ old
 
 -- A call does not change the files. Its fault is counted.
@@ -40,19 +37,19 @@ IsFaultCounted (Ok x) old new = new ≡ old
 IsFaultCounted (Err fault) old new = (new.files ≡ old.files) × IsFailureCountAfter fault old.failures new.failures × IsEndlessCountAfter fault old.endless new.endless
 
 -- the bytes of the file with this name, up to the first past the limit of a text; of two files with one name, those of the first
-abbrev pub limited_bytes_of_named_file : List ℕ → List NamedFile → Option (List ℕ)
-limited_bytes_of_named_file name [] = None
-limited_bytes_of_named_file name (file ∷ files) = if bytes_eq name file.name then Some (take (text_limit + 1) file.bytes) else limited_bytes_of_named_file name files
+abbrev pub named_file_bytes_truncated_past_limit : List ℕ → List NamedFile → Option (List ℕ)
+named_file_bytes_truncated_past_limit name [] = None
+named_file_bytes_truncated_past_limit name (file ∷ files) = if bytes_eq name file.name then Some (take (text_limit + 1) file.bytes) else named_file_bytes_truncated_past_limit name files
 
 -- the names, without their folder, of the files in the folder `dir`
 abbrev pub base_names_in_folder : List ℕ → List NamedFile → List (List ℕ)
 base_names_in_folder dir [] = []
-base_names_in_folder dir (file ∷ files) = if bytes_eq (folder_of file.name) (dir ++ 47 ∷ []) then base_name_of_file file.name ∷ base_names_in_folder dir files else base_names_in_folder dir files
+base_names_in_folder dir (file ∷ files) = if bytes_eq (folder_of file.name) (dir ++ 47 ∷ []) then base_name_of_file_name file.name ∷ base_names_in_folder dir files else base_names_in_folder dir files
 
 -- What a call that reads a file returns, and what it does to the files.
 pub record IsFileReadResult (result : Result (Option (List ℕ)) FileFault) (name : List ℕ) (old new : FileDeviceState) : Type 0 where
   pub counts : IsFaultCounted result old new
-  pub told : IfOk result (λ bytes. IfSome old.files (λ files. bytes ≡ limited_bytes_of_named_file name files))
+  pub told : IfOk result (λ bytes. IfSome old.files (λ files. bytes ≡ named_file_bytes_truncated_past_limit name files))
   pub most : IfOk result (λ bytes. IfSome bytes (λ bytes. length bytes ≤ text_limit + 1))
 
 -- the other names, if there is a name

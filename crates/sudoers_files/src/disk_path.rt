@@ -38,7 +38,7 @@ pub fn resolve_path_below<S: FileSystem>(
         // Only the proof uses this number.
         let _ = turn;
         let Some(rest) = way.rest.take() else {
-            return way.join_resolved_path(alloc, top);
+            return way.join_top_and_resolved_parts(alloc, top);
         };
         way.resolve_next_part(system, alloc, top, rest.as_str())?;
     }
@@ -65,7 +65,7 @@ impl PathResolution {
 
     /// Returns the path to which the way has led, below the folder `top`. The disk takes no longer path than a name, where the system whose
     /// root is `top` may find the file.
-    fn join_resolved_path(&self, alloc: Global, top: &str) -> io::Result<String> {
+    fn join_top_and_resolved_parts(&self, alloc: Global, top: &str) -> io::Result<String> {
         let mut path = String::from_str(alloc, top)?;
         for part in self.parts.as_slice() {
             path.push('/')?;
@@ -90,22 +90,22 @@ impl PathResolution {
             None => (rest, None),
         };
         match part {
-            "" => self.keep_unresolved_rest(alloc, after),
+            "" => self.set_unresolved_rest(alloc, after),
             "." => {
                 self.check_folder_searchable(system, alloc, top)?;
-                self.keep_unresolved_rest(alloc, after)
+                self.set_unresolved_rest(alloc, after)
             }
             ".." => {
                 self.check_folder_searchable(system, alloc, top)?;
                 let _ = self.parts.pop();
-                self.keep_unresolved_rest(alloc, after)
+                self.set_unresolved_rest(alloc, after)
             }
             _ => self.enter_part_or_link(system, alloc, top, part, after),
         }
     }
 
     /// Keeps `after` as the rest of the name.
-    fn keep_unresolved_rest(&mut self, alloc: Global, after: Option<&str>) -> io::Result<()> {
+    fn set_unresolved_rest(&mut self, alloc: Global, after: Option<&str>) -> io::Result<()> {
         if let Some(after) = after {
             self.rest = Some(String::from_str(alloc, after)?);
         }
@@ -119,7 +119,7 @@ impl PathResolution {
         alloc: Global,
         top: &str,
     ) -> io::Result<()> {
-        let mut path = self.join_resolved_path(alloc, top)?;
+        let mut path = self.join_top_and_resolved_parts(alloc, top)?;
         path.push_str("/.")?;
         if is_path_too_long(path.as_str()) {
             return Err(io::Error::from(ErrorKind::InvalidData));
@@ -138,20 +138,20 @@ impl PathResolution {
         after: Option<&str>,
     ) -> io::Result<()> {
         self.parts.push(String::from_str(alloc, part)?)?;
-        let path = self.join_resolved_path(alloc, top)?;
+        let path = self.join_top_and_resolved_parts(alloc, top)?;
         let metadata = fs::symlink_metadata(system, path.as_str())?;
         if metadata.is_symlink() {
             let _ = self.parts.pop();
             return self.follow_link_target(
                 alloc,
-                link_target_of(system, alloc, path.as_str())?,
+                read_link_target(system, alloc, path.as_str())?,
                 after,
             );
         }
         if after.is_some() && !metadata.is_dir() {
             return Err(io::Error::from(ErrorKind::NotADirectory));
         }
-        self.keep_unresolved_rest(alloc, after)
+        self.set_unresolved_rest(alloc, after)
     }
 
     /// Goes to the target `target` of a link. `after` is the rest of the name.
@@ -184,7 +184,7 @@ pub fn is_path_too_long(path: &str) -> bool {
 }
 
 /// Returns the target of the link `path`.
-fn link_target_of<S: FileSystem>(system: &S, alloc: Global, path: &str) -> io::Result<String> {
+fn read_link_target<S: FileSystem>(system: &S, alloc: Global, path: &str) -> io::Result<String> {
     match system.read_link(alloc, path) {
         Ok(target) => Ok(target.into_string()),
         Err(error) if error.kind() == ErrorKind::InvalidFilename => Err(io::Error::from(

@@ -2,16 +2,16 @@
 
 ghost use Rattle.std.specs.Prelude.{◌≡◌, ◌++◌, ◌∷◌, [], Some, IfOk, MatchOption, None, not, if◌then◌else◌};
 ghost use Rattle.std.specs.Str.{bytes_eq};
-ghost use Rattle.sudoers_files.specs.Shelf.{limited_bytes_of_named_file, base_names_in_folder, unread_base_names_in, included_base_names_in};
+ghost use Rattle.sudoers_files.specs.Shelf.{named_file_bytes_truncated_past_limit, base_names_in_folder, unread_base_names_in, included_base_names_in};
 ghost use Rattle.sudoers_tree.specs.Targets.{is_includable_base_name};
 ghost use Rattle.std.specs.List.{filter};
 ghost use Rattle.std.specs.Option.{option_map};
 
 use crate::fault::FileFault;
-use crate::files::Files;
+use crate::files_trait::Files;
 use std::alloc::{AllocError, Global};
 use sudoers_text::TEXT_LIMIT;
-use sudoers_tree::{Items, NamedFile, base_name_of, folder_of, is_included_base_name};
+use sudoers_tree::{Items, NamedFile, base_name_of_path, folder_of, is_included_base_name};
 
 /// Files in memory. The name of a file gives its folder. Of two files with one name, the first counts.
 #[derive(Drop)]
@@ -32,7 +32,7 @@ impl Files for FilesInMemory {
     ghost shelf = { λ memory. record { files = Some memory.files.items; failures = 0; endless = 0 } };
 
     fn read(&mut self, alloc: Global, name: &[u8]) -> Result<Option<Items<u8>>, FileFault> {
-        match bytes_of_file_up_to_limit(self.files.as_slice(), name) {
+        match find_file_bytes_truncated_past_limit(self.files.as_slice(), name) {
             Some(front) => Ok(Some(Items::from_slice(alloc, front)?)),
             None => Ok(None),
         }
@@ -69,8 +69,8 @@ impl Files for FilesInMemory {
 }
 
 /// Returns the bytes of the file `name`, up to the first past the limit of a text. Returns nothing if the file is missing.
-fn bytes_of_file_up_to_limit<'a>(files: &'a [NamedFile], name: &[u8]) -> Option<&'a [u8]>
-    ensures { MatchOption result (limited_bytes_of_named_file name.now files.now ≡ None) (λ front. limited_bytes_of_named_file name.now files.now ≡ Some front.now) }
+fn find_file_bytes_truncated_past_limit<'a>(files: &'a [NamedFile], name: &[u8]) -> Option<&'a [u8]>
+    ensures { MatchOption result (named_file_bytes_truncated_past_limit name.now files.now ≡ None) (λ front. named_file_bytes_truncated_past_limit name.now files.now ≡ Some front.now) }
 {
     for file in files {
         if name == file.name.as_slice() {
@@ -82,7 +82,7 @@ fn bytes_of_file_up_to_limit<'a>(files: &'a [NamedFile], name: &[u8]) -> Option<
 }
 
 /// Returns whether `folder` is `dir` followed by `/`.
-fn is_folder_with_slash(folder: &[u8], dir: &[u8]) -> bool
+fn is_folder_equal_to_dir_with_slash(folder: &[u8], dir: &[u8]) -> bool
     ensures { result ≡ bytes_eq folder.now (dir.now ++ 47 ∷ []) }
 {
     match folder.split_last() {
@@ -102,8 +102,8 @@ fn list_base_names_in_folder(
     let mut names = Vec::new(alloc);
     for file in files {
         let name = file.name.as_slice();
-        if is_folder_with_slash(folder_of(name), dir) {
-            names.push(Items::from_slice(alloc, base_name_of(name))?)?;
+        if is_folder_equal_to_dir_with_slash(folder_of(name), dir) {
+            names.push(Items::from_slice(alloc, base_name_of_path(name))?)?;
         }
     }
     Ok(names)

@@ -3,15 +3,18 @@
 ghost use Rattle.std.specs.Prelude.{◌≡◌, ◌+◌, ◌≤◌, [], None, length, IfOk, IfSome};
 ghost use Rattle.sudoers_text.specs.Fault.{text_limit};
 
-use crate::device_counts::{DeviceFailureCounts, read_file_up_to_limit};
+use crate::counting_devices::Counted;
+use crate::device_counts::DeviceFailureAndEndlessFileCounts;
 use crate::disk_path::{is_path_too_long, resolve_path_below};
 use crate::fault::FileFault;
-use crate::files::Files;
+use crate::files_trait::Files;
+use crate::reading::read_to_end_or_byte_past_limit;
 use std::alloc::{AllocError, Global};
 use std::fs::DirEntry;
 use std::io::{ErrorKind, Read};
 use std::rt::Files as FileSystem;
 use std::{fs, io};
+use sudoers_text::TEXT_LIMIT;
 use sudoers_tree::{Items, is_included_base_name};
 
 /// The name of the file that a reader gives.
@@ -26,7 +29,7 @@ pub struct FilesOnDisk<S, R> {
     root: Items<u8>,
     input: R,
     asked: Items<u8>,
-    counts: DeviceFailureCounts,
+    counts: DeviceFailureAndEndlessFileCounts,
 }
 
 /// Which names of a folder are listed.
@@ -65,7 +68,7 @@ impl<S: FileSystem + AllocGlobal + Clone + Drop, R: Read + Drop> FilesOnDisk<S, 
             root,
             input,
             asked: Items::new(alloc),
-            counts: DeviceFailureCounts::new(),
+            counts: DeviceFailureAndEndlessFileCounts::new(),
         }
     }
 
@@ -93,15 +96,15 @@ impl<S: FileSystem + AllocGlobal + Clone + Drop, R: Read + Drop> FilesOnDisk<S, 
     {
         let is_root = name == self.root.as_slice();
         if is_root && name == STREAM_NAME {
-            return Ok(Some(read_file_up_to_limit(alloc, &mut self.input)?));
+            return Ok(Some(read_file(alloc, &mut self.input)?));
         }
         let Ok(name) = str::from_utf8(name) else {
             return Ok(None);
         };
         match self.open_disk_file(alloc, name, is_root) {
-            Ok(mut file) => Ok(Some(read_file_up_to_limit(alloc, &mut file)?)),
+            Ok(file) => Ok(Some(read_file(alloc, file)?)),
             Err(error) => {
-                check_is_missing_error(error.kind())?;
+                turn_error_kind_into_fault_unless_missing(error.kind())?;
                 Ok(None)
             }
         }
@@ -133,13 +136,13 @@ impl<S: FileSystem + AllocGlobal + Clone + Drop, R: Read + Drop> FilesOnDisk<S, 
         let entries = match self.open_folder(alloc, folder.as_str()) {
             Ok(entries) => entries,
             Err(error) => {
-                check_is_missing_error(error.kind())?;
+                turn_error_kind_into_fault_unless_missing(error.kind())?;
                 return Ok(None);
             }
         };
         let mut names = Vec::new(alloc);
         for entry in entries {
-            let entry = check_entry_readable(entry)?;
+            let entry = convert_error_of_folder_entry(entry)?;
             if self.is_entry_listed(alloc, folder.as_str(), &entry, listed)? {
                 names.push(Items::from_slice(alloc, entry.file_name().as_bytes())?)?;
             }
@@ -183,7 +186,7 @@ impl<S: FileSystem + AllocGlobal + Clone + Drop, R: Read + Drop> FilesOnDisk<S, 
             Ok(metadata) => Ok(metadata.is_file()),
             Err(error) if error.kind() == ErrorKind::FilesystemLoop => Ok(false),
             Err(error) => {
-                check_is_missing_error(error.kind())?;
+                turn_error_kind_into_fault_unless_missing(error.kind())?;
                 Ok(false)
             }
         }
@@ -272,7 +275,7 @@ impl<S: FileSystem + AllocGlobal + Clone + Drop, R: Read + Drop> Files for Files
 }
 
 /// Returns `Ok` if an error of the kind `kind` means that a file or a folder is missing, and else the fault of that kind.
-fn check_is_missing_error(kind: ErrorKind) -> Result<(), FileFault> {
+fn turn_error_kind_into_fault_unless_missing(kind: ErrorKind) -> Result<(), FileFault> {
     match kind {
         ErrorKind::NotFound
         | ErrorKind::NotADirectory
@@ -284,7 +287,7 @@ fn check_is_missing_error(kind: ErrorKind) -> Result<(), FileFault> {
 }
 
 /// Returns an entry of a folder, or why it cannot be read. A name that is not UTF-8 is `Failed`.
-fn check_entry_readable<S: FileSystem>(
+fn convert_error_of_folder_entry<S: FileSystem>(
     entry: io::Result<DirEntry<S, Global>>,
 ) -> Result<DirEntry<S, Global>, FileFault> {
     match entry {
@@ -292,4 +295,13 @@ fn check_entry_readable<S: FileSystem>(
         Err(error) if error.kind() == ErrorKind::OutOfMemory => Err(FileFault::NoMemory),
         Err(_) => Err(FileFault::Failed),
     }
+}
+
+/// Returns the bytes of `file`, up to the first past the limit of a text.
+fn read_file<F: Read + Drop>(alloc: Global, file: F) -> Result<Items<u8>, FileFault>
+    ensures { IfOk result (λ bytes. length bytes ≤ text_limit + 1) }
+{
+    let mut reader = Counted::new(file);
+    let bytes = read_to_end_or_byte_past_limit(alloc, &mut reader, TEXT_LIMIT)?;
+    Ok(Items::from_vec(bytes))
 }

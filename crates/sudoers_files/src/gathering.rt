@@ -2,17 +2,17 @@
 
 ghost use Rattle.std.specs.Prelude.{◌≡◌, ◌⊎◌, ◌++◌, ◌∷◌, [], List, Some, Ok, Err, IfErr, IfOk, MatchResult, OnOk};
 ghost use Rattle.sudoers_tree.specs.declared.named_files.NamedFile.{NamedFile as NamedFileOf};
-ghost use Rattle.sudoers_files.specs.Gather.{IsGatherDeviceOutcome, IsFaultOfDeviceOrMemory, gathered_files_or_fault, gathered_with_file, gathered_after_visit, gathered_after_visits};
+ghost use Rattle.sudoers_files.specs.Gather.{IsGatherDeviceOutcome, IsFaultOfDeviceOrMemory, gathered_files_or_fault, gathered_with_file_and_includes, gathered_after_file_visit, gathered_after_file_visits};
 ghost use Rattle.sudoers_files.specs.Included.{file_names_included_by_lines, file_names_of_lead};
 ghost use Rattle.sudoers_files.specs.Folder.{sorted_file_names_in_folder};
 ghost use Rattle.sudoers_tree.specs.Lead.{include_lead_of_line};
-ghost use Rattle.sudoers_files.specs.Shelf.{limited_bytes_of_named_file, included_base_names_in};
-ghost use Rattle.sudoers_files.specs.internal.Gathering.{AreFolderNamesSettled, IsGatherStepOutcome};
+ghost use Rattle.sudoers_files.specs.Shelf.{named_file_bytes_truncated_past_limit, included_base_names_in};
+ghost use Rattle.sudoers_files.specs.internal.Gathering.{AreFilesOfFoldersFoundOrMissing, IsGatherStepOutcome};
 
 use crate::fault::GatherFault;
-use crate::files::Files;
-use crate::include_lines::cut_include_lines;
-use crate::included_folder::join_folder_and_sorted_bases;
+use crate::files_trait::Files;
+use crate::include_lines::cut_include_lines_or_none;
+use crate::sorted_names_in_folder::sort_bases_and_join_folder;
 use std::alloc::Global;
 use std::collections::BTreeSet;
 use sudoers_tree::{FILE_LIMIT, Items, Lead, NamedFile, has_file_named, leads};
@@ -39,25 +39,25 @@ pub fn gather<F: Files>(
     let Some(bytes) = read_file_for_gathering(alloc, files, root)? else {
         return Err(GatherFault::NoRoot);
     };
-    let mut gathered = GatheringProgress::new(alloc);
+    let mut gathered = GatheredFilesAndFolders::new(alloc);
     gather_file_and_includes(alloc, FILE_LIMIT, files, root, bytes, &mut gathered)?;
     Ok(gathered.found)
 }
 
 /// The files that are gathered so far.
 #[derive(Drop)]
-struct GatheringProgress {
+struct GatheredFilesAndFolders {
     found: Vec<NamedFile>,
     /// Folders each of whose files is among these, or missing.
     folders: BTreeSet<Vec<u8>>,
 }
 
-impl GatheringProgress {
+impl GatheredFilesAndFolders {
     /// Returns no files.
-    fn new(alloc: Global) -> GatheringProgress
+    fn new(alloc: Global) -> GatheredFilesAndFolders
         ensures { (result.found.items ≡ []) × (result.folders.keys ≡ []) }
     {
-        GatheringProgress {
+        GatheredFilesAndFolders {
             found: Vec::new(alloc),
             folders: BTreeSet::new(alloc),
         }
@@ -71,7 +71,7 @@ fn read_file_for_gathering<F: Files>(
     name: &[u8],
 ) -> Result<Option<Items<u8>>, GatherFault>
     ensures told { (known : List NamedFileOf) → (F.shelf files.old).files ≡ Some known
-        → IfOk result (λ bytes. bytes ≡ limited_bytes_of_named_file name.now known) }
+        → IfOk result (λ bytes. bytes ≡ named_file_bytes_truncated_past_limit name.now known) }
     ensures asks { IsGatherDeviceOutcome result (F.shelf files.old) (F.shelf files.new) }
     ensures named { IfErr result IsFaultOfDeviceOrMemory }
 {
@@ -87,15 +87,15 @@ fn gather_file_and_includes<F: Files>(
     files: &mut F,
     name: &[u8],
     bytes: Items<u8>,
-    gathered: &mut GatheringProgress,
+    gathered: &mut GatheredFilesAndFolders,
 ) -> Result<(), GatherFault>
-    ensures comes { (known : List NamedFileOf) → (F.shelf files.old).files ≡ Some known → AreFolderNamesSettled known gathered.old.found.items gathered.old.folders
-        → IsGatherStepOutcome result gathered.new.found.items (gathered_with_file (gathered_after_visit left known) known gathered.old.found.items (record { name = name.now; bytes = bytes })) }
-    ensures settles { (known : List NamedFileOf) → (F.shelf files.old).files ≡ Some known → AreFolderNamesSettled known gathered.old.found.items gathered.old.folders
-        → OnOk result (AreFolderNamesSettled known gathered.new.found.items gathered.new.folders) }
+    ensures comes { (known : List NamedFileOf) → (F.shelf files.old).files ≡ Some known → AreFilesOfFoldersFoundOrMissing known gathered.old.found.items gathered.old.folders
+        → IsGatherStepOutcome result gathered.new.found.items (gathered_with_file_and_includes (gathered_after_file_visit left known) known gathered.old.found.items (record { name = name.now; bytes = bytes })) }
+    ensures settles { (known : List NamedFileOf) → (F.shelf files.old).files ≡ Some known → AreFilesOfFoldersFoundOrMissing known gathered.old.found.items gathered.old.folders
+        → OnOk result (AreFilesOfFoldersFoundOrMissing known gathered.new.found.items gathered.new.folders) }
     ensures asks { IsGatherDeviceOutcome result (F.shelf files.old) (F.shelf files.new) }
 {
-    let lines = cut_include_lines(alloc, name, bytes.as_slice())?;
+    let lines = cut_include_lines_or_none(alloc, name, bytes.as_slice())?;
     gathered.found.push(NamedFile {
         name: Items::from_slice(alloc, name)?,
         bytes,
@@ -115,12 +115,12 @@ fn gather_includes_of_line<F: Files>(
     files: &mut F,
     name: &[u8],
     line: &[u8],
-    gathered: &mut GatheringProgress,
+    gathered: &mut GatheredFilesAndFolders,
 ) -> Result<(), GatherFault>
-    ensures comes { (known : List NamedFileOf) → (F.shelf files.old).files ≡ Some known → AreFolderNamesSettled known gathered.old.found.items gathered.old.folders
-        → IsGatherStepOutcome result gathered.new.found.items (gathered_after_visits (gathered_after_visit left known) gathered.old.found.items (file_names_of_lead known (include_lead_of_line name.now line.now))) }
-    ensures settles { (known : List NamedFileOf) → (F.shelf files.old).files ≡ Some known → AreFolderNamesSettled known gathered.old.found.items gathered.old.folders
-        → OnOk result (AreFolderNamesSettled known gathered.new.found.items gathered.new.folders) }
+    ensures comes { (known : List NamedFileOf) → (F.shelf files.old).files ≡ Some known → AreFilesOfFoldersFoundOrMissing known gathered.old.found.items gathered.old.folders
+        → IsGatherStepOutcome result gathered.new.found.items (gathered_after_file_visits (gathered_after_file_visit left known) gathered.old.found.items (file_names_of_lead known (include_lead_of_line name.now line.now))) }
+    ensures settles { (known : List NamedFileOf) → (F.shelf files.old).files ≡ Some known → AreFilesOfFoldersFoundOrMissing known gathered.old.found.items gathered.old.folders
+        → OnOk result (AreFilesOfFoldersFoundOrMissing known gathered.new.found.items gathered.new.folders) }
     ensures asks { IsGatherDeviceOutcome result (F.shelf files.old) (F.shelf files.new) }
 {
     match leads(alloc, name, line)? {
@@ -144,12 +144,12 @@ fn gather_included_folder<F: Files>(
     left: usize,
     files: &mut F,
     dir: &[u8],
-    gathered: &mut GatheringProgress,
+    gathered: &mut GatheredFilesAndFolders,
 ) -> Result<(), GatherFault>
-    ensures comes { (known : List NamedFileOf) → (F.shelf files.old).files ≡ Some known → AreFolderNamesSettled known gathered.old.found.items gathered.old.folders
-        → IsGatherStepOutcome result gathered.new.found.items (gathered_after_visits (gathered_after_visit left known) gathered.old.found.items (sorted_file_names_in_folder dir.now (included_base_names_in dir.now known))) }
-    ensures settles { (known : List NamedFileOf) → (F.shelf files.old).files ≡ Some known → AreFolderNamesSettled known gathered.old.found.items gathered.old.folders
-        → OnOk result (AreFolderNamesSettled known gathered.new.found.items gathered.new.folders) }
+    ensures comes { (known : List NamedFileOf) → (F.shelf files.old).files ≡ Some known → AreFilesOfFoldersFoundOrMissing known gathered.old.found.items gathered.old.folders
+        → IsGatherStepOutcome result gathered.new.found.items (gathered_after_file_visits (gathered_after_file_visit left known) gathered.old.found.items (sorted_file_names_in_folder dir.now (included_base_names_in dir.now known))) }
+    ensures settles { (known : List NamedFileOf) → (F.shelf files.old).files ≡ Some known → AreFilesOfFoldersFoundOrMissing known gathered.old.found.items gathered.old.folders
+        → OnOk result (AreFilesOfFoldersFoundOrMissing known gathered.new.found.items gathered.new.folders) }
     ensures asks { IsGatherDeviceOutcome result (F.shelf files.old) (F.shelf files.new) }
 {
     let folder = Vec::from_slice(alloc, dir)?;
@@ -157,7 +157,7 @@ fn gather_included_folder<F: Files>(
         return Ok(());
     }
     let bases = files.list_included_names(alloc, dir)?;
-    let names = join_folder_and_sorted_bases(alloc, dir, bases.as_slice())?;
+    let names = sort_bases_and_join_folder(alloc, dir, bases.as_slice())?;
     for name in names.as_slice() {
         gather_named_file(alloc, left, files, name.as_slice(), gathered)?;
     }
@@ -173,12 +173,12 @@ fn gather_named_file<F: Files>(
     left: usize,
     files: &mut F,
     name: &[u8],
-    gathered: &mut GatheringProgress,
+    gathered: &mut GatheredFilesAndFolders,
 ) -> Result<(), GatherFault>
-    ensures comes { (known : List NamedFileOf) → (F.shelf files.old).files ≡ Some known → AreFolderNamesSettled known gathered.old.found.items gathered.old.folders
-        → IsGatherStepOutcome result gathered.new.found.items (gathered_after_visit left known gathered.old.found.items name.now) }
-    ensures settles { (known : List NamedFileOf) → (F.shelf files.old).files ≡ Some known → AreFolderNamesSettled known gathered.old.found.items gathered.old.folders
-        → OnOk result (AreFolderNamesSettled known gathered.new.found.items gathered.new.folders) }
+    ensures comes { (known : List NamedFileOf) → (F.shelf files.old).files ≡ Some known → AreFilesOfFoldersFoundOrMissing known gathered.old.found.items gathered.old.folders
+        → IsGatherStepOutcome result gathered.new.found.items (gathered_after_file_visit left known gathered.old.found.items name.now) }
+    ensures settles { (known : List NamedFileOf) → (F.shelf files.old).files ≡ Some known → AreFilesOfFoldersFoundOrMissing known gathered.old.found.items gathered.old.folders
+        → OnOk result (AreFilesOfFoldersFoundOrMissing known gathered.new.found.items gathered.new.folders) }
     ensures asks { IsGatherDeviceOutcome result (F.shelf files.old) (F.shelf files.new) }
 {
     if has_file_named(gathered.found.as_slice(), name) {

@@ -4,7 +4,7 @@ ghost use Rattle.std.specs.Prelude.{◌≡◌, ◌++◌, [], ℕ, List, Option, 
 ghost use Rattle.sudoers_text.specs.Cut.{cut_outcome_of_text};
 ghost use Rattle.sudoers_tree.specs.declared.include_leads.Lead.{Lead as LeadOf};
 ghost use Rattle.sudoers_tree.specs.Lead.{include_lead_of_line};
-ghost use Rattle.sudoers_files.specs.Included.{names_for_each_line, lines_of_cut_or_none};
+ghost use Rattle.sudoers_files.specs.Included.{names_from_include_leads_of_lines, lines_of_cut_or_none};
 
 use std::alloc::{AllocError, Global};
 use sudoers_text::{Lines, TextFault, cut};
@@ -15,13 +15,13 @@ use sudoers_tree::{Items, leads, may_include_files};
 /// # Errors
 ///
 /// Memory ran out.
-pub fn cut_include_lines(
+pub fn cut_include_lines_or_none(
     alloc: Global,
     name: &[u8],
     bytes: &[u8],
 ) -> Result<Vec<Items<u8>>, AllocError>
     ensures { (names_of : Option LeadOf → List (List ℕ)) → names_of None ≡ []
-        → IfOk result (λ kept. names_for_each_line names_of name.now kept.items ≡ names_for_each_line names_of name.now (lines_of_cut_or_none (cut_outcome_of_text bytes.now))) }
+        → IfOk result (λ kept. names_from_include_leads_of_lines names_of name.now kept.items ≡ names_from_include_leads_of_lines names_of name.now (lines_of_cut_or_none (cut_outcome_of_text bytes.now))) }
 {
     if !may_include_files(bytes) {
         return Ok(Vec::new(alloc));
@@ -40,7 +40,7 @@ fn select_include_lines(
     lines: &Lines<'_>,
 ) -> Result<Vec<Items<u8>>, AllocError>
     ensures { (names_of : Option LeadOf → List (List ℕ)) → names_of None ≡ []
-        → IfOk result (λ kept. names_for_each_line names_of name.now kept.items ≡ names_for_each_line names_of name.now lines.now) }
+        → IfOk result (λ kept. names_from_include_leads_of_lines names_of name.now kept.items ≡ names_from_include_leads_of_lines names_of name.now lines.now) }
 {
     let mut kept = Vec::new(alloc);
     for number in 0..lines.len() {
@@ -60,7 +60,7 @@ fn append_if_include_line(
     kept: &mut Vec<Items<u8>>,
 ) -> Result<(), AllocError>
     ensures { (names_of : Option LeadOf → List (List ℕ)) → names_of None ≡ []
-        → OnOk result (names_for_each_line names_of name.now kept.new.items ≡ names_for_each_line names_of name.now kept.old.items ++ names_of (include_lead_of_line name.now line.now)) }
+        → OnOk result (names_from_include_leads_of_lines names_of name.now kept.new.items ≡ names_from_include_leads_of_lines names_of name.now kept.old.items ++ names_of (include_lead_of_line name.now line.now)) }
 {
     let Some(_) = leads(alloc, name, line)? else {
         return Ok(());

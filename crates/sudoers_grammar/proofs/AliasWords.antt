@@ -21,7 +21,7 @@ use Rattle.sudoers_grammar.specs.Number.{is_nonempty_digit_string, id_limit, num
 use Rattle.sudoers_grammar.specs.declared.pattern.PatternSpelling.TheVariants.{Host as HostName, QuotedHost}
 use Rattle.sudoers_grammar.specs.Pattern.{pattern_of_text}
 use Rattle.sudoers_grammar.specs.Piece.{TokenWithBytes, has_first_byte, has_byte}
-use Rattle.sudoers_grammar.specs.Atom.{some_if_not_empty, word_value_or_bytes, group_atom_after_percent, user_atom_after_hash, user_atom_by_prefix, user_atom_of_word, user_atom_of_id, is_id_number_above_limit, user_atom_of_bounded_id, user_atom_of_token, address_network_or_host_atom, host_atom_without_escapes, host_atom_of_token, command_atom_of_word, command_atom_without_args, atom_of_token}
+use Rattle.sudoers_grammar.specs.Atom.{some_if_not_empty, word_value_or_bytes, group_atom_after_percent, uid_or_name_atom_after_hash, user_atom_by_prefix, user_atom_of_word, user_atom_of_id, is_id_number_above_limit, user_atom_of_bounded_id, user_atom_of_token, address_network_or_host_atom, host_atom_without_escapes, host_atom_of_token, command_atom_of_word, command_atom_without_args, atom_of_token}
 
 -- ---- atoms that are no aliases
 
@@ -76,7 +76,7 @@ group_atom_is_no_alias escaped (b ∷ rest) =
     (chosen_non_alias_atom_is_no_alias (b == 35 && is_nonempty_digit_string rest) numbers groups (mapped_non_alias_atom_is_no_alias atom.GroupId (λ x. refl) (number_if_within_limit id_limit rest))
     (mapped_non_alias_atom_is_no_alias atom.Group (λ x. refl) (some_if_not_empty (word_value_or_bytes escaped (b ∷ rest)))))
 
-user_atom_after_hash_is_no_alias : (text : List ℕ) → IsNoAliasAtom (user_atom_after_hash text)
+user_atom_after_hash_is_no_alias : (text : List ℕ) → IsNoAliasAtom (uid_or_name_atom_after_hash text)
 unfolding IsNoAliasAtom
 user_atom_after_hash_is_no_alias [] = tt
 user_atom_after_hash_is_no_alias (b ∷ rest) =
@@ -88,11 +88,11 @@ unfolding IsNoAliasAtom
 user_atom_by_prefix_is_no_alias escaped [] = tt
 user_atom_by_prefix_is_no_alias escaped (b ∷ rest) =
     let names = option_map atom.Name (some_if_not_empty (word_value_or_bytes escaped (b ∷ rest))) in
-    let numbers = if b == 35 then user_atom_after_hash rest else names in
+    let numbers = if b == 35 then uid_or_name_atom_after_hash rest else names in
     let netgroups = option_map atom.Netgroup (some_if_not_empty (word_value_or_bytes escaped rest)) in
     chosen_non_alias_atom_is_no_alias (b == 37) (group_atom_after_percent escaped rest) (if b == 43 then netgroups else numbers) (group_atom_is_no_alias escaped rest)
     (chosen_non_alias_atom_is_no_alias (b == 43) netgroups numbers (mapped_non_alias_atom_is_no_alias atom.Netgroup (λ x. refl) (some_if_not_empty (word_value_or_bytes escaped rest)))
-    (chosen_non_alias_atom_is_no_alias (b == 35) (user_atom_after_hash rest) names (user_atom_after_hash_is_no_alias rest) (mapped_non_alias_atom_is_no_alias atom.Name (λ x. refl) (some_if_not_empty (word_value_or_bytes escaped (b ∷ rest))))))
+    (chosen_non_alias_atom_is_no_alias (b == 35) (uid_or_name_atom_after_hash rest) names (user_atom_after_hash_is_no_alias rest) (mapped_non_alias_atom_is_no_alias atom.Name (λ x. refl) (some_if_not_empty (word_value_or_bytes escaped (b ∷ rest))))))
 
 user_atom_of_id_is_no_alias : (text : List ℕ) → IsNoAliasAtom (user_atom_of_id text)
 unfolding IsNoAliasAtom

@@ -11,7 +11,7 @@ use Rattle.sudoers_grammar.specs.declared.node.Kind.TheVariants.{User, Runas, Ho
 use Rattle.sudoers_grammar.specs.Node.{Digest, Member, Def}
 use Rattle.sudoers_grammar.specs.Node as node
 use Rattle.sudoers_grammar.specs.Piece.{TokenWithBytes, tokens_with_bytes}
-use Rattle.sudoers_grammar.specs.Grammar.{Many, MarkThenRule, Separated, Perhaps, start_of_first_token, stop_of_last_token, stop_of_last_member, IsMember, IsDigest, IsCommand, IsList, IsDef, IsAlias}
+use Rattle.sudoers_grammar.specs.Grammar.{Many, MarkThenRule, Separated, Perhaps, start_of_first_token, stop_of_last_token, stop_of_last_member, IsMember, IsDigest, IsCommand, IsAliasMemberList, IsDef, IsAliasLine}
 use Rattle.sudoers_grammar.specs.Line.{LineReadsAsNode}
 use Rattle.sudoers_grammar.specs.Ascend.{AreOrderedMembers, DefinitionContainsItsMembers, AreOrderedAliasDefinitions}
 
@@ -199,7 +199,7 @@ separated_members_are_ordered P keeps from to ts rest (m ∷ ms) a is =
       left = subst (λ n. AreOrderedPieces n to rest) stop all.left;
     }
 
-members_of_list_are_ordered : (k : Kind) (from to : ℕ) (ts rest : List TokenWithBytes) (ms : List Member) → AreOrderedPieces from to ts → IsList k ts ms rest → AreOrderedMembersWithRest from to ms rest
+members_of_list_are_ordered : (k : Kind) (from to : ℕ) (ts rest : List TokenWithBytes) (ms : List Member) → AreOrderedPieces from to ts → IsAliasMemberList k ts ms rest → AreOrderedMembersWithRest from to ms rest
 members_of_list_are_ordered User = separated_members_are_ordered (IsMember User) (member_rule_keeps_span User)
 members_of_list_are_ordered Runas = separated_members_are_ordered (IsMember Runas) (member_rule_keeps_span Runas)
 members_of_list_are_ordered Host = separated_members_are_ordered (IsMember Host) (member_rule_keeps_span Host)
@@ -224,7 +224,7 @@ definition_rule_keeps_span k from to ts rest d a is =
       left = subst (λ n. AreOrderedPieces n to rest) (sym is.stop) list.left;
     }
 
-definitions_of_alias_line_are_ordered : (k : Kind) (from to : ℕ) (ts rest : List TokenWithBytes) (ds : List Def) → AreOrderedPieces from to ts → IsAlias k ts ds rest → AreOrderedAliasDefinitions from to ds
+definitions_of_alias_line_are_ordered : (k : Kind) (from to : ℕ) (ts rest : List TokenWithBytes) (ds : List Def) → AreOrderedPieces from to ts → IsAliasLine k ts ds rest → AreOrderedAliasDefinitions from to ds
 definitions_of_alias_line_are_ordered k from to ts rest ds a is =
     let there : AreOrderedPieces from to (is.word ∷ is.behind) = subst (AreOrderedPieces from to) is.split a in
     let all = separated_rule_reads_ordered_spans start_of_definition stop_of_definition DefinitionContainsItsMembers (IsDef k) 58 (definition_rule_keeps_span k) is.word.stop to is.behind rest ds there.2 is.defs in

@@ -13,20 +13,20 @@ use Rattle.sudoers_grammar.specs.declared.node.Kind.{Kind}
 use Rattle.sudoers_grammar.specs.declared.node.Kind.TheVariants.{User, Runas, Host, Cmnd}
 use Rattle.sudoers_grammar.specs.Piece.{TokenWithBytes, is_word, is_alias_name, alias_kind_of_token}
 use Rattle.sudoers_grammar.specs.Node.{Member, Def}
-use Rattle.sudoers_grammar.specs.Grammar.{IsList, stop_of_last_member, IsDef, IsAlias}
+use Rattle.sudoers_grammar.specs.Grammar.{IsAliasMemberList, stop_of_last_member, IsDef, IsAliasLine}
 use Rattle.sudoers_grammar.specs.Renamed.{members_with_alias_renamed, alias_offsets_in_members, definition_with_alias_renamed, alias_offsets_in_definition}
 use Rattle.sudoers_grammar.proofs.RenamedPieces.{NameChange, alias_renaming_of_change, piece_with_moved_offsets, piece_with_new_name, AreTokensRenamedUpToRest, keep, swap, IsRuleKeptByRenaming, renaming_of_equal_tokens_is_same, moved_mark_is_mark, renaming_keeps_separated_rule}
 use Rattle.sudoers_grammar.proofs.RenamedMembers.{renaming_keeps_members}
 use Rattle.sudoers_grammar.proofs.RenamedCommands.{renaming_keeps_command_members}
 
 renaming_keeps_member_list : (c : NameChange) (k : Kind) → IsDefinableName c.fresh
-    → IsRuleKeptByRenaming (List Member) c (IsList k) (members_with_alias_renamed (alias_renaming_of_change c) k) (alias_offsets_in_members c.old k)
+    → IsRuleKeptByRenaming (List Member) c (IsAliasMemberList k) (members_with_alias_renamed (alias_renaming_of_change c) k) (alias_offsets_in_members c.old k)
 renaming_keeps_member_list c User fresh = renaming_keeps_members c User fresh
 renaming_keeps_member_list c Runas fresh = renaming_keeps_members c Runas fresh
 renaming_keeps_member_list c Host fresh = renaming_keeps_members c Host fresh
 renaming_keeps_member_list c Cmnd fresh = renaming_keeps_command_members c fresh
 
-member_list_is_not_empty : (k : Kind) (ts rest : List TokenWithBytes) → IsList k ts [] rest → ⊥
+member_list_is_not_empty : (k : Kind) (ts rest : List TokenWithBytes) → IsAliasMemberList k ts [] rest → ⊥
 member_list_is_not_empty User ts rest is = is
 member_list_is_not_empty Runas ts rest is = is
 member_list_is_not_empty Host ts rest is = is
@@ -37,7 +37,7 @@ stop_of_renamed_members_is_moved_stop : (c : NameChange) (k : Kind) (m : Member)
 stop_of_renamed_members_is_moved_stop c k m [] = refl
 stop_of_renamed_members_is_moved_stop c k m (n ∷ ms) = stop_of_renamed_members_is_moved_stop c k n ms
 
-stop_of_renamed_list_is_moved_stop : (c : NameChange) (k : Kind) (ts rest : List TokenWithBytes) (ms : List Member) → IsList k ts ms rest
+stop_of_renamed_list_is_moved_stop : (c : NameChange) (k : Kind) (ts rest : List TokenWithBytes) (ms : List Member) → IsAliasMemberList k ts ms rest
     → c.at (stop_of_last_member ms) ≡ stop_of_last_member (members_with_alias_renamed (alias_renaming_of_change c) k ms)
 stop_of_renamed_list_is_moved_stop c k ts rest [] is = absurd (member_list_is_not_empty k ts rest is)
 stop_of_renamed_list_is_moved_stop c k ts rest (m ∷ ms) is = sym (stop_of_renamed_members_is_moved_stop c k m ms)
@@ -117,7 +117,7 @@ unfolding alias_kind_of_token
 moved_piece_keeps_alias_kind c t = refl
 
 pub renaming_keeps_alias_line : (c : NameChange) (k : Kind) → IsDefinableName c.fresh
-    → IsRuleKeptByRenaming (List Def) c (IsAlias k) (map (definition_with_alias_renamed (alias_renaming_of_change c) k)) (flat_map (alias_offsets_in_definition c.old k))
+    → IsRuleKeptByRenaming (List Def) c (IsAliasLine k) (map (definition_with_alias_renamed (alias_renaming_of_change c) k)) (flat_map (alias_offsets_in_definition c.old k))
 renaming_keeps_alias_line c k fresh ts rest left ds is =
     let defs =
     renaming_keeps_separated_rule c 58 (IsDef k) (definition_with_alias_renamed (alias_renaming_of_change c) k) (alias_offsets_in_definition c.old k) (renaming_keeps_definition c k fresh) is.behind rest left ds is.defs in

@@ -6,8 +6,8 @@ use Rattle.sudoers_text.specs.declared.token.Mode.{Mode}
 use Rattle.sudoers_text.specs.declared.token.Mode.TheVariants.{Commands}
 use Rattle.sudoers_text.specs.declared.token.TokenKind.{TokenKind}
 use Rattle.sudoers_text.specs.declared.token.TokenKind.TheVariants.{Punct, Word}
-use Rattle.sudoers_text.specs.Part.{leading_run_size, quoted_run_size, argument_units_size, quote_before_separator_size}
-use Rattle.sudoers_text.specs.Piece.{plus_or_minus_equals_size, leading_keyword_size, quoted_argument_rest_size}
+use Rattle.sudoers_text.specs.Part.{leading_run_size, quotes_and_run_between_size, argument_units_size, quoted_front_to_inner_separator_size}
+use Rattle.sudoers_text.specs.Piece.{plus_or_minus_equals_size, defaults_or_at_include_word_size, quoted_argument_rest_size}
 use Rattle.sudoers_text.specs.Token.{bad_token_size, HasTokens}
 use Rattle.sudoers_text.specs.Found.{hash_id_size, optional_colon_id_size, numeric_id_size, colon_and_word_size, non_unix_group_size, comment_size_at, hash_include_size_at, command_path_size, argument_size, tokens_from_offset, tokens_of_line}
 use Rattle.sudoers_text.specs.LineMode.{line_mode}
@@ -25,7 +25,7 @@ use Rattle.sudoers_grammar.specs.Node.{Member, Node}
 use Rattle.sudoers_grammar.specs.Node as node
 use Rattle.sudoers_grammar.specs.Atom.{user_atom_of_word, user_atom_of_token, host_atom_without_escapes, host_atom_of_token, command_atom_without_args, atom_of_token}
 use Rattle.sudoers_grammar.specs.Number.{ipv4_number_of_text}
-use Rattle.sudoers_grammar.specs.Piece.{TokenWithBytes, token_with_bytes, tokens_with_bytes, is_mark_of_byte, is_given_word, alias_kind_of_token, include_dir_of_token}
+use Rattle.sudoers_grammar.specs.Piece.{TokenWithBytes, token_with_bytes, tokens_with_bytes, is_mark_of_byte, is_given_word, alias_kind_of_token, include_is_dir_of_token}
 use Rattle.sudoers_grammar.specs.Grammar.{IsMember, IsCommand, ReadsNodeWithRest}
 use Rattle.sudoers_grammar.specs.Line.{LineReadsAsNode}
 use Rattle.sudoers_grammar.specs.Renamed.{NamedAlias, renamed_alias, line_text_after_rename}
@@ -58,11 +58,11 @@ unfolding line_mode leading_run_size
 mode_of_example_line_is_commands = refl
 
 tokens_of_example_line_are_listed : tokens_of_line Commands line_of_host_and_command ≡ tokens_of_host_and_command_line
-unfolding tokens_of_line tokens_from_offset leading_run_size quoted_run_size argument_units_size quote_before_separator_size plus_or_minus_equals_size leading_keyword_size quoted_argument_rest_size bad_token_size hash_id_size optional_colon_id_size numeric_id_size colon_and_word_size non_unix_group_size comment_size_at hash_include_size_at command_path_size argument_size
+unfolding tokens_of_line tokens_from_offset leading_run_size quotes_and_run_between_size argument_units_size quoted_front_to_inner_separator_size plus_or_minus_equals_size defaults_or_at_include_word_size quoted_argument_rest_size bad_token_size hash_id_size optional_colon_id_size numeric_id_size colon_and_word_size non_unix_group_size comment_size_at hash_include_size_at command_path_size argument_size
 tokens_of_example_line_are_listed = refl
 
 example_line_reads_as_node : LineReadsAsNode line_of_host_and_command (node_with_command_name (codes "SH") 11)
-unfolding user_atom_of_word user_atom_of_token host_atom_without_escapes host_atom_of_token command_atom_without_args atom_of_token value_of_word ipv4_number_of_text is_mark_of_byte is_given_word alias_kind_of_token include_dir_of_token
+unfolding user_atom_of_word user_atom_of_token host_atom_without_escapes host_atom_of_token command_atom_without_args atom_of_token value_of_word ipv4_number_of_text is_mark_of_byte is_given_word alias_kind_of_token include_is_dir_of_token
 example_line_reads_as_node = record {
   tokens = tokens_of_host_and_command_line;
   has = subst (λ (m : Mode). HasTokens m line_of_host_and_command tokens_of_host_and_command_line) (sym mode_of_example_line_is_commands) (subst (HasTokens Commands line_of_host_and_command) tokens_of_example_line_are_listed (computed_tokens_are_tokens_of_line Commands line_of_host_and_command));

@@ -9,9 +9,9 @@ use Rattle.sudoers_grammar.specs.declared.node.Kind.{Kind}
 use Rattle.sudoers_grammar.specs.declared.node.Kind.TheVariants.{User, Runas, Host, Cmnd}
 use Rattle.sudoers_grammar.specs.Node.{Member, Scope, Setting, Param, Node}
 use Rattle.sudoers_grammar.specs.Node as node
-use Rattle.sudoers_grammar.specs.Piece.{TokenWithBytes, is_word, is_punct, is_comment, is_given_word, alias_kind_of_token, alias_kinds_by_keyword, include_dir_of_token, include_dirs_by_word, value_of_matching_row, operator_of_token, scope_kind_of_token, scope_kinds_by_sign}
+use Rattle.sudoers_grammar.specs.Piece.{TokenWithBytes, is_word, is_punct, is_comment, is_given_word, alias_kind_of_token, alias_kinds_by_keyword, include_is_dir_of_token, include_is_dir_by_word, value_of_matching_row, operator_of_token, scope_kind_of_sign_token_after, scope_kinds_by_sign}
 use Rattle.sudoers_grammar.specs.Atom.{include_path_of_token}
-use Rattle.sudoers_grammar.specs.Grammar.{Separated, IsScopeCommand, IsScopeList, BeginsNoScope, PerhapsScope, IsParamWith, IsParam, IsDefaults, IsInclude, BeginsNonSpecLine, BeginsSpec, is_defaults, IsEnd, ReadsNodeWithRest, Reads}
+use Rattle.sudoers_grammar.specs.Grammar.{Separated, IsScopeCommand, IsScopeMemberList, BeginsNoScope, PerhapsScope, IsFlagOrSetting, IsParam, IsDefaultsLine, IsIncludeLine, BeginsNoAliasIncludeOrDefaults, BeginsSpec, is_defaults, IsEnd, ReadsNodeWithRest, Reads}
 use Rattle.sudoers_grammar.specs.Renamed.{member_with_alias_renamed, alias_offsets_in_member, members_with_alias_renamed, alias_offsets_in_members, scope_with_alias_renamed, alias_offsets_in_scope, node_with_alias_renamed, alias_offsets_in_node}
 use Rattle.sudoers_grammar.proofs.RenamedPieces.{NameChange, alias_renaming_of_change, piece_with_moved_offsets, piece_with_new_name, AreTokensRenamedUpToRest, done, keep, swap, KeepsSecondTokenAdjacency, IsReadAfterRenaming, IsRuleKeptByRenaming, renaming_without_later_names_is_joined, renaming_of_equal_tokens_is_same, renaming_keeps_separated_rule, front_of_moved_tokens_is_kept, lists_without_names_are_read_again, no_offsets_of_value}
 use Rattle.sudoers_grammar.proofs.RenamedMembers.{moved_signs_have_same_odd_count, moved_signs_are_signs, renaming_keeps_members}
@@ -21,8 +21,8 @@ use Rattle.sudoers_grammar.proofs.RenamedSpecs.{renaming_keeps_user_specificatio
 
 -- ---- parameters
 
-renaming_keeps_parameter_with_setting : (c : NameChange) (o : Option Setting) (ts rest left : List TokenWithBytes) (p : Param) → IsParamWith o ts p rest
-    → IsReadAfterRenaming c (IsParamWith o) [] ts p rest left
+renaming_keeps_parameter_with_setting : (c : NameChange) (o : Option Setting) (ts rest left : List TokenWithBytes) (p : Param) → IsFlagOrSetting o ts p rest
+    → IsReadAfterRenaming c (IsFlagOrSetting o) [] ts p rest left
 unfolding operator_of_token
 renaming_keeps_parameter_with_setting c None ts rest left p is = record {
   new = map (piece_with_moved_offsets c) is.signs ++ piece_with_moved_offsets c is.name ∷ left;
@@ -75,7 +75,7 @@ renaming_keeps_scope_command c fresh ts rest left m is =
     record { new = all.new; is = (is.0, all.is); renames = all.renames }
 
 renaming_keeps_scope_list : (c : NameChange) (k : Kind) → IsDefinableName c.fresh
-    → IsRuleKeptByRenaming (List Member) c (IsScopeList k) (members_with_alias_renamed (alias_renaming_of_change c) k) (alias_offsets_in_members c.old k)
+    → IsRuleKeptByRenaming (List Member) c (IsScopeMemberList k) (members_with_alias_renamed (alias_renaming_of_change c) k) (alias_offsets_in_members c.old k)
 renaming_keeps_scope_list c User fresh = renaming_keeps_members c User fresh
 renaming_keeps_scope_list c Runas fresh = renaming_keeps_members c Runas fresh
 renaming_keeps_scope_list c Host fresh = renaming_keeps_members c Host fresh
@@ -83,12 +83,12 @@ renaming_keeps_scope_list c Cmnd fresh =
     renaming_keeps_separated_rule c 44 IsScopeCommand (member_with_alias_renamed (alias_renaming_of_change c) Cmnd) (alias_offsets_in_member c.old Cmnd) (renaming_keeps_scope_command c fresh)
 
 moved_sign_tells_same_scope_kind : (c : NameChange) (stop : ℕ) (t : TokenWithBytes) → (c.at t.start == c.at stop) ≡ (t.start == stop)
-    → scope_kind_of_token (c.at stop) (piece_with_moved_offsets c t) ≡ scope_kind_of_token stop t
-unfolding scope_kind_of_token
+    → scope_kind_of_sign_token_after (c.at stop) (piece_with_moved_offsets c t) ≡ scope_kind_of_sign_token_after stop t
+unfolding scope_kind_of_sign_token_after
 moved_sign_tells_same_scope_kind c stop t e = ap (λ (b : Bool). if is_punct t.kind && b then value_of_matching_row scope_kinds_by_sign t.text else None) e
 
-renamed_word_is_no_scope_sign : (c : NameChange) (stop : ℕ) (t : TokenWithBytes) → t.kind ≡ kind.Word → scope_kind_of_token stop (piece_with_new_name c t) ≡ None
-unfolding scope_kind_of_token
+renamed_word_is_no_scope_sign : (c : NameChange) (stop : ℕ) (t : TokenWithBytes) → t.kind ≡ kind.Word → scope_kind_of_sign_token_after stop (piece_with_new_name c t) ≡ None
+unfolding scope_kind_of_sign_token_after
 renamed_word_is_no_scope_sign c stop t word = ap (λ (k : TokenKind). if is_punct k && c.at t.start == stop then value_of_matching_row scope_kinds_by_sign c.fresh else None) word
 
 -- The next token stands directly behind this place then, where it does so now.
@@ -135,8 +135,8 @@ renaming_keeps_perhaps_scope c stop (Some s) ts mid rest us left fresh is after 
     )
 
 renaming_keeps_defaults_line : (c : NameChange) (o : Option Scope) (ps : List Param) (ts rest left : List TokenWithBytes) → IsDefinableName c.fresh
-    → ((stop : ℕ) → BeginsNoScope stop left) → IsDefaults ts o ps rest
-    → (new : List TokenWithBytes) × (KeepsSecondTokenAdjacency c ts → IsDefaults new (scope_with_alias_renamed (alias_renaming_of_change c) o) ps left)
+    → ((stop : ℕ) → BeginsNoScope stop left) → IsDefaultsLine ts o ps rest
+    → (new : List TokenWithBytes) × (KeepsSecondTokenAdjacency c ts → IsDefaultsLine new (scope_with_alias_renamed (alias_renaming_of_change c) o) ps left)
     × AreTokensRenamedUpToRest c (alias_offsets_in_scope c.old o) ts rest new left
 renaming_keeps_defaults_line c o ps ts rest left fresh after is =
     let params = renaming_keeps_parameters c is.behind_scope rest left ps is.params in
@@ -158,9 +158,9 @@ renaming_keeps_defaults_line c o ps ts rest left fresh after is =
 
 -- ---- lines
 
-renaming_keeps_include_line : (c : NameChange) (dir : Bool) (path : List ℕ) (ts rest left : List TokenWithBytes) → IsInclude dir path ts rest
-    → (us : List TokenWithBytes) × IsInclude dir path us left × AreTokensRenamedUpToRest c [] ts rest us left
-unfolding include_dir_of_token include_path_of_token
+renaming_keeps_include_line : (c : NameChange) (dir : Bool) (path : List ℕ) (ts rest left : List TokenWithBytes) → IsIncludeLine dir path ts rest
+    → (us : List TokenWithBytes) × IsIncludeLine dir path us left × AreTokensRenamedUpToRest c [] ts rest us left
+unfolding include_is_dir_of_token include_path_of_token
 renaming_keeps_include_line c dir path ts rest left is = (
   piece_with_moved_offsets c is.word ∷ piece_with_moved_offsets c is.name ∷ left,
   record { word = piece_with_moved_offsets c is.word; name = piece_with_moved_offsets c is.name; split = refl; is_include = is.is_include; is_path = is.is_path },
@@ -181,16 +181,16 @@ comment_test_tells_comment_kind kind.Name e = absurd (cc)
 comment_test_tells_comment_kind kind.Value e = absurd (cc)
 comment_test_tells_comment_kind kind.Bad e = absurd (cc)
 
-comment_token_begins_no_specification : (t : TokenWithBytes) → t.kind ≡ kind.Comment → BeginsNonSpecLine t
-unfolding alias_kind_of_token include_dir_of_token is_given_word
+comment_token_begins_no_specification : (t : TokenWithBytes) → t.kind ≡ kind.Comment → BeginsNoAliasIncludeOrDefaults t
+unfolding alias_kind_of_token include_is_dir_of_token is_given_word
 comment_token_begins_no_specification t e = record {
   no_kind = ap (λ (k : TokenKind). if is_word k then value_of_matching_row alias_kinds_by_keyword t.text else None) e;
-  no_include = ap (λ (k : TokenKind). if is_word k then value_of_matching_row include_dirs_by_word t.text else None) e;
+  no_include = ap (λ (k : TokenKind). if is_word k then value_of_matching_row include_is_dir_by_word t.text else None) e;
   no_defaults = ap (λ (k : TokenKind). is_word k && bytes_eq t.text (codes "Defaults")) e;
 }
 
-comment_token_is_no_scope_sign : (t : TokenWithBytes) (stop : ℕ) → t.kind ≡ kind.Comment → scope_kind_of_token stop t ≡ None
-unfolding scope_kind_of_token
+comment_token_is_no_scope_sign : (t : TokenWithBytes) (stop : ℕ) → t.kind ≡ kind.Comment → scope_kind_of_sign_token_after stop t ≡ None
+unfolding scope_kind_of_sign_token_after
 comment_token_is_no_scope_sign t stop e = ap (λ (k : TokenKind). if is_punct k && t.start == stop then value_of_matching_row scope_kinds_by_sign t.text else None) e
 
 moved_line_end_begins_specification : (c : NameChange) (rest : List TokenWithBytes) → IsEnd rest → BeginsSpec (map (piece_with_moved_offsets c) rest)

@@ -6,9 +6,9 @@ use Rattle.std.specs.Str.{bytes_eq}
 use Rattle.sudoers_text.specs.Word.{is_name}
 use Rattle.sudoers_text.specs.Renamed.{IsDefinableName}
 use Rattle.sudoers_grammar.specs.declared.node.Kind.TheVariants.{User, Runas, Host, Cmnd}
-use Rattle.sudoers_grammar.specs.Piece.{TokenWithBytes, is_word, alias_kind_of_token, include_dir_of_token, is_given_word, value_of_matching_row, alias_kinds_by_keyword, include_dirs_by_word}
+use Rattle.sudoers_grammar.specs.Piece.{TokenWithBytes, is_word, alias_kind_of_token, include_is_dir_of_token, is_given_word, value_of_matching_row, alias_kinds_by_keyword, include_is_dir_by_word}
 use Rattle.sudoers_grammar.specs.Node.{Member, RunasSpec, CmdSpec, HostGroup}
-use Rattle.sudoers_grammar.specs.Grammar.{Many, MarkThenRule, AreMembers, IsRunas, PerhapsRunas, IsOption, IsTag, IsCmdSpec, IsHostGroup, BeginsNonSpecLine, BeginsSpec, IsUserSpec}
+use Rattle.sudoers_grammar.specs.Grammar.{Many, MarkThenRule, AreMembers, IsRunas, PerhapsRunas, IsOption, IsTag, IsCmdSpec, IsHostGroup, BeginsNoAliasIncludeOrDefaults, BeginsSpec, IsUserSpec}
 use Rattle.sudoers_grammar.specs.Renamed.{member_with_alias_renamed, alias_offsets_in_member, members_with_alias_renamed, alias_offsets_in_members, runas_with_alias_renamed, alias_offsets_in_runas, runas_option_with_alias_renamed, alias_offsets_in_runas_option, command_with_alias_renamed, alias_offsets_in_command, host_group_with_alias_renamed, alias_offsets_in_host_group}
 use Rattle.sudoers_grammar.proofs.AliasWords.{name_differs_from_word_without_name}
 use Rattle.sudoers_grammar.proofs.RenamedPieces.{NameChange, alias_renaming_of_change, piece_with_moved_offsets, piece_with_new_name, AreTokensRenamedUpToRest, done, keep, swap, IsRuleKeptByRenaming, renamings_of_adjacent_parts_are_joined, renaming_without_later_names_is_joined, renaming_of_equal_tokens_is_same, renaming_keeps_many_rule, moved_mark_is_mark, renaming_keeps_mark_then_rule, renaming_keeps_separated_rule, renaming_keeps_perhaps_rule, lists_without_names_are_read_again}
@@ -120,16 +120,16 @@ word_in_no_row_has_no_value : {X : Type 0} (rows : List (List ℕ × X)) (w : Li
 word_in_no_row_has_no_value [] w all = refl
 word_in_no_row_has_no_value (row ∷ rows) w all = ap (λ (t : Bool). if t then Some row.1 else value_of_matching_row rows w) all.0 ∙ word_in_no_row_has_no_value rows w all.1
 
-moved_token_keeps_non_spec_start : (c : NameChange) (t : TokenWithBytes) → BeginsNonSpecLine t → BeginsNonSpecLine (piece_with_moved_offsets c t)
-unfolding alias_kind_of_token include_dir_of_token is_given_word
+moved_token_keeps_non_spec_start : (c : NameChange) (t : TokenWithBytes) → BeginsNoAliasIncludeOrDefaults t → BeginsNoAliasIncludeOrDefaults (piece_with_moved_offsets c t)
+unfolding alias_kind_of_token include_is_dir_of_token is_given_word
 moved_token_keeps_non_spec_start c t is = record { no_kind = is.no_kind; no_include = is.no_include; no_defaults = is.no_defaults }
 
 tested_none_is_none : {X : Type 0} (b : Bool) (o : Option X) → o ≡ None → (if b then o else None) ≡ None
 tested_none_is_none true o e = e
 tested_none_is_none false o e = refl
 
-renamed_token_begins_non_spec_line : (c : NameChange) (t : TokenWithBytes) → IsDefinableName c.fresh → BeginsNonSpecLine (piece_with_new_name c t)
-unfolding alias_kind_of_token include_dir_of_token is_given_word
+renamed_token_begins_non_spec_line : (c : NameChange) (t : TokenWithBytes) → IsDefinableName c.fresh → BeginsNoAliasIncludeOrDefaults (piece_with_new_name c t)
+unfolding alias_kind_of_token include_is_dir_of_token is_given_word
 renamed_token_begins_non_spec_line c t fresh =
     let no : (word : List ℕ) → is_name word ≡ false → bytes_eq c.fresh word ≡ false = λ word e. name_differs_from_word_without_name c.fresh word fresh.0 e in
     record {
@@ -144,8 +144,8 @@ renamed_token_begins_non_spec_line c t fresh =
             ),
           ));
       no_include =
-          tested_none_is_none (is_word t.kind) (value_of_matching_row include_dirs_by_word c.fresh)
-          (word_in_no_row_has_no_value include_dirs_by_word c.fresh
+          tested_none_is_none (is_word t.kind) (value_of_matching_row include_is_dir_by_word c.fresh)
+          (word_in_no_row_has_no_value include_is_dir_by_word c.fresh
           (no (codes "#include") refl, (no (codes "#includedir") refl, (no (codes "@include") refl, (no (codes "@includedir") refl, tt)))));
       no_defaults = ap (λ (b : Bool). is_word t.kind && b) (no (codes "Defaults") refl) ∙ and_none (is_word t.kind);
     }

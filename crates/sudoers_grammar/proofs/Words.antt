@@ -4,7 +4,7 @@ use Rattle.std.proofs.lemmas.Bool.Decides.{eqb_tells, nat_tests}
 use Rattle.std.specs.Prelude.{◌==◌, ◌||◌, option_map, if◌then◌else◌}
 use Rattle.std.specs.Str.{bytes_eq}
 use Rattle.sudoers_text.specs.Word.{is_among, is_tag, is_option_name, digest_kinds as digest_words, include_words as words_of_includes}
-use Rattle.sudoers_grammar.specs.Piece.{is_some, value_of_matching_row, options_by_name, tags_by_word, tag_and_sign_of_word, digest_kinds_by_word, include_dirs_by_word}
+use Rattle.sudoers_grammar.specs.Piece.{is_some, value_of_matching_row, options_by_name, tags_by_word, tag_and_sign_of_word, digest_kinds_by_word, include_is_dir_by_word}
 
 -- the words of a table
 abbrev words_of_table : {X : Type 0} → List (List ℕ × X) → List (List ℕ)
@@ -64,5 +64,5 @@ option_words_agree_with_grammar_options word = word_is_in_table_where_looked_up 
 pub digest_words_agree_with_grammar_kinds : (word : List ℕ) → is_among digest_words word ≡ is_some (value_of_matching_row digest_kinds_by_word word)
 digest_words_agree_with_grammar_kinds word = word_is_in_table_where_looked_up digest_kinds_by_word word
 
-pub include_words_agree_with_grammar_words : (word : List ℕ) → is_among words_of_includes word ≡ is_some (value_of_matching_row include_dirs_by_word word)
-include_words_agree_with_grammar_words word = word_is_in_table_where_looked_up include_dirs_by_word word
+pub include_words_agree_with_grammar_words : (word : List ℕ) → is_among words_of_includes word ≡ is_some (value_of_matching_row include_is_dir_by_word word)
+include_words_agree_with_grammar_words word = word_is_in_table_where_looked_up include_is_dir_by_word word

@@ -39,9 +39,9 @@ group_atom_after_percent escaped (b ∷ rest) =
     else option_map atom.Group (some_if_not_empty (word_value_or_bytes escaped (b ∷ rest))))
 
 -- behind `#`: a number, or a name that begins with it
-abbrev pub user_atom_after_hash : List ℕ → Option Atom
-user_atom_after_hash [] = None
-user_atom_after_hash (b ∷ rest) = if is_nonempty_digit_string (b ∷ rest) then option_map atom.Id (number_if_within_limit id_limit (b ∷ rest)) else Some (atom.Name (35 ∷ b ∷ rest))
+abbrev pub uid_or_name_atom_after_hash : List ℕ → Option Atom
+uid_or_name_atom_after_hash [] = None
+uid_or_name_atom_after_hash (b ∷ rest) = if is_nonempty_digit_string (b ∷ rest) then option_map atom.Id (number_if_within_limit id_limit (b ∷ rest)) else Some (atom.Name (35 ∷ b ∷ rest))
 
 -- A user by its prefix: a group, a netgroup, a number; without one a name. escaped: the text is a word, with its escapes.
 abbrev pub user_atom_by_prefix : Bool → List ℕ → Option Atom
@@ -49,7 +49,7 @@ user_atom_by_prefix escaped [] = None
 user_atom_by_prefix escaped (b ∷ rest) =
     if b == 37 then group_atom_after_percent escaped rest
     else (if b == 43 then option_map atom.Netgroup (some_if_not_empty (word_value_or_bytes escaped rest))
-    else (if b == 35 then user_atom_after_hash rest
+    else (if b == 35 then uid_or_name_atom_after_hash rest
     else option_map atom.Name (some_if_not_empty (word_value_or_bytes escaped (b ∷ rest)))))
 
 unfoldable pub user_atom_of_word : List ℕ → Option Atom
@@ -105,15 +105,15 @@ host_atom_of_token k text = None
 -- ---- commands (sudoers(5), Cmnd_List)
 
 -- an alias that no reserved word names
-abbrev pub command_alias_of_word : List ℕ → Option Atom
-command_alias_of_word text = if is_name text && not (is_reserved text) then Some (atom.Alias text) else None
+abbrev pub unreserved_alias_atom_of_word : List ℕ → Option Atom
+unreserved_alias_atom_of_word text = if is_name text && not (is_reserved text) then Some (atom.Alias text) else None
 
 abbrev pub command_atom_of_word : List ℕ → Option Atom
 command_atom_of_word text =
     if bytes_eq text (codes "ALL") then Some atom.All
     else (if bytes_eq text (codes "list") then Some atom.Listing
     else (if bytes_eq text (codes "sudoedit") then Some (atom.Sudoedit Any)
-    else command_alias_of_word text))
+    else unreserved_alias_atom_of_word text))
 
 -- a command without arguments
 unfoldable pub command_atom_without_args : TokenKind → List ℕ → Option Atom

@@ -9,7 +9,7 @@ use Rattle.sudoers_grammar.specs.declared.node.Tag.{Tag}
 use Rattle.sudoers_grammar.specs.Node.{Digest, Member, Def, RunasSpec, CmdSpec, HostGroup, Scope, Setting, Param, Node}
 use Rattle.sudoers_grammar.specs.Node as node
 use Rattle.sudoers_text.specs.Value.{value_of_word}
-use Rattle.sudoers_grammar.specs.Piece.{TokenWithBytes, is_arg, is_digest, is_parameter_name_kind, is_value, is_comment, is_mark_of_byte, is_given_word, is_alias_name, alias_kind_of_token, include_dir_of_token, option_of_token, tag_and_sign_of_token, digest_kind_of_token, operator_of_token, scope_kind_of_token}
+use Rattle.sudoers_grammar.specs.Piece.{TokenWithBytes, is_arg, is_digest, is_parameter_name_kind, is_value, is_comment, is_mark_of_byte, is_given_word, is_alias_name, alias_kind_of_token, include_is_dir_of_token, option_of_token, tag_and_sign_of_token, digest_kind_of_token, operator_of_token, scope_kind_of_sign_token_after}
 use Rattle.sudoers_grammar.specs.Atom.{atom_of_token, command_atom_of_tokens, is_command_allowing_digests, option_value_of_token, include_path_of_token}
 
 abbrev pub IsMark : ℕ → TokenWithBytes → Type 0
@@ -116,11 +116,11 @@ AreCommands = Separated 44 IsCommand
 -- ---- aliases (sudoers(5), Aliases)
 
 -- List, of that kind
-abbrev pub IsList : Kind → List TokenWithBytes → List Member → List TokenWithBytes → Type 0
-IsList User = AreMembers User
-IsList Runas = AreMembers Runas
-IsList Host = AreMembers Host
-IsList Cmnd = AreCommands
+abbrev pub IsAliasMemberList : Kind → List TokenWithBytes → List Member → List TokenWithBytes → Type 0
+IsAliasMemberList User = AreMembers User
+IsAliasMemberList Runas = AreMembers Runas
+IsAliasMemberList Host = AreMembers Host
+IsAliasMemberList Cmnd = AreCommands
 
 -- where the last member ends
 abbrev pub stop_of_last_member : List Member → ℕ
@@ -136,13 +136,13 @@ pub record IsDef (k : Kind) (ts : List TokenWithBytes) (d : Def) (rest : List To
   pub split : ts ≡ name ∷ equals ∷ behind
   pub is_name : is_alias_name name ≡ true
   pub is_equals : IsMark 61 equals
-  pub members : IsList k behind d.members rest
+  pub members : IsAliasMemberList k behind d.members rest
   pub same_name : d.name ≡ name.text
   pub start : d.start ≡ name.start
   pub stop : d.stop ≡ stop_of_last_member d.members
 
 -- Kind Def (":" Def)*
-pub record IsAlias (k : Kind) (ts : List TokenWithBytes) (ds : List Def) (rest : List TokenWithBytes) : Type 0 where
+pub record IsAliasLine (k : Kind) (ts : List TokenWithBytes) (ds : List Def) (rest : List TokenWithBytes) : Type 0 where
   pub word : TokenWithBytes
   pub behind : List TokenWithBytes
   pub split : ts ≡ word ∷ behind
@@ -211,14 +211,14 @@ abbrev pub is_defaults : TokenWithBytes → Bool
 is_defaults t = is_given_word (codes "Defaults") t
 
 -- The line begins with a word that begins no specification: of an include, an alias or Defaults.
-pub record BeginsNonSpecLine (t : TokenWithBytes) : Type 0 where
+pub record BeginsNoAliasIncludeOrDefaults (t : TokenWithBytes) : Type 0 where
   pub no_kind : alias_kind_of_token t ≡ None
-  pub no_include : include_dir_of_token t ≡ None
+  pub no_include : include_is_dir_of_token t ≡ None
   pub no_defaults : is_defaults t ≡ false
 
 abbrev pub BeginsSpec : List TokenWithBytes → Type 0
 BeginsSpec [] = Unit {0}
-BeginsSpec (t ∷ ts) = BeginsNonSpecLine t
+BeginsSpec (t ∷ ts) = BeginsNoAliasIncludeOrDefaults t
 
 -- Users Group (":" Group)*
 pub record IsUserSpec (ts : List TokenWithBytes) (us : List Member) (gs : List HostGroup) (rest : List TokenWithBytes) : Type 0 where
@@ -233,24 +233,24 @@ pub record IsUserSpec (ts : List TokenWithBytes) (us : List Member) (gs : List H
 abbrev pub IsScopeCommand : List TokenWithBytes → Member → List TokenWithBytes → Type 0
 IsScopeCommand ts m rest = (m.digests ≡ []) × IsCommand ts m rest
 
-abbrev pub IsScopeList : Kind → List TokenWithBytes → List Member → List TokenWithBytes → Type 0
-IsScopeList User = AreMembers User
-IsScopeList Runas = AreMembers Runas
-IsScopeList Host = AreMembers Host
-IsScopeList Cmnd = Separated 44 IsScopeCommand
+abbrev pub IsScopeMemberList : Kind → List TokenWithBytes → List Member → List TokenWithBytes → Type 0
+IsScopeMemberList User = AreMembers User
+IsScopeMemberList Runas = AreMembers Runas
+IsScopeMemberList Host = AreMembers Host
+IsScopeMemberList Cmnd = Separated 44 IsScopeCommand
 
 -- Sign List, directly behind the word that ends at this byte
 pub record IsScope (stop : ℕ) (ts : List TokenWithBytes) (s : Scope) (rest : List TokenWithBytes) : Type 0 where
   pub sign : TokenWithBytes
   pub behind : List TokenWithBytes
   pub split : ts ≡ sign ∷ behind
-  pub is_sign : scope_kind_of_token stop sign ≡ Some s.kind
-  pub members : IsScopeList s.kind behind s.members rest
+  pub is_sign : scope_kind_of_sign_token_after stop sign ≡ Some s.kind
+  pub members : IsScopeMemberList s.kind behind s.members rest
 
 -- No scope's sign stands there.
 abbrev pub BeginsNoScope : ℕ → List TokenWithBytes → Type 0
 BeginsNoScope stop [] = Unit {0}
-BeginsNoScope stop (t ∷ ts) = scope_kind_of_token stop t ≡ None
+BeginsNoScope stop (t ∷ ts) = scope_kind_of_sign_token_after stop t ≡ None
 
 abbrev pub PerhapsScope : ℕ → List TokenWithBytes → Option Scope → List TokenWithBytes → Type 0
 PerhapsScope stop ts None rest = (ts ≡ rest) × BeginsNoScope stop ts
@@ -279,15 +279,15 @@ pub record IsSetting (ts : List TokenWithBytes) (p : Param) (s : Setting) (rest 
   pub same_name : p.name ≡ name.text
   pub same_value : s.value ≡ value_of_word value.text
 
-abbrev pub IsParamWith : Option Setting → List TokenWithBytes → Param → List TokenWithBytes → Type 0
-IsParamWith None ts p rest = IsFlag ts p rest
-IsParamWith (Some s) ts p rest = IsSetting ts p s rest
+abbrev pub IsFlagOrSetting : Option Setting → List TokenWithBytes → Param → List TokenWithBytes → Type 0
+IsFlagOrSetting None ts p rest = IsFlag ts p rest
+IsFlagOrSetting (Some s) ts p rest = IsSetting ts p s rest
 
 abbrev pub IsParam : List TokenWithBytes → Param → List TokenWithBytes → Type 0
-IsParam ts p rest = IsParamWith p.setting ts p rest
+IsParam ts p rest = IsFlagOrSetting p.setting ts p rest
 
 -- "Defaults" (Sign List)? Param ("," Param)*
-pub record IsDefaults (ts : List TokenWithBytes) (scope : Option Scope) (ps : List Param) (rest : List TokenWithBytes) : Type 0 where
+pub record IsDefaultsLine (ts : List TokenWithBytes) (scope : Option Scope) (ps : List Param) (rest : List TokenWithBytes) : Type 0 where
   pub word : TokenWithBytes
   pub behind : List TokenWithBytes
   pub behind_scope : List TokenWithBytes
@@ -299,11 +299,11 @@ pub record IsDefaults (ts : List TokenWithBytes) (scope : Option Scope) (ps : Li
 -- ---- includes (sudoers(5), Including other files from within sudoers)
 
 -- ("@include" | "#include" | "@includedir" | "#includedir") path
-pub record IsInclude (dir : Bool) (path : List ℕ) (ts rest : List TokenWithBytes) : Type 0 where
+pub record IsIncludeLine (dir : Bool) (path : List ℕ) (ts rest : List TokenWithBytes) : Type 0 where
   pub word : TokenWithBytes
   pub name : TokenWithBytes
   pub split : ts ≡ word ∷ name ∷ rest
-  pub is_include : include_dir_of_token word ≡ Some dir
+  pub is_include : include_is_dir_of_token word ≡ Some dir
   pub is_path : include_path_of_token name ≡ Some path
 
 -- ---- lines
@@ -318,9 +318,9 @@ IsEnd (t ∷ u ∷ ts) = ⊥
 abbrev pub ReadsNodeWithRest : List TokenWithBytes → Node → List TokenWithBytes → Type 0
 ReadsNodeWithRest ts node.Blank rest = (ts ≡ []) × (rest ≡ [])
 ReadsNodeWithRest ts node.Comment rest = (t : TokenWithBytes) × (ts ≡ t ∷ []) × (is_comment t.kind ≡ true) × (rest ≡ [])
-ReadsNodeWithRest ts (node.Include dir path) rest = IsInclude dir path ts rest
-ReadsNodeWithRest ts (node.Defaults scope params) rest = IsDefaults ts scope params rest
-ReadsNodeWithRest ts (node.Alias k defs) rest = IsAlias k ts defs rest
+ReadsNodeWithRest ts (node.Include dir path) rest = IsIncludeLine dir path ts rest
+ReadsNodeWithRest ts (node.Defaults scope params) rest = IsDefaultsLine ts scope params rest
+ReadsNodeWithRest ts (node.Alias k defs) rest = IsAliasLine k ts defs rest
 ReadsNodeWithRest ts (node.Spec users groups) rest = IsUserSpec ts users groups rest
 
 -- Line: what these tokens say, with a comment behind it or none

@@ -76,15 +76,15 @@ abbrev pub is_time_stamp_size : ℕ → Bool
 is_time_stamp_size n = n == 11 || n == 13 || n == 15
 
 -- month, day and hour
-abbrev pub has_valid_stamp_date : List ℕ → Bool
-has_valid_stamp_date text = is_two_digits_within_range 1 12 4 text && is_two_digits_within_range 1 31 6 text && is_two_digits_within_range 0 23 8 text
+abbrev pub has_valid_stamp_month_day_hour : List ℕ → Bool
+has_valid_stamp_month_day_hour text = is_two_digits_within_range 1 12 4 text && is_two_digits_within_range 1 31 6 text && is_two_digits_within_range 0 23 8 text
 
 -- minutes and seconds, where they stand there
-abbrev pub has_valid_stamp_time : List ℕ → Bool
-has_valid_stamp_time text = (length text == 11 || is_two_digits_within_range 0 59 10 text) && (nat_lt (length text) 15 || is_two_digits_within_range 0 59 12 text)
+abbrev pub has_valid_stamp_minutes_and_seconds : List ℕ → Bool
+has_valid_stamp_minutes_and_seconds text = (length text == 11 || is_two_digits_within_range 0 59 10 text) && (nat_lt (length text) 15 || is_two_digits_within_range 0 59 12 text)
 
 -- A time stamp: `yyyymmddHH`, `yyyymmddHHMM` or `yyyymmddHHMMSS`, and `Z` (sudoers(5), Date_Spec).
 unfoldable pub is_time_stamp_text : List ℕ → Bool
 is_time_stamp_text text =
     is_time_stamp_size (length text) && has_last_byte 90 text && list_all is_digit (take (length text - 1) text)
-    && has_valid_stamp_date text && has_valid_stamp_time text
+    && has_valid_stamp_month_day_hour text && has_valid_stamp_minutes_and_seconds text

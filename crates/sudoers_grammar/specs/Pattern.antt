@@ -40,9 +40,9 @@ pattern_of_escaped_pair s b = if is_dropped_backslash_before s b then b ∷ [] e
 
 -- How many of the bytes behind a backslash belong to it, and the pattern that it is with them. A continuation and the blanks
 -- that follow it are nothing.
-abbrev pub pattern_escape_size : List ℕ → ℕ
-pattern_escape_size [] = 0
-pattern_escape_size (b ∷ rest) =
+abbrev pub pattern_escape_tail_size : List ℕ → ℕ
+pattern_escape_tail_size [] = 0
+pattern_escape_tail_size (b ∷ rest) =
     if begins_line_end (b ∷ rest) then line_end_size (b ∷ rest) + leading_blanks_size (drop (line_end_size (b ∷ rest)) (b ∷ rest)) else 1
 
 abbrev pub pattern_of_escape : PatternSpelling → List ℕ → List ℕ
@@ -54,7 +54,7 @@ abbrev pub pattern_of_remaining_bytes : PatternSpelling → ℕ → List ℕ →
 pattern_of_remaining_bytes s k [] = []
 pattern_of_remaining_bytes s (suc k) (b ∷ rest) = pattern_of_remaining_bytes s k rest
 pattern_of_remaining_bytes s zero (b ∷ rest) =
-    if b == 92 then pattern_of_escape s rest ++ pattern_of_remaining_bytes s (pattern_escape_size rest) rest
+    if b == 92 then pattern_of_escape s rest ++ pattern_of_remaining_bytes s (pattern_escape_tail_size rest) rest
     else pattern_of_byte s b ++ pattern_of_remaining_bytes s 0 rest
 
 unfoldable pub pattern_of_text : PatternSpelling → List ℕ → List ℕ

@@ -118,12 +118,12 @@ unfoldable pub alias_kind_of_token : TokenWithBytes → Option Kind
 alias_kind_of_token t = meaning_of_token_word (value_of_matching_row alias_kinds_by_keyword) t
 
 -- the words with which an include begins; true: of a directory
-abbrev pub include_dirs_by_word : List (List ℕ × Bool)
-include_dirs_by_word =
+abbrev pub include_is_dir_by_word : List (List ℕ × Bool)
+include_is_dir_by_word =
     (codes "#include", false) ∷ (codes "#includedir", true) ∷ (codes "@include", false) ∷ (codes "@includedir", true) ∷ []
 
-unfoldable pub include_dir_of_token : TokenWithBytes → Option Bool
-include_dir_of_token t = meaning_of_token_word (value_of_matching_row include_dirs_by_word) t
+unfoldable pub include_is_dir_of_token : TokenWithBytes → Option Bool
+include_is_dir_of_token t = meaning_of_token_word (value_of_matching_row include_is_dir_by_word) t
 
 -- the names of options
 abbrev pub options_by_name : List (List ℕ × OptionName)
@@ -171,8 +171,8 @@ abbrev pub scope_kinds_by_sign : List (List ℕ × Kind)
 scope_kinds_by_sign = (codes "@", Host) ∷ (codes ":", User) ∷ (codes "!", Cmnd) ∷ (codes ">", Runas) ∷ []
 
 -- It is a scope's sign, directly behind a word that ends at this byte.
-unfoldable pub scope_kind_of_token : ℕ → TokenWithBytes → Option Kind
-scope_kind_of_token stop t = if is_punct t.kind && t.start == stop then value_of_matching_row scope_kinds_by_sign t.text else None
+unfoldable pub scope_kind_of_sign_token_after : ℕ → TokenWithBytes → Option Kind
+scope_kind_of_sign_token_after stop t = if is_punct t.kind && t.start == stop then value_of_matching_row scope_kinds_by_sign t.text else None
 
 -- ---- bytes
 

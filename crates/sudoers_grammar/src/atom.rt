@@ -4,7 +4,7 @@ ghost use Rattle.std.specs.Prelude.{◌≡◌, ◌∷◌, List, ℕ, IfOk, optio
 ghost use Rattle.std.specs.Str.{bytes_eq};
 ghost use Rattle.sudoers_text.specs.Value.{value_of_word};
 ghost use Rattle.sudoers_grammar.specs.Number.{number_of_decimal_digits, id_limit, number_if_within_limit, ipv4_number_of_text};
-ghost use Rattle.sudoers_grammar.specs.Atom.{some_if_not_empty, word_value_or_bytes, group_atom_after_percent, user_atom_after_hash, user_atom_by_prefix, user_atom_of_word, id_digits_after_hash, user_atom_of_id, is_id_number_above_limit, user_atom_of_bounded_id, user_atom_of_token, address_network_or_host_atom, host_atom_without_escapes, host_atom_of_token, command_alias_of_word, command_atom_of_word, command_atom_without_args, atom_of_token, is_command_allowing_digests, is_option_value_allowed, option_value_of_token, include_path_of_token};
+ghost use Rattle.sudoers_grammar.specs.Atom.{some_if_not_empty, word_value_or_bytes, group_atom_after_percent, uid_or_name_atom_after_hash, user_atom_by_prefix, user_atom_of_word, id_digits_after_hash, user_atom_of_id, is_id_number_above_limit, user_atom_of_bounded_id, user_atom_of_token, address_network_or_host_atom, host_atom_without_escapes, host_atom_of_token, unreserved_alias_atom_of_word, command_atom_of_word, command_atom_without_args, atom_of_token, is_command_allowing_digests, is_option_value_allowed, option_value_of_token, include_path_of_token};
 ghost use Rattle.sudoers_grammar.specs.Seen.{model_of_token_part};
 
 use crate::items::Items;
@@ -18,14 +18,14 @@ use crate::token_with_text::{TokenWithText, begins_with_byte, has_byte};
 use std::alloc::{AllocError, Global};
 use sudoers_text::{TokenKind, is_name, is_reserved, value};
 
-/// The bytes, where there are any.
+/// Returns the bytes, if there are any.
 fn take_if_not_empty(bytes: Items<u8>) -> Option<Items<u8>>
     ensures { result ≡ some_if_not_empty bytes }
 {
     if bytes.len() == 0 { None } else { Some(bytes) }
 }
 
-/// The bytes, or what they stand for where they are a word.
+/// Returns the bytes, or the value of the word that they are.
 fn copy_bytes_or_word_value(
     alloc: Global,
     escaped: bool,
@@ -40,7 +40,7 @@ fn copy_bytes_or_word_value(
     }
 }
 
-/// A name that is not empty.
+/// Returns a name that is not empty.
 fn read_nonempty_name(
     alloc: Global,
     escaped: bool,
@@ -51,7 +51,7 @@ fn read_nonempty_name(
     Ok(take_if_not_empty(copy_bytes_or_word_value(alloc, escaped, text)?))
 }
 
-/// What stands behind `%`: a non-Unix group, a number or a group's name.
+/// Returns what stands behind `%`: a non-Unix group, a number or a group's name.
 fn parse_group_after_percent(
     alloc: Global,
     escaped: bool,
@@ -69,14 +69,14 @@ fn parse_group_after_percent(
     }
 }
 
-/// A user whose name begins with `#`: a number behind it, or all of the name.
-fn parse_user_after_hash(
+/// Returns a user whose name begins with `#`: a number behind it, or all of the name.
+fn parse_uid_or_name_after_hash(
     alloc: Global,
     name: &[u8],
     digits: &[u8],
 ) -> Result<Option<Atom>, AllocError>
     requires { name.now ≡ 35 ∷ digits.now }
-    ensures { IfOk result (λ atom. atom ≡ user_atom_after_hash digits.now) }
+    ensures { IfOk result (λ atom. atom ≡ uid_or_name_atom_after_hash digits.now) }
 {
     if digits.is_empty() {
         Ok(None)
@@ -87,7 +87,7 @@ fn parse_user_after_hash(
     }
 }
 
-/// A user by its prefix, and without one by name.
+/// Returns a user by its prefix, and without one by name.
 fn parse_user_by_prefix(
     alloc: Global,
     escaped: bool,
@@ -98,13 +98,13 @@ fn parse_user_by_prefix(
     match text {
         [b'%', rest @ ..] => parse_group_after_percent(alloc, escaped, rest),
         [b'+', rest @ ..] => Ok(read_nonempty_name(alloc, escaped, rest)?.map(Atom::Netgroup)),
-        [b'#', rest @ ..] => parse_user_after_hash(alloc, text, rest),
+        [b'#', rest @ ..] => parse_uid_or_name_after_hash(alloc, text, rest),
         [_, ..] => Ok(read_nonempty_name(alloc, escaped, text)?.map(Atom::Name)),
         [] => Ok(None),
     }
 }
 
-/// A user that is a word.
+/// Returns a user that is a word.
 #[tactic(auto, unfolding(crate::specs::Atom::user_atom_of_word))]
 fn parse_user_word(alloc: Global, text: &[u8]) -> Result<Option<Atom>, AllocError>
     ensures { IfOk result (λ atom. atom ≡ user_atom_of_word text.now) }
@@ -118,7 +118,7 @@ fn parse_user_word(alloc: Global, text: &[u8]) -> Result<Option<Atom>, AllocErro
     }
 }
 
-/// The digits of an ID, behind its `#`.
+/// Returns the digits of an ID, behind its `#`.
 fn digits_of_id(text: &[u8]) -> &[u8]
     ensures { result.now ≡ id_digits_after_hash text.now }
 {
@@ -130,16 +130,16 @@ fn digits_of_id(text: &[u8]) -> &[u8]
     &[]
 }
 
-/// Whether the number of an ID is above the limit.
+/// Returns whether the number of an ID is above the limit.
 pub fn is_id_above_limit(text: &[u8]) -> bool
     ensures { result ≡ is_id_number_above_limit text.now }
 {
     number_up_to(ID_LIMIT, digits_of_id(text)).is_none()
 }
 
-/// A user that is an ID: `#uid`, `%#gid`, or `%:#` and a name of digits.
+/// Returns a user that is an ID: `#uid`, `%#gid`, or `%:#` and a name of digits.
 #[tactic(auto, unfolding(crate::specs::Atom::user_atom_of_bounded_id))]
-fn parse_user_id(alloc: Global, text: &[u8]) -> Result<Option<Atom>, AllocError>
+fn parse_user_atom_that_is_id(alloc: Global, text: &[u8]) -> Result<Option<Atom>, AllocError>
     ensures { IfOk result (λ atom. atom ≡ user_atom_of_bounded_id text.now) }
 {
     let Some(number) = number_up_to(ID_LIMIT, digits_of_id(text)) else {
@@ -154,7 +154,7 @@ fn parse_user_id(alloc: Global, text: &[u8]) -> Result<Option<Atom>, AllocError>
     }
 }
 
-/// A user or runas user.
+/// Returns a user or runas user.
 #[tactic(auto, unfolding(crate::specs::Atom::user_atom_of_token))]
 fn parse_user_atom(alloc: Global, kind: TokenKind, text: &[u8]) -> Result<Option<Atom>, AllocError>
     ensures { IfOk result (λ atom. atom ≡ user_atom_of_token kind text.now) }
@@ -162,12 +162,12 @@ fn parse_user_atom(alloc: Global, kind: TokenKind, text: &[u8]) -> Result<Option
     match kind {
         TokenKind::Word => parse_user_word(alloc, text),
         TokenKind::Quoted => parse_user_by_prefix(alloc, false, value(alloc, text)?.as_slice()),
-        TokenKind::Id => parse_user_id(alloc, text),
+        TokenKind::Id => parse_user_atom_that_is_id(alloc, text),
         _ => Ok(None),
     }
 }
 
-/// A host that is a word without escapes, and neither `ALL` nor an alias nor a netgroup.
+/// Returns a host that is a word without escapes, and neither `ALL` nor an alias nor a netgroup.
 fn parse_address_network_or_host(alloc: Global, text: &[u8]) -> Result<Option<Atom>, AllocError>
     ensures { IfOk result (λ atom. atom ≡ address_network_or_host_atom text.now (ipv4_number_of_text text.now)) }
 {
@@ -180,7 +180,7 @@ fn parse_address_network_or_host(alloc: Global, text: &[u8]) -> Result<Option<At
     }
 }
 
-/// A host that is a word without escapes.
+/// Returns a host that is a word without escapes.
 #[tactic(auto, unfolding(crate::specs::Atom::host_atom_without_escapes))]
 fn parse_unescaped_host(alloc: Global, text: &[u8]) -> Result<Option<Atom>, AllocError>
     ensures { IfOk result (λ atom. atom ≡ host_atom_without_escapes text.now) }
@@ -196,7 +196,7 @@ fn parse_unescaped_host(alloc: Global, text: &[u8]) -> Result<Option<Atom>, Allo
     }
 }
 
-/// A host.
+/// Returns a host.
 #[tactic(auto, unfolding(crate::specs::Atom::host_atom_of_token))]
 fn parse_host_atom(alloc: Global, kind: TokenKind, text: &[u8]) -> Result<Option<Atom>, AllocError>
     ensures { IfOk result (λ atom. atom ≡ host_atom_of_token kind text.now) }
@@ -215,7 +215,7 @@ fn parse_host_atom(alloc: Global, kind: TokenKind, text: &[u8]) -> Result<Option
     }
 }
 
-/// A command that is a word.
+/// Returns a command that is a word.
 fn parse_command_word(alloc: Global, text: &[u8]) -> Result<Option<Atom>, AllocError>
     ensures { IfOk result (λ atom. atom ≡ command_atom_of_word text.now) }
 {
@@ -232,7 +232,7 @@ fn parse_command_word(alloc: Global, text: &[u8]) -> Result<Option<Atom>, AllocE
     }
 }
 
-/// A command without arguments.
+/// Returns a command without arguments.
 #[tactic(auto, unfolding(crate::specs::Atom::command_atom_without_args))]
 pub fn parse_command_without_args(
     alloc: Global,
@@ -250,7 +250,7 @@ pub fn parse_command_without_args(
     }
 }
 
-/// A member of a list of this kind that is one token.
+/// Returns a member of a list of this kind that is one token.
 #[tactic(auto, unfolding(crate::specs::Atom::atom_of_token))]
 pub fn parse_single_token_atom(
     alloc: Global,
@@ -266,14 +266,14 @@ pub fn parse_single_token_atom(
     }
 }
 
-/// Whether digests may stand before the command.
+/// Returns whether digests may stand before the command.
 pub fn may_have_digests(atom: &Atom) -> bool
     ensures { result ≡ is_command_allowing_digests atom.now }
 {
     matches!(atom, Atom::All | Atom::Path { .. })
 }
 
-/// Whether the option may have the value.
+/// Returns whether the option may have the value.
 fn is_valid_option_value(option: OptionName, value: &[u8]) -> bool
     ensures { result ≡ is_option_value_allowed option value.now }
 {
@@ -283,7 +283,7 @@ fn is_valid_option_value(option: OptionName, value: &[u8]) -> bool
     }
 }
 
-/// The value of an option.
+/// Returns the value of an option.
 #[tactic(auto, unfolding(crate::specs::Atom::option_value_of_token))]
 pub fn parse_option_value(
     alloc: Global,
@@ -303,7 +303,7 @@ pub fn parse_option_value(
     }
 }
 
-/// The path of an include.
+/// Returns the path of an include.
 #[tactic(auto, unfolding(crate::specs::Atom::include_path_of_token))]
 pub fn parse_include_path(
     alloc: Global,

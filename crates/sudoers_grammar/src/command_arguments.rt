@@ -19,7 +19,7 @@ pub enum ArglessCommand {
     Sudoedit,
 }
 
-/// Whether the argument is `""`, with continuations in it or not.
+/// Returns whether the argument is `""`, with continuations in it or not.
 fn is_empty_quotes_argument(text: &[u8], pattern: &[u8]) -> bool
     requires { pattern.now ≡ pattern_of_text Spelling.Command text.now }
     ensures { result ≡ is_argument_of_empty_quotes text.now }
@@ -27,7 +27,7 @@ fn is_empty_quotes_argument(text: &[u8], pattern: &[u8]) -> bool
     begins_with_byte(b'"', text) && pattern == b"\"\"".as_slice()
 }
 
-/// The arguments with one more.
+/// Appends an argument to the arguments.
 pub fn append_argument_to_args(alloc: Global, args: Args, text: &[u8]) -> Result<Args, AllocError>
     ensures { IfOk result (λ more. more ≡ args_with_one_more args text.now) }
 {

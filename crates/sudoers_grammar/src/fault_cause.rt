@@ -14,7 +14,7 @@ use crate::token_with_text::{TokenWithText, begins_with_byte};
 use std::alloc::{AllocError, Global};
 use sudoers_text::{TokenKind, is_whole_argument, value};
 
-/// Whether the token is a prefix with no name behind it. The name is what the text stands for.
+/// Returns whether the token is a prefix with no name behind it. The name is what the text stands for.
 fn is_prefix_without_name(kind: TokenKind, text: &[u8], name: &[u8]) -> bool
     requires { name.now ≡ value_of_word text.now }
     ensures { result ≡ is_lone_name_prefix kind text.now }
@@ -43,7 +43,7 @@ fn is_empty_quotes(kind: TokenKind, text: &[u8], name: &[u8]) -> bool
     }
 }
 
-/// The name without a `%` before it.
+/// Returns the name without a `%` before it.
 fn strip_leading_percent(name: &[u8]) -> &[u8]
     ensures { result.now ≡ name_without_percent name.now }
 {
@@ -54,7 +54,7 @@ fn strip_leading_percent(name: &[u8]) -> &[u8]
     }
 }
 
-/// Whether the name is `#` or `%#` and a number above the limit.
+/// Returns whether the name is `#` or `%#` and a number above the limit.
 fn is_id_name_above_limit(name: &[u8]) -> bool
     ensures { result ≡ is_name_of_too_high_id name.now }
 {
@@ -62,7 +62,7 @@ fn is_id_name_above_limit(name: &[u8]) -> bool
     begins_with_byte(b'#', number) && is_digit_string(&number[1..]) && is_id_above_limit(number)
 }
 
-/// Whether the token is an ID above the limit, or, where names stand, such a name in quotes.
+/// Returns whether the token is an ID above the limit, or, where names stand, such a name in quotes.
 fn is_token_id_above_limit(word: bool, kind: TokenKind, text: &[u8], name: &[u8]) -> bool
     requires { name.now ≡ value_of_word text.now }
     ensures { result ≡ (is_id_token_above_limit kind text.now || (word && is_quoted_id_above_limit kind text.now)) }
@@ -74,7 +74,7 @@ fn is_token_id_above_limit(word: bool, kind: TokenKind, text: &[u8], name: &[u8]
     }
 }
 
-/// Whether the token begins with `^` as a regular expression.
+/// Returns whether the token begins with `^` as a regular expression.
 fn begins_regex_in_command(path: bool, kind: TokenKind, text: &[u8]) -> bool
     ensures { result ≡ is_regex_where_command_stands path kind text.now }
 {
@@ -85,7 +85,7 @@ fn begins_regex_in_command(path: bool, kind: TokenKind, text: &[u8]) -> bool
     }
 }
 
-/// Why a token is refused that is neither Bad nor a comment.
+/// Returns why a token that is neither Bad nor a comment is refused.
 fn syntax_cause_of_token(place: ExpectedTokens, part: &TokenWithText<'_>, name: &[u8]) -> Why
     requires { name.now ≡ value_of_word part.now.text.now }
     ensures { result ≡ why_token_is_refused place part.now.kind part.now.text.now }
@@ -107,7 +107,7 @@ fn syntax_cause_of_token(place: ExpectedTokens, part: &TokenWithText<'_>, name: 
     }
 }
 
-/// Why a token is refused where this may stand.
+/// Returns why a token is refused in this context.
 ///
 /// # Errors
 ///

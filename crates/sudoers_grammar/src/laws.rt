@@ -7,7 +7,7 @@ ghost use Rattle.sudoers_grammar.specs.Node.{Def as DefOf, Node as NodeOf};
 ghost use Rattle.sudoers_grammar.specs.declared.node.Kind.{Kind as KindOf};
 ghost use Rattle.sudoers_grammar.specs.Node as node_of;
 ghost use Rattle.sudoers_text.specs.Word.{is_among, is_tag, is_option_name, digest_kinds as digest_words, include_words as words_of_includes};
-ghost use Rattle.sudoers_grammar.specs.Piece.{is_some, value_of_matching_row, options_by_name, tag_and_sign_of_word, digest_kinds_by_word, include_dirs_by_word};
+ghost use Rattle.sudoers_grammar.specs.Piece.{is_some, value_of_matching_row, options_by_name, tag_and_sign_of_word, digest_kinds_by_word, include_is_dir_by_word};
 ghost use Rattle.sudoers_grammar.specs.Line.{LineReadsAsNode, IsLineSyntaxFault};
 ghost use Rattle.sudoers_grammar.specs.Ascend.{AreOrderedAliasDefinitions, AreOrderedNameOffsets};
 ghost use Rattle.sudoers_text.specs.Ended.{ends_in_lf};
@@ -37,7 +37,7 @@ pub fn words_agree()
     ensures tags { (word : List ℕ) → is_tag word ≡ is_some (tag_and_sign_of_word word) }
     ensures options { (word : List ℕ) → is_option_name word ≡ is_some (value_of_matching_row options_by_name word) }
     ensures digests { (word : List ℕ) → is_among digest_words word ≡ is_some (value_of_matching_row digest_kinds_by_word word) }
-    ensures includes { (word : List ℕ) → is_among words_of_includes word ≡ is_some (value_of_matching_row include_dirs_by_word word) }
+    ensures includes { (word : List ℕ) → is_among words_of_includes word ≡ is_some (value_of_matching_row include_is_dir_by_word word) }
 {}
 
 /// The definitions of a line stand one behind another in it, and the members of each in their definition.

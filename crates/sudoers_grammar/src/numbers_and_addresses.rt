@@ -3,7 +3,7 @@
 ghost use Rattle.std.specs.Prelude.{◌≡◌, ◌==◌, ◌||◌, ◌≤◌, ◌<◌, ◌+◌, ◌*◌, ◌-◌, length, true, List, ℕ, Option, Some, None, option_map, IfSome, IfNone};
 ghost use Rattle.std.specs.List.{list_all};
 ghost use Rattle.sudoers_text.specs.Unit.{is_digit};
-ghost use Rattle.sudoers_grammar.specs.Number.{number_of_decimal_digits, is_nonempty_digit_string, id_limit, number_if_within_limit, canonical_number_up_to, parts_around_first_byte, address_of_octets, ipv4_number_of_text, network_mask_of_text, network_atom_of_text, is_network_like_text, is_two_digits_within_range, is_time_stamp_size, has_valid_stamp_date, has_valid_stamp_time, is_time_stamp_text};
+ghost use Rattle.sudoers_grammar.specs.Number.{number_of_decimal_digits, is_nonempty_digit_string, id_limit, number_if_within_limit, canonical_number_up_to, parts_around_first_byte, address_of_octets, ipv4_number_of_text, network_mask_of_text, network_atom_of_text, is_network_like_text, is_two_digits_within_range, is_time_stamp_size, has_valid_stamp_month_day_hour, has_valid_stamp_minutes_and_seconds, is_time_stamp_text};
 ghost use Rattle.sudoers_grammar.specs.Seen.{model_of_split_parts};
 
 use crate::node::{Address, Atom, Mask};
@@ -12,28 +12,28 @@ use crate::token_with_text::{begins_with_byte, ends_with_byte, has_byte};
 /// The highest number that an ID may have.
 pub const ID_LIMIT: u32 = u32::MAX;
 
-/// Whether it is a decimal digit.
+/// Returns whether it is a decimal digit.
 fn is_digit(byte: u8) -> bool
     ensures { result ≡ is_digit byte }
 {
     byte.is_ascii_digit()
 }
 
-/// Whether all bytes are digits.
+/// Returns whether all bytes are digits.
 fn are_all_digits(text: &[u8]) -> bool
     ensures { result ≡ list_all is_digit text.now }
 {
     text.iter().all(|byte| is_digit(*byte))
 }
 
-/// Whether the text is one or more digits.
+/// Returns whether the text is one or more digits.
 pub fn is_digit_string(text: &[u8]) -> bool
     ensures { result ≡ is_nonempty_digit_string text.now }
 {
     0 < text.len() && are_all_digits(text)
 }
 
-/// The number that decimal digits are, where it is not above the limit.
+/// Returns the number that the decimal digits stand for, if it is not above the limit.
 pub fn number_up_to(limit: u32, digits: &[u8]) -> Option<u32>
     ensures value { result ≡ number_if_within_limit limit digits.now }
     ensures within { IfSome result (λ number. number ≤ limit) }
@@ -48,7 +48,7 @@ pub fn number_up_to(limit: u32, digits: &[u8]) -> Option<u32>
     u32::try_from(number).ok()
 }
 
-/// The number that digits without a leading zero are, where it is not above the limit.
+/// Returns the number that the digits stand for, if no zero leads them and it is not above the limit.
 fn parse_canonical_number(limit: u32, text: &[u8]) -> Option<u32>
     ensures value { result ≡ canonical_number_up_to limit text.now }
     ensures within { IfSome result (λ number. number ≤ limit) }
@@ -60,7 +60,7 @@ fn parse_canonical_number(limit: u32, text: &[u8]) -> Option<u32>
     }
 }
 
-/// The bytes before the first such byte, and those behind it.
+/// Returns the bytes before the first such byte, and those behind it.
 fn split_at_first_byte(byte: u8, text: &[u8]) -> Option<(&[u8], &[u8])>
     ensures { model_of_split_parts result ≡ parts_around_first_byte byte text.now }
 {
@@ -72,7 +72,7 @@ fn split_at_first_byte(byte: u8, text: &[u8]) -> Option<(&[u8], &[u8])>
     None
 }
 
-/// Four numbers up to 255 as one.
+/// Returns four numbers up to 255 as one number.
 fn join_address_octets(
     a: Option<u32>,
     b: Option<u32>,
@@ -91,7 +91,7 @@ fn join_address_octets(
     }
 }
 
-/// The number of an address, `a.b.c.d`.
+/// Returns the number of an address, `a.b.c.d`.
 #[tactic(auto, unfolding(crate::specs::Number::ipv4_number_of_text))]
 fn parse_address_number(text: &[u8]) -> Option<u32>
     ensures { result ≡ ipv4_number_of_text text.now }
@@ -107,7 +107,7 @@ fn parse_address_number(text: &[u8]) -> Option<u32>
     )
 }
 
-/// An address.
+/// Returns an address.
 pub fn parse_ipv4_address(text: &[u8]) -> Option<Address>
     ensures { result ≡ option_map (λ n. record { number = n }) (ipv4_number_of_text text.now) }
 {
@@ -117,7 +117,7 @@ pub fn parse_ipv4_address(text: &[u8]) -> Option<Address>
     }
 }
 
-/// A network's mask: how many bits, or an address.
+/// Returns a network's mask: how many bits, or an address.
 #[tactic(auto, unfolding(crate::specs::Number::network_mask_of_text))]
 fn parse_network_mask(text: &[u8]) -> Option<Mask>
     ensures { result ≡ network_mask_of_text text.now }
@@ -131,7 +131,7 @@ fn parse_network_mask(text: &[u8]) -> Option<Mask>
     }
 }
 
-/// An address, `/` and a mask.
+/// Returns an address, `/` and a mask.
 #[tactic(auto, unfolding(crate::specs::Number::network_atom_of_text))]
 pub fn parse_network_atom(text: &[u8]) -> Option<Atom>
     ensures { result ≡ network_atom_of_text text.now }
@@ -142,28 +142,28 @@ pub fn parse_network_atom(text: &[u8]) -> Option<Atom>
     Some(Atom::Network(address, mask))
 }
 
-/// Whether it may stand in a network.
+/// Returns whether it may stand in a network.
 fn is_network_byte(byte: u8) -> bool
     ensures { result ≡ (is_digit byte || byte == 46 || byte == 47) }
 {
     is_digit(byte) || byte == b'.' || byte == b'/'
 }
 
-/// Whether all bytes may stand in a network.
+/// Returns whether all bytes may stand in a network.
 fn are_network_bytes(text: &[u8]) -> bool
     ensures { result ≡ list_all (λ b. is_digit b || b == 46 || b == 47) text.now }
 {
     text.iter().all(|byte| is_network_byte(*byte))
 }
 
-/// Whether it is digits, `.` and `/` alone, with a `/` among them.
+/// Returns whether it is digits, `.` and `/` alone, with a `/` among them.
 pub fn is_network_like(text: &[u8]) -> bool
     ensures { result ≡ is_network_like_text text.now }
 {
     are_network_bytes(text) && has_byte(b'/', text)
 }
 
-/// Whether two digits there are a number from the one to the other.
+/// Returns whether two digits there are a number from the one to the other.
 fn is_two_digit_number_between(low: u32, high: u32, at: usize, text: &[u8]) -> bool
     requires { at + 2 ≤ length text.now }
     ensures { result ≡ is_two_digits_within_range low high at text.now }
@@ -174,27 +174,27 @@ fn is_two_digit_number_between(low: u32, high: u32, at: usize, text: &[u8]) -> b
     }
 }
 
-/// Whether month, day and hour may stand so in a time stamp.
-fn is_stamp_date_valid(text: &[u8]) -> bool
+/// Returns whether month, day and hour may stand so in a time stamp.
+fn is_stamp_month_day_hour_valid(text: &[u8]) -> bool
     requires { 11 ≤ length text.now }
-    ensures { result ≡ has_valid_stamp_date text.now }
+    ensures { result ≡ has_valid_stamp_month_day_hour text.now }
 {
     is_two_digit_number_between(1, 12, 4, text)
         && is_two_digit_number_between(1, 31, 6, text)
         && is_two_digit_number_between(0, 23, 8, text)
 }
 
-/// Whether minutes and seconds may, where they stand there.
-fn is_stamp_time_valid(text: &[u8]) -> bool
+/// Returns whether minutes and seconds may, where they stand there.
+fn are_stamp_minutes_and_seconds_valid(text: &[u8]) -> bool
     requires { 11 ≤ length text.now }
-    ensures { result ≡ has_valid_stamp_time text.now }
+    ensures { result ≡ has_valid_stamp_minutes_and_seconds text.now }
 {
     let len = text.len();
     (len == 11 || is_two_digit_number_between(0, 59, 10, text))
         && (len < 15 || is_two_digit_number_between(0, 59, 12, text))
 }
 
-/// Whether a time stamp may have so many bytes.
+/// Returns whether a time stamp may have so many bytes.
 fn is_time_stamp_len(len: usize) -> bool
     ensures value { result ≡ is_time_stamp_size len }
     ensures least { result ≡ true → 11 ≤ len }
@@ -202,7 +202,7 @@ fn is_time_stamp_len(len: usize) -> bool
     len == 11 || len == 13 || len == 15
 }
 
-/// Whether it is a time stamp (sudoers(5), Date_Spec).
+/// Returns whether it is a time stamp (sudoers(5), Date_Spec).
 #[tactic(auto, unfolding(crate::specs::Number::is_time_stamp_text))]
 pub fn is_time_stamp(text: &[u8]) -> bool
     ensures { result ≡ is_time_stamp_text text.now }
@@ -210,6 +210,6 @@ pub fn is_time_stamp(text: &[u8]) -> bool
     is_time_stamp_len(text.len())
         && ends_with_byte(b'Z', text)
         && are_all_digits(&text[..text.len() - 1])
-        && is_stamp_date_valid(text)
-        && is_stamp_time_valid(text)
+        && is_stamp_month_day_hour_valid(text)
+        && are_stamp_minutes_and_seconds_valid(text)
 }

@@ -1,7 +1,7 @@
 //! Patterns without the escapes of the policy (sudoers(5), Wildcards; Other special characters and reserved words).
 
 ghost use Rattle.std.specs.Prelude.{◌≡◌, ◌≢◌, ◌<◌, ◌≤◌, ◌++◌, ℕ, length, take, drop, slice_get, Some, IfOk, OnOk};
-ghost use Rattle.sudoers_grammar.specs.Pattern.{is_special_in_patterns, pattern_of_literal_byte, is_escaped_for_policy_alone, pattern_of_byte, is_dropped_backslash_before, pattern_of_escaped_pair, pattern_escape_size, pattern_of_escape, pattern_of_remaining_bytes, pattern_of_text};
+ghost use Rattle.sudoers_grammar.specs.Pattern.{is_special_in_patterns, pattern_of_literal_byte, is_escaped_for_policy_alone, pattern_of_byte, is_dropped_backslash_before, pattern_of_escaped_pair, pattern_escape_tail_size, pattern_of_escape, pattern_of_remaining_bytes, pattern_of_text};
 
 use crate::items::Items;
 use std::alloc::{AllocError, Global};
@@ -18,14 +18,14 @@ pub enum PatternSpelling {
     QuotedHost,
 }
 
-/// Whether the byte has a meaning of its own in patterns.
+/// Returns whether the byte has a meaning of its own in patterns.
 fn is_pattern_special_byte(byte: u8) -> bool
     ensures { result ≡ is_special_in_patterns byte }
 {
     byte == b'*' || byte == b'?' || byte == b'[' || byte == b'\\'
 }
 
-/// Whether a backslash before the byte is there for the policy alone.
+/// Returns whether a backslash before the byte is there for the policy alone.
 fn is_byte_escaped_by_policy(byte: u8) -> bool
     ensures { result ≡ is_escaped_for_policy_alone byte }
 {
@@ -62,7 +62,7 @@ fn push_pattern_of_byte(
     }
 }
 
-/// Whether the byte stands for itself behind a backslash that the pattern loses.
+/// Returns whether the byte stands for itself behind a backslash that the pattern loses.
 fn is_backslash_dropped_before(spelling: PatternSpelling, byte: u8) -> bool
     ensures { result ≡ is_dropped_backslash_before spelling byte }
 {
@@ -97,9 +97,9 @@ fn push_pattern_of_pair(
     }
 }
 
-/// How many of the bytes behind a backslash belong to it.
-fn pattern_escape_len(rest: &[u8]) -> usize
-    ensures value { result ≡ pattern_escape_size rest.now }
+/// Returns how many of the bytes behind a backslash belong to it.
+fn pattern_escape_tail_len(rest: &[u8]) -> usize
+    ensures value { result ≡ pattern_escape_tail_size rest.now }
     ensures within { result ≤ length rest.now }
 {
     if begins_line_end(rest) {
@@ -151,7 +151,7 @@ fn verbatim_prefix_len(spelling: PatternSpelling, text: &[u8]) -> usize
     }
 }
 
-/// The pattern that a text is.
+/// Returns the pattern that a text is.
 ///
 /// # Errors
 ///
@@ -172,7 +172,7 @@ pub fn make_pattern_of_text(
         at += 1;
         if byte == b'\\' {
             push_pattern_of_escape(&mut pattern, spelling, &text[at..])?;
-            at += pattern_escape_len(&text[at..]);
+            at += pattern_escape_tail_len(&text[at..]);
         } else {
             push_pattern_of_byte(&mut pattern, spelling, byte)?;
         }

@@ -4,7 +4,7 @@ ghost use Rattle.std.specs.Prelude.{◌≡◌, ◌==◌, if◌then◌else◌, na
 ghost use Rattle.std.specs.List.{starts_with};
 ghost use Rattle.sudoers_text.specs.Word.{is_name};
 ghost use Rattle.sudoers_text.specs.Token.{IsTokenWithinLine};
-ghost use Rattle.sudoers_grammar.specs.Piece.{TokenWithBytes, token_with_bytes, begins_line_end_or_nothing, is_punct, is_word, is_quoted, is_arg, is_digest, is_parameter_name_kind, is_value, is_comment, is_bad, is_mark_of_byte, is_given_word, is_alias_name, alias_kinds_by_keyword, alias_kind_of_token, include_dirs_by_word, include_dir_of_token, options_by_name, option_of_token, tags_by_word, tag_and_sign_of_word, tag_and_sign_of_token, digest_kinds_by_word, digest_kind_of_token, operators_by_mark, operator_of_token, scope_kinds_by_sign, scope_kind_of_token, value_of_matching_row, meaning_of_token_word, has_first_byte, has_last_byte, has_byte};
+ghost use Rattle.sudoers_grammar.specs.Piece.{TokenWithBytes, token_with_bytes, begins_line_end_or_nothing, is_punct, is_word, is_quoted, is_arg, is_digest, is_parameter_name_kind, is_value, is_comment, is_bad, is_mark_of_byte, is_given_word, is_alias_name, alias_kinds_by_keyword, alias_kind_of_token, include_is_dir_by_word, include_is_dir_of_token, options_by_name, option_of_token, tags_by_word, tag_and_sign_of_word, tag_and_sign_of_token, digest_kinds_by_word, digest_kind_of_token, operators_by_mark, operator_of_token, scope_kinds_by_sign, scope_kind_of_sign_token_after, value_of_matching_row, meaning_of_token_word, has_first_byte, has_last_byte, has_byte};
 ghost use Rattle.sudoers_grammar.specs.Grammar.{is_defaults};
 ghost use Rattle.sudoers_grammar.specs.Seen.{model_of_token_part};
 
@@ -22,14 +22,14 @@ pub struct TokenWithText<'a> {
     pub last: bool,
 }
 
-/// Whether nothing is left, or a line end comes.
-fn is_line_end_or_nothing(rest: &[u8]) -> bool
+/// Returns whether nothing is left, or a line end comes.
+fn is_empty_or_begins_line_end(rest: &[u8]) -> bool
     ensures { result ≡ begins_line_end_or_nothing rest.now }
 {
     rest.is_empty() || begins_line_end(rest)
 }
 
-/// A token with its text.
+/// Returns a token with its text.
 pub fn add_text_to_token<'a>(line: &'a [u8], token: &Token) -> TokenWithText<'a>
     requires { IsTokenWithinLine (length line.now) token.now }
     ensures { model_of_token_part result ≡ token_with_bytes line.now token.now }
@@ -39,11 +39,11 @@ pub fn add_text_to_token<'a>(line: &'a [u8], token: &Token) -> TokenWithText<'a>
         text: &line[token.start..token.stop],
         start: token.start,
         stop: token.stop,
-        last: is_line_end_or_nothing(&line[token.stop..]),
+        last: is_empty_or_begins_line_end(&line[token.stop..]),
     }
 }
 
-/// Whether the byte begins the text.
+/// Returns whether the byte begins the text.
 pub fn begins_with_byte(byte: u8, text: &[u8]) -> bool
     ensures { result ≡ has_first_byte byte text.now }
 {
@@ -53,7 +53,7 @@ pub fn begins_with_byte(byte: u8, text: &[u8]) -> bool
     }
 }
 
-/// Whether the text ends with the byte.
+/// Returns whether the text ends with the byte.
 pub fn ends_with_byte(byte: u8, text: &[u8]) -> bool
     ensures { result ≡ has_last_byte byte text.now }
 {
@@ -63,14 +63,14 @@ pub fn ends_with_byte(byte: u8, text: &[u8]) -> bool
     }
 }
 
-/// Whether the byte stands in the text.
+/// Returns whether the byte stands in the text.
 pub fn has_byte(byte: u8, text: &[u8]) -> bool
     ensures { result ≡ has_byte byte text.now }
 {
     text.iter().any(|b| *b == byte)
 }
 
-/// The kind of alias that the word begins a line of.
+/// Returns the kind of alias that the word begins a line of.
 fn alias_kind_of_keyword(word: &[u8]) -> Option<Kind>
     ensures { result ≡ value_of_matching_row alias_kinds_by_keyword word.now }
 {
@@ -87,9 +87,9 @@ fn alias_kind_of_keyword(word: &[u8]) -> Option<Kind>
     }
 }
 
-/// Whether the word begins an include, of a directory or not.
+/// Returns whether the word begins an include, of a directory or not.
 fn include_is_dir_of_word(word: &[u8]) -> Option<bool>
-    ensures { result ≡ value_of_matching_row include_dirs_by_word word.now }
+    ensures { result ≡ value_of_matching_row include_is_dir_by_word word.now }
 {
     if word == b"#include".as_slice() {
         Some(false)
@@ -104,7 +104,7 @@ fn include_is_dir_of_word(word: &[u8]) -> Option<bool>
     }
 }
 
-/// The option that the word names.
+/// Returns the option that the word names.
 fn option_of_word(word: &[u8]) -> Option<OptionName>
     ensures { result ≡ value_of_matching_row options_by_name word.now }
 {
@@ -133,7 +133,7 @@ fn option_of_word(word: &[u8]) -> Option<OptionName>
     }
 }
 
-/// The tag that the word is without `NO`.
+/// Returns the tag that the word is without `NO`.
 fn tag_of_word_without_no(word: &[u8]) -> Option<Tag>
     ensures { result ≡ value_of_matching_row tags_by_word word.now }
 {
@@ -158,7 +158,7 @@ fn tag_of_word_without_no(word: &[u8]) -> Option<Tag>
     }
 }
 
-/// The tag that the word is, and whether it stands without `NO`.
+/// Returns the tag that the word is, and whether it stands without `NO`.
 fn signed_tag_of_word(word: &[u8]) -> Option<(Tag, bool)>
     ensures { result ≡ tag_and_sign_of_word word.now }
 {
@@ -175,7 +175,7 @@ fn signed_tag_of_word(word: &[u8]) -> Option<(Tag, bool)>
     }
 }
 
-/// How a digest behind the word is computed.
+/// Returns how a digest behind the word is computed.
 fn digest_kind_of_word(word: &[u8]) -> Option<DigestKind>
     ensures { result ≡ value_of_matching_row digest_kinds_by_word word.now }
 {
@@ -192,7 +192,7 @@ fn digest_kind_of_word(word: &[u8]) -> Option<DigestKind>
     }
 }
 
-/// The operator that a mark is.
+/// Returns the operator that a mark is.
 fn operator_of_mark(mark: &[u8]) -> Option<Operator>
     ensures { result ≡ value_of_matching_row operators_by_mark mark.now }
 {
@@ -207,7 +207,7 @@ fn operator_of_mark(mark: &[u8]) -> Option<Operator>
     }
 }
 
-/// What a scope with this sign is a list of.
+/// Returns what a scope with this sign is a list of.
 fn list_kind_of_scope_sign(sign: &[u8]) -> Option<Kind>
     ensures { result ≡ value_of_matching_row scope_kinds_by_sign sign.now }
 {
@@ -225,70 +225,70 @@ fn list_kind_of_scope_sign(sign: &[u8]) -> Option<Kind>
 }
 
 impl TokenWithText<'_> {
-    /// Whether it is a word.
+    /// Returns whether it is a word.
     pub fn is_word(&self) -> bool
         ensures { result ≡ is_word self.now.kind }
     {
         matches!(self.kind, TokenKind::Word)
     }
 
-    /// Whether it is in quotes.
+    /// Returns whether it is in quotes.
     pub fn is_quoted(&self) -> bool
         ensures { result ≡ is_quoted self.now.kind }
     {
         matches!(self.kind, TokenKind::Quoted)
     }
 
-    /// Whether it is a mark or a sign.
+    /// Returns whether it is a mark or a sign.
     fn is_punct(&self) -> bool
         ensures { result ≡ is_punct self.now.kind }
     {
         matches!(self.kind, TokenKind::Punct)
     }
 
-    /// Whether it is an argument of a command.
+    /// Returns whether it is an argument of a command.
     pub fn is_arg(&self) -> bool
         ensures { result ≡ is_arg self.now.kind }
     {
         matches!(self.kind, TokenKind::Arg)
     }
 
-    /// Whether it is a digest.
+    /// Returns whether it is a digest.
     pub fn is_digest(&self) -> bool
         ensures { result ≡ is_digest self.now.kind }
     {
         matches!(self.kind, TokenKind::Digest)
     }
 
-    /// Whether it is the name of a parameter.
+    /// Returns whether it is the name of a parameter.
     pub fn is_parameter_name(&self) -> bool
         ensures { result ≡ is_parameter_name_kind self.now.kind }
     {
         matches!(self.kind, TokenKind::Name)
     }
 
-    /// Whether it is the value of a parameter.
+    /// Returns whether it is the value of a parameter.
     pub fn is_value(&self) -> bool
         ensures { result ≡ is_value self.now.kind }
     {
         matches!(self.kind, TokenKind::Value)
     }
 
-    /// Whether it is a comment.
+    /// Returns whether it is a comment.
     pub fn is_comment(&self) -> bool
         ensures { result ≡ is_comment self.now.kind }
     {
         matches!(self.kind, TokenKind::Comment)
     }
 
-    /// Whether no piece begins there.
+    /// Returns whether no piece begins there.
     pub fn is_bad(&self) -> bool
         ensures { result ≡ is_bad self.now.kind }
     {
         matches!(self.kind, TokenKind::Bad)
     }
 
-    /// Whether it is this mark.
+    /// Returns whether it is this mark.
     #[tactic(auto, unfolding(crate::specs::Piece::is_mark_of_byte))]
     pub fn is_punct_mark(&self, byte: u8) -> bool
         ensures { result ≡ is_mark_of_byte byte (model_of_token_part self.now) }
@@ -296,7 +296,7 @@ impl TokenWithText<'_> {
         self.is_punct() && self.text == [byte].as_slice()
     }
 
-    /// Whether it is the word `Defaults`.
+    /// Returns whether it is the word `Defaults`.
     #[tactic(auto, unfolding(crate::specs::Piece::is_given_word))]
     pub fn is_defaults_word(&self) -> bool
         ensures { result ≡ is_defaults (model_of_token_part self.now) }
@@ -304,7 +304,7 @@ impl TokenWithText<'_> {
         self.is_word() && self.text == b"Defaults".as_slice()
     }
 
-    /// Whether an alias may be named so.
+    /// Returns whether an alias may be named so.
     #[tactic(auto, unfolding(crate::specs::Piece::is_alias_name))]
     pub fn is_alias_name(&self) -> bool
         ensures { result ≡ is_alias_name (model_of_token_part self.now) }
@@ -312,7 +312,7 @@ impl TokenWithText<'_> {
         self.is_word() && is_name(self.text)
     }
 
-    /// The kind of alias that it begins a line of.
+    /// Returns the kind of alias that it begins a line of.
     #[tactic(auto, unfolding(crate::specs::Piece::alias_kind_of_token))]
     pub fn alias_kind(&self) -> Option<Kind>
         ensures { result ≡ alias_kind_of_token (model_of_token_part self.now) }
@@ -324,10 +324,10 @@ impl TokenWithText<'_> {
         }
     }
 
-    /// Whether it begins an include, of a directory or not.
-    #[tactic(auto, unfolding(crate::specs::Piece::include_dir_of_token))]
+    /// Returns whether it begins an include, of a directory or not.
+    #[tactic(auto, unfolding(crate::specs::Piece::include_is_dir_of_token))]
     pub fn include_is_dir(&self) -> Option<bool>
-        ensures { result ≡ include_dir_of_token (model_of_token_part self.now) }
+        ensures { result ≡ include_is_dir_of_token (model_of_token_part self.now) }
     {
         if self.is_word() {
             include_is_dir_of_word(self.text)
@@ -336,7 +336,7 @@ impl TokenWithText<'_> {
         }
     }
 
-    /// The option that it names.
+    /// Returns the option that it names.
     #[tactic(auto, unfolding(crate::specs::Piece::option_of_token))]
     pub fn option_name(&self) -> Option<OptionName>
         ensures { result ≡ option_of_token (model_of_token_part self.now) }
@@ -348,7 +348,7 @@ impl TokenWithText<'_> {
         }
     }
 
-    /// The tag that it is.
+    /// Returns the tag that it is.
     #[tactic(auto, unfolding(crate::specs::Piece::tag_and_sign_of_token))]
     pub fn tag_with_sign(&self) -> Option<(Tag, bool)>
         ensures { result ≡ tag_and_sign_of_token (model_of_token_part self.now) }
@@ -360,7 +360,7 @@ impl TokenWithText<'_> {
         }
     }
 
-    /// How the digest behind it is computed.
+    /// Returns how the digest behind it is computed.
     #[tactic(auto, unfolding(crate::specs::Piece::digest_kind_of_token))]
     pub fn digest_kind(&self) -> Option<DigestKind>
         ensures { result ≡ digest_kind_of_token (model_of_token_part self.now) }
@@ -372,7 +372,7 @@ impl TokenWithText<'_> {
         }
     }
 
-    /// The operator that it is.
+    /// Returns the operator that it is.
     #[tactic(auto, unfolding(crate::specs::Piece::operator_of_token))]
     pub fn operator(&self) -> Option<Operator>
         ensures { result ≡ operator_of_token (model_of_token_part self.now) }
@@ -384,10 +384,10 @@ impl TokenWithText<'_> {
         }
     }
 
-    /// What it is the scope's sign of, directly behind a word that ends at this byte.
-    #[tactic(auto, unfolding(crate::specs::Piece::scope_kind_of_token))]
+    /// Returns what it is the scope's sign of, directly behind a word that ends at this byte.
+    #[tactic(auto, unfolding(crate::specs::Piece::scope_kind_of_sign_token_after))]
     pub fn scope_kind_of_sign_after(&self, stop: usize) -> Option<Kind>
-        ensures { result ≡ scope_kind_of_token stop (model_of_token_part self.now) }
+        ensures { result ≡ scope_kind_of_sign_token_after stop (model_of_token_part self.now) }
     {
         if self.is_punct() && self.start == stop {
             list_kind_of_scope_sign(self.text)

@@ -9,7 +9,7 @@ use Rattle.sudoers_line_rows.specs.declared.rows.AtomRow.{AtomRow}
 use Rattle.sudoers_line_rows.specs.declared.rows.MemberRow.{MemberRow}
 use Rattle.sudoers_line_rows.specs.declared.rows.Tables.{Tables}
 use Rattle.sudoers_line_reader.specs.Descent.{member_with_arguments}
-use Rattle.sudoers_line_rows.specs.Tables.{TablesHaveGrown, RowMeansForGood, RowMeaningLasts, args_in_tables, atom_in_tables, digests_in_tables, member_in_tables}
+use Rattle.sudoers_line_rows.specs.Tables.{TablesHaveGrown, RowMeansForGood, RowMeaningLasts, args_in_tables, atom_in_tables, digests_of_range_in_tables, member_in_tables}
 use Rattle.sudoers_line_rows.proofs.Growth.{tables_have_grown_from_themselves, table_growth_is_transitive}
 
 -- the row with another atom, that ends elsewhere
@@ -25,7 +25,7 @@ module _ (t u : Tables) (m : MemberRow) (args : ArgsRow) (is : Args) (now : Atom
   atom_then v h =
       made v p (ap (λ (x : Member). argless_command_of_atom x.atom) (lasts v (table_growth_is_transitive t u v g h)) ∙ some) ∙ ap (atom_of_command_and_args p) (keeps v h)
 
-  digests_then : (v : Tables) → TablesHaveGrown u v → digests_in_tables v m.digests ≡ digests_in_tables t m.digests
+  digests_then : (v : Tables) → TablesHaveGrown u v → digests_of_range_in_tables v m.digests ≡ digests_of_range_in_tables t m.digests
   digests_then v h = ap (λ (x : Member). x.digests) (lasts v (table_growth_is_transitive t u v g h))
 
   pub argued_says : (stop at : ℕ) → at ≡ stop → member_with_arguments p (member_in_tables t m) (is, stop) ≡ member_in_tables u (member_row_with_arguments m at now)

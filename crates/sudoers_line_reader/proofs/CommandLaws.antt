@@ -19,7 +19,7 @@ use Rattle.sudoers_line_reader.proofs.Tokens.{mark_is_no_other_mark, command_ato
 use Rattle.sudoers_line_reader.proofs.Gathered.{args_with_further_tokens, args_added_one_by_one_are_all_args, token_makes_command_with_any_args, allowed_digests_ignore_arguments, member_with_digests_is_allowed_them, allowed_digests_may_be_had_by_member}
 use Rattle.sudoers_line_reader.proofs.Gathered.{command_with_args_has_argless_command}
 use Rattle.sudoers_line_reader.specs.Reader.{is_next_token, ◌>>=◌, pure, passing_token_reader, repetition_reader, separated_list_reader}
-use Rattle.sudoers_line_reader.specs.Descent.{is_argument_token, is_first_argument_token, has_meaning_by, member_of_token_and_atom, member_with_start, digest_reader, optional_digests_reader, command_open_to_arguments, args_and_stop_with_one_more, member_with_arguments, arguments_reader, optional_arguments_reader, command_start_if_allowed, command_start_of_token, command_after_digests_reader, command_reader, scope_command_reader}
+use Rattle.sudoers_line_reader.specs.Descent.{is_argument_token, is_argument_token_but_no_regex, has_meaning_by, member_of_token_and_atom, member_with_start, digest_reader, optional_digests_reader, command_open_to_arguments, args_and_stop_with_one_more, member_with_arguments, member_with_arguments_reader, member_with_optional_arguments_reader, command_start_if_allowed, command_start_of_token, command_after_digests_reader, command_reader, digestless_scope_command_reader}
 use Rattle.sudoers_line_reader.proofs.Keeps.{GrammarRule, NextTokenFailsTest, ReaderFollowsRule, is_token_of_empty_test, next_token_fails_empty_test, IsEmptyReadingOf, IsOneTokenWithMeaning, HasSampleToken, one_token_reader_follows_rule, IsOnePassingToken, passing_token_reader_follows_rule, IsSequenceOfRules, IsEitherOfRules, IsRuleWithStart, NeverTakesNoTokens, reader_with_start_follows_rule, BeginsWithPassingToken, choice_reader_follows_either_rule}
 use Rattle.sudoers_line_reader.proofs.Repeats.{left_fold_of_list, IsFoldOfRepeatedRule, many_lawful, passing_token_reader_consumes_tokens, separated_lawful}
 use Rattle.sudoers_line_reader.proofs.Parts.{sequence_of_readers_follows_rules, sequence_after_ended_reader_follows_rule, reader_follows_rule_saying_the_same, pure_reader_follows_rule_with_any_test, mapped_reader_follows_rule, tokens_failing_either_test_fail_both, both_false_implies_false_or, is_some_of_none_is_false}
@@ -39,11 +39,11 @@ further_arguments_reader_follows_rule t = many_lawful args_and_stop_with_one_mor
     (λ ts u rest h. ap (is_next_token is_argument_token) h.0 ∙ h.1) (passing_token_reader_follows_rule is_argument_token sample_argument_token refl) (args_with_one_more Any t.text, t.stop)
 
 abbrev pub AreCommandArguments : ArglessCommand → Member → GrammarRule Member
-AreCommandArguments p m = IsSequenceOfRules (IsOnePassingToken is_first_argument_token) (λ t. IsSequenceOfRules (AreFurtherArguments t) (λ r. IsEmptyReadingOf (member_with_arguments p m r)))
+AreCommandArguments p m = IsSequenceOfRules (IsOnePassingToken is_argument_token_but_no_regex) (λ t. IsSequenceOfRules (AreFurtherArguments t) (λ r. IsEmptyReadingOf (member_with_arguments p m r)))
 
-arguments_reader_follows_rule : (p : ArglessCommand) (m : Member) → ReaderFollowsRule (arguments_reader p m) (AreCommandArguments p m) is_argument_token
-unfolding arguments_reader
-arguments_reader_follows_rule p m = sequence_after_ended_reader_follows_rule (passing_token_reader_follows_rule is_first_argument_token sample_argument_token refl) (λ t. mapped_reader_follows_rule (member_with_arguments p m) (further_arguments_reader_follows_rule t))
+arguments_reader_follows_rule : (p : ArglessCommand) (m : Member) → ReaderFollowsRule (member_with_arguments_reader p m) (AreCommandArguments p m) is_argument_token
+unfolding member_with_arguments_reader
+arguments_reader_follows_rule p m = sequence_after_ended_reader_follows_rule (passing_token_reader_follows_rule is_argument_token_but_no_regex sample_argument_token refl) (λ t. mapped_reader_follows_rule (member_with_arguments p m) (further_arguments_reader_follows_rule t))
 
 arguments_begin_with_argument_token : (p : ArglessCommand) (m : Member) → BeginsWithPassingToken is_argument_token (AreCommandArguments p m)
 arguments_begin_with_argument_token p m ts x rest (t, mid, (e, is), later) = ap (is_next_token is_argument_token) e ∙ (and_parts (is_arg t.kind) (not (has_first_byte 94 t.text)) is).0
@@ -52,11 +52,11 @@ abbrev pub AreOptionalArguments : Option ArglessCommand × Member → GrammarRul
 AreOptionalArguments (None, m) = IsEmptyReadingOf m
 AreOptionalArguments (Some p, m) = IsEitherOfRules (AreCommandArguments p m) (IsEmptyReadingOf m)
 
-optional_arguments_reader_follows_rule : (w : Option ArglessCommand × Member) → ReaderFollowsRule (optional_arguments_reader w) (AreOptionalArguments w) is_argument_token
-unfolding optional_arguments_reader
+optional_arguments_reader_follows_rule : (w : Option ArglessCommand × Member) → ReaderFollowsRule (member_with_optional_arguments_reader w) (AreOptionalArguments w) is_argument_token
+unfolding member_with_optional_arguments_reader
 optional_arguments_reader_follows_rule (None, m) = pure_reader_follows_rule_with_any_test is_argument_token m
 optional_arguments_reader_follows_rule (Some p, m) =
-    choice_reader_follows_either_rule is_argument_token (arguments_reader p m) (pure m) (AreCommandArguments p m) (IsEmptyReadingOf m) is_argument_token (arguments_begin_with_argument_token p m) (λ ts x rest is st. ap (is_next_token is_argument_token) is.0 ∙ st) (arguments_reader_follows_rule p m) (pure_reader_follows_rule_with_any_test is_argument_token m)
+    choice_reader_follows_either_rule is_argument_token (member_with_arguments_reader p m) (pure m) (AreCommandArguments p m) (IsEmptyReadingOf m) is_argument_token (arguments_begin_with_argument_token p m) (λ ts x rest is st. ap (is_next_token is_argument_token) is.0 ∙ st) (arguments_reader_follows_rule p m) (pure_reader_follows_rule_with_any_test is_argument_token m)
 
 folded_arguments_are_args_and_stop : (xs : List TokenWithBytes) (r : Args) (stop : ℕ) (t : TokenWithBytes) → t.stop ≡ stop → left_fold_of_list args_and_stop_with_one_more (r, stop) xs ≡ (args_with_further_tokens r xs, stop_of_last_token t xs)
 folded_arguments_are_args_and_stop [] r stop t e = ap (λ (n : ℕ). (r, n)) (sym e)
@@ -352,9 +352,9 @@ scope_command_is_scope_command_sequence ts m rest (none, h) =
 command_without_digests_takes_tokens : NeverTakesNoTokens (IsCommandAfterDigests [])
 command_without_digests_takes_tokens x h = empty_list_has_no_inner_token h.signs h.word (h.args ++ []) h.split
 
-pub scope_command_reader_follows_rule : ReaderFollowsRule scope_command_reader IsScopeCommand is_argument_token
-unfolding scope_command_reader
+pub scope_command_reader_follows_rule : ReaderFollowsRule digestless_scope_command_reader IsScopeCommand is_argument_token
+unfolding digestless_scope_command_reader
 scope_command_reader_follows_rule = reader_follows_rule_saying_the_same scope_command_sequence_is_scope_command scope_command_is_scope_command_sequence (reader_with_start_follows_rule (command_after_digests_reader []) (IsCommandAfterDigests []) member_with_start is_argument_token command_without_digests_takes_tokens (command_after_digests_reader_follows_rule []))
 
-pub scope_command_list_reader_follows_rule : ReaderFollowsRule (separated_list_reader 44 scope_command_reader) (Separated 44 IsScopeCommand) may_continue_command_list
-scope_command_list_reader_follows_rule = separated_lawful 44 scope_command_reader IsScopeCommand is_argument_token may_continue_command_list (λ zs st. (tokens_failing_either_test_fail_both (is_mark_of_byte 44) is_argument_token zs st).0) (λ zs st. (tokens_failing_either_test_fail_both (is_mark_of_byte 44) is_argument_token zs st).1) comma_is_no_argument scope_command_reader_follows_rule
+pub scope_command_list_reader_follows_rule : ReaderFollowsRule (separated_list_reader 44 digestless_scope_command_reader) (Separated 44 IsScopeCommand) may_continue_command_list
+scope_command_list_reader_follows_rule = separated_lawful 44 digestless_scope_command_reader IsScopeCommand is_argument_token may_continue_command_list (λ zs st. (tokens_failing_either_test_fail_both (is_mark_of_byte 44) is_argument_token zs st).0) (λ zs st. (tokens_failing_either_test_fail_both (is_mark_of_byte 44) is_argument_token zs st).1) comma_is_no_argument scope_command_reader_follows_rule

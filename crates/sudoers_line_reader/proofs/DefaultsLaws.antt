@@ -8,11 +8,11 @@ use Rattle.sudoers_grammar.specs.declared.node.Operator.{Operator}
 use Rattle.sudoers_grammar.specs.declared.node.Operator.TheVariants as operator
 use Rattle.sudoers_grammar.specs.Node.{Member, Scope, Setting, Param, Node}
 use Rattle.sudoers_grammar.specs.Node as node
-use Rattle.sudoers_grammar.specs.Piece.{TokenWithBytes, is_some, is_punct, is_arg, is_mark_of_byte, is_given_word, operator_of_token, scope_kind_of_token}
-use Rattle.sudoers_grammar.specs.Grammar.{Separated, IsMark, is_odd_count_of_tokens, IsScopeList, IsScope, IsFlag, IsSetting, IsParamWith, IsParam, is_defaults}
+use Rattle.sudoers_grammar.specs.Piece.{TokenWithBytes, is_some, is_punct, is_arg, is_mark_of_byte, is_given_word, operator_of_token, scope_kind_of_sign_token_after}
+use Rattle.sudoers_grammar.specs.Grammar.{Separated, IsMark, is_odd_count_of_tokens, IsScopeMemberList, IsScope, IsFlag, IsSetting, IsFlagOrSetting, IsParam, is_defaults}
 use Rattle.sudoers_line_reader.proofs.Tokens.{mark_is_no_other_mark, mark_is_no_argument, token_without_punct_kind_is_no_mark, parameter_name_test_implies_name_kind, operator_is_no_comma}
 use Rattle.sudoers_line_reader.specs.Reader.{is_next_token, pure, separated_list_reader}
-use Rattle.sudoers_line_reader.specs.Descent.{is_argument_token, is_parameter_name_token, is_parameter_value_token, has_meaning_by, scope_list_reader, defaults_scope_reader, flag_parameter, set_parameter, parameter_setting_reader, negatable_flag_reader, named_parameter_reader, parameter_reader, parameters_reader, scoped_defaults_reader, defaults_node_reader}
+use Rattle.sudoers_line_reader.specs.Descent.{is_argument_token, is_parameter_name_token, is_parameter_value_token, has_meaning_by, scope_member_list_reader, defaults_scope_reader, flag_parameter, set_parameter, parameter_setting_reader, negatable_flag_reader, named_parameter_reader, parameter_reader, defaults_parameters_node_reader, scoped_defaults_reader, defaults_node_reader}
 use Rattle.sudoers_line_reader.proofs.Keeps.{GrammarRule, NextTokenFailsTest, CanBeCompletedByRule, ReaderFollowsRule, NeverTakesNoTokens, is_token_of_empty_test, next_token_fails_empty_test, IsEmptyReadingOf, IsOneTokenWithMeaning, HasSampleToken, one_token_reader_follows_rule, IsOnePassingToken, passing_token_reader_follows_rule, IsSequenceOfRules, IsEitherOfRules, BeginsWithPassingToken, choice_reader_follows_either_rule}
 use Rattle.sudoers_line_reader.proofs.Repeats.{separated_lawful}
 use Rattle.sudoers_line_reader.proofs.Parts.{sequence_of_readers_follows_rules, sequence_after_ended_reader_follows_rule, reader_follows_rule_saying_the_same, reader_follows_rule_with_wider_test, pure_reader_follows_rule_with_any_test, mapped_reader_follows_rule, tokens_failing_either_test_fail_both, both_false_implies_false_or, IsRuleChosenByNextToken, choice_reader_follows_chosen_rule, completed_first_rule_completes_choice, rule_taking_tokens_suits_any_test}
@@ -22,8 +22,8 @@ use Rattle.sudoers_line_reader.proofs.AliasLaws.{member_list_reader_follows_wide
 
 -- ---- Sign List
 
-scope_list_reader_follows_rule : (k : Kind) → ReaderFollowsRule (scope_list_reader k) (IsScopeList k) may_continue_command_list
-unfolding scope_list_reader
+scope_list_reader_follows_rule : (k : Kind) → ReaderFollowsRule (scope_member_list_reader k) (IsScopeMemberList k) may_continue_command_list
+unfolding scope_member_list_reader
 scope_list_reader_follows_rule User = member_list_reader_follows_wider_rule User
 scope_list_reader_follows_rule Runas = member_list_reader_follows_wider_rule Runas
 scope_list_reader_follows_rule Host = member_list_reader_follows_wider_rule Host
@@ -32,18 +32,18 @@ scope_list_reader_follows_rule Cmnd = scope_command_list_reader_follows_rule
 sample_scope_sign_token : ℕ → TokenWithBytes
 sample_scope_sign_token stop = record { kind = kind.Punct; text = codes "@"; start = stop; stop = 0; last = false }
 
-sample_scope_sign_token_says_host : (stop : ℕ) → scope_kind_of_token stop (sample_scope_sign_token stop) ≡ Some Host
-unfolding scope_kind_of_token sample_scope_sign_token
+sample_scope_sign_token_says_host : (stop : ℕ) → scope_kind_of_sign_token_after stop (sample_scope_sign_token stop) ≡ Some Host
+unfolding scope_kind_of_sign_token_after sample_scope_sign_token
 sample_scope_sign_token_says_host stop = rw (eq-eqb stop stop refl) refl
 
-scope_kind_has_sample_token : (stop : ℕ) → HasSampleToken (scope_kind_of_token stop)
+scope_kind_has_sample_token : (stop : ℕ) → HasSampleToken (scope_kind_of_sign_token_after stop)
 scope_kind_has_sample_token stop = record { piece = sample_scope_sign_token stop; what = Host; is = sample_scope_sign_token_says_host stop }
 
 abbrev scope_of_kind_and_members : Kind → List Member → Scope
 scope_of_kind_and_members k ms = record { kind = k; members = ms }
 
 abbrev IsScopeSequence : ℕ → GrammarRule Scope
-IsScopeSequence stop = IsSequenceOfRules (IsOneTokenWithMeaning (scope_kind_of_token stop)) (λ k. IsSequenceOfRules (IsScopeList k) (λ ms. IsEmptyReadingOf (scope_of_kind_and_members k ms)))
+IsScopeSequence stop = IsSequenceOfRules (IsOneTokenWithMeaning (scope_kind_of_sign_token_after stop)) (λ k. IsSequenceOfRules (IsScopeMemberList k) (λ ms. IsEmptyReadingOf (scope_of_kind_and_members k ms)))
 
 scope_sequence_is_scope : (stop : ℕ) (ts : List TokenWithBytes) (s : Scope) (rest : List TokenWithBytes) → IsScopeSequence stop ts s rest → IsScope stop ts s rest
 scope_sequence_is_scope stop ts s rest (k, mid, (t, e, has_meaning_by), (ms, end, h, (f, same))) = record {
@@ -51,7 +51,7 @@ scope_sequence_is_scope stop ts s rest (k, mid, (t, e, has_meaning_by), (ms, end
   behind = mid;
   split = e;
   is_sign = has_meaning_by ∙ ap (λ (x : Scope). Some x.kind) (sym same);
-  members = subst (λ (x : Scope). IsScopeList x.kind mid x.members rest) (sym same) (subst (IsScopeList k mid ms) f h);
+  members = subst (λ (x : Scope). IsScopeMemberList x.kind mid x.members rest) (sym same) (subst (IsScopeMemberList k mid ms) f h);
 }
 
 scope_is_scope_sequence : (stop : ℕ) (ts : List TokenWithBytes) (s : Scope) (rest : List TokenWithBytes) → IsScope stop ts s rest → IsScopeSequence stop ts s rest
@@ -59,7 +59,7 @@ scope_is_scope_sequence stop ts s rest h = (s.kind, h.behind, (h.sign, h.split, 
 
 defaults_scope_reader_follows_rule : (stop : ℕ) → ReaderFollowsRule (defaults_scope_reader stop) (IsScope stop) may_continue_command_list
 unfolding defaults_scope_reader
-defaults_scope_reader_follows_rule stop = reader_follows_rule_saying_the_same (scope_sequence_is_scope stop) (scope_is_scope_sequence stop) (sequence_after_ended_reader_follows_rule (one_token_reader_follows_rule (scope_kind_of_token stop) (scope_kind_has_sample_token stop)) (λ k. mapped_reader_follows_rule (scope_of_kind_and_members k) (scope_list_reader_follows_rule k)))
+defaults_scope_reader_follows_rule stop = reader_follows_rule_saying_the_same (scope_sequence_is_scope stop) (scope_is_scope_sequence stop) (sequence_after_ended_reader_follows_rule (one_token_reader_follows_rule (scope_kind_of_sign_token_after stop) (scope_kind_has_sample_token stop)) (λ k. mapped_reader_follows_rule (scope_of_kind_and_members k) (scope_list_reader_follows_rule k)))
 
 -- ---- "!"* Name, or Name ("=" | "+=" | "-=") Value
 
@@ -130,7 +130,7 @@ unfolding parameter_reader
 parameter_reader_follows_choice = choice_reader_follows_chosen_rule parameter_by_choice_can_be_completed (rule_taking_tokens_suits_any_test IsNegatableFlag (is_mark_of_byte 33) true may_continue_parameter negatable_flag_takes_tokens) (rule_taking_tokens_suits_any_test IsNamedParameter (is_mark_of_byte 33) false may_continue_parameter named_parameter_takes_tokens) negatable_flag_reader_follows_rule named_parameter_reader_follows_rule
 
 signs_and_name_are_flag_parameter : (ts : List TokenWithBytes) (p : Param) (rest : List TokenWithBytes) (xs : List TokenWithBytes) (n : TokenWithBytes) (b : Bool) → ts ≡ xs ++ n ∷ rest → AllByRecursion (IsMark 33) xs → is_parameter_name_token n ≡ true → b ≡ is_odd_count_of_tokens xs → p ≡ flag_parameter b n → IsParam ts p rest
-signs_and_name_are_flag_parameter ts p rest xs n b split are is odds same = subst (λ (o : Option Setting). IsParamWith o ts p rest) (sym (ap (λ (x : Param). x.setting) same)) (record {
+signs_and_name_are_flag_parameter ts p rest xs n b split are is odds same = subst (λ (o : Option Setting). IsFlagOrSetting o ts p rest) (sym (ap (λ (x : Param). x.setting) same)) (record {
   signs = xs;
   name = n;
   split = split;
@@ -141,7 +141,7 @@ signs_and_name_are_flag_parameter ts p rest xs n b split are is odds same = subs
 })
 
 name_operator_value_are_set_parameter : (ts : List TokenWithBytes) (p : Param) (rest : List TokenWithBytes) (n t v : TokenWithBytes) (o : Operator) → ts ≡ n ∷ t ∷ v ∷ rest → is_parameter_name_token n ≡ true → operator_of_token t ≡ Some o → is_parameter_value_token v ≡ true → p ≡ set_parameter n o v → IsParam ts p rest
-name_operator_value_are_set_parameter ts p rest n t v o split is has_meaning_by valued same = subst (λ (o : Option Setting). IsParamWith o ts p rest) (sym (ap (λ (x : Param). x.setting) same)) (record {
+name_operator_value_are_set_parameter ts p rest n t v o split is has_meaning_by valued same = subst (λ (o : Option Setting). IsFlagOrSetting o ts p rest) (sym (ap (λ (x : Param). x.setting) same)) (record {
   name = n;
   operator = t;
   value = v;
@@ -198,7 +198,7 @@ set_parameter_is_by_choice ts p s rest some h =
       ),
     )
 
-parameter_with_setting_is_by_choice : (ts : List TokenWithBytes) (p : Param) (rest : List TokenWithBytes) (o : Option Setting) → p.setting ≡ o → IsParamWith o ts p rest → IsParameterByChoice ts p rest
+parameter_with_setting_is_by_choice : (ts : List TokenWithBytes) (p : Param) (rest : List TokenWithBytes) (o : Option Setting) → p.setting ≡ o → IsFlagOrSetting o ts p rest → IsParameterByChoice ts p rest
 parameter_with_setting_is_by_choice ts p rest None e h = flag_parameter_is_by_choice ts p rest e h h.signs refl
 parameter_with_setting_is_by_choice ts p rest (Some s) e h = set_parameter_is_by_choice ts p s rest e h
 
@@ -224,12 +224,12 @@ parameter_list_reader_follows_rule = separated_lawful 44 parameter_reader IsPara
 abbrev pub IsDefaultsNodeOfParameters : Option Scope → GrammarRule Node
 IsDefaultsNodeOfParameters s = IsSequenceOfRules (Separated 44 IsParam) (λ ps. IsEmptyReadingOf (node.Defaults s ps))
 
-parameters_reader_follows_rule : (s : Option Scope) → ReaderFollowsRule (parameters_reader s) (IsDefaultsNodeOfParameters s) may_continue_parameter_list
-unfolding parameters_reader
+parameters_reader_follows_rule : (s : Option Scope) → ReaderFollowsRule (defaults_parameters_node_reader s) (IsDefaultsNodeOfParameters s) may_continue_parameter_list
+unfolding defaults_parameters_node_reader
 parameters_reader_follows_rule s = mapped_reader_follows_rule (node.Defaults s) parameter_list_reader_follows_rule
 
 -- what begins no parameter
-parameter_fails_other_tests : (test : TokenWithBytes → Bool) → ((t : TokenWithBytes) → is_mark_of_byte 33 t ≡ true → test t ≡ false) → ((t : TokenWithBytes) → is_parameter_name_token t ≡ true → test t ≡ false) → (ts : List TokenWithBytes) (p : Param) (rest : List TokenWithBytes) (o : Option Setting) → IsParamWith o ts p rest → NextTokenFailsTest test ts
+parameter_fails_other_tests : (test : TokenWithBytes → Bool) → ((t : TokenWithBytes) → is_mark_of_byte 33 t ≡ true → test t ≡ false) → ((t : TokenWithBytes) → is_parameter_name_token t ≡ true → test t ≡ false) → (ts : List TokenWithBytes) (p : Param) (rest : List TokenWithBytes) (o : Option Setting) → IsFlagOrSetting o ts p rest → NextTokenFailsTest test ts
 parameter_fails_other_tests test mark name ts p rest (Some s) h = ap (is_next_token test) h.split ∙ name h.name h.is_name
 parameter_fails_other_tests test mark name ts p rest None h = ap (is_next_token test) h.split ∙ at h.signs h.are_signs
   where
@@ -253,13 +253,13 @@ scoped_defaults_reader_follows_rule : (stop : ℕ) → ReaderFollowsRule (scoped
 unfolding scoped_defaults_reader
 scoped_defaults_reader_follows_rule stop = sequence_of_readers_follows_rules (λ s mid n rest h st. parameters_continue_no_command_list (Some s) mid n rest h) (defaults_scope_reader_follows_rule stop) (λ s. parameters_reader_follows_rule (Some s))
 
-scoped_defaults_begin_with_scope_sign : (stop : ℕ) → BeginsWithPassingToken (has_meaning_by (scope_kind_of_token stop)) (IsScopedDefaultsNode stop)
-scoped_defaults_begin_with_scope_sign stop ts n rest (s, mid, h, later) = ap (is_next_token (has_meaning_by (scope_kind_of_token stop))) h.split ∙ ap is_some h.is_sign
+scoped_defaults_begin_with_scope_sign : (stop : ℕ) → BeginsWithPassingToken (has_meaning_by (scope_kind_of_sign_token_after stop)) (IsScopedDefaultsNode stop)
+scoped_defaults_begin_with_scope_sign stop ts n rest (s, mid, h, later) = ap (is_next_token (has_meaning_by (scope_kind_of_sign_token_after stop))) h.split ∙ ap is_some h.is_sign
 
 scoped_defaults_take_tokens : (stop : ℕ) → NeverTakesNoTokens (IsScopedDefaultsNode stop)
 scoped_defaults_take_tokens stop n (s, mid, h, later) = let e = h.split in cc
 
-empty_list_is_no_parameter : (p : Param) (mid : List TokenWithBytes) (o : Option Setting) → IsParamWith o [] p mid → ⊥
+empty_list_is_no_parameter : (p : Param) (mid : List TokenWithBytes) (o : Option Setting) → IsFlagOrSetting o [] p mid → ⊥
 empty_list_is_no_parameter p mid (Some s) h = let e = h.split in cc
 empty_list_is_no_parameter p mid None h = empty_list_has_no_name_token h.signs (h.name ∷ mid) h.name mid h.split refl
 
@@ -268,7 +268,7 @@ parameters_take_tokens s n (p ∷ ps, end, (mid, is, more), e) = empty_list_is_n
 parameters_take_tokens s n ([], end, h, e) = absurd h
 
 abbrev pub IsDefaultsNodeSequence : GrammarRule Node
-IsDefaultsNodeSequence = IsSequenceOfRules (IsOnePassingToken is_defaults) (λ w. IsRuleChosenByNextToken (has_meaning_by (scope_kind_of_token w.stop)) (IsScopedDefaultsNode w.stop) (IsDefaultsNodeOfParameters None))
+IsDefaultsNodeSequence = IsSequenceOfRules (IsOnePassingToken is_defaults) (λ w. IsRuleChosenByNextToken (has_meaning_by (scope_kind_of_sign_token_after w.stop)) (IsScopedDefaultsNode w.stop) (IsDefaultsNodeOfParameters None))
 
 pub token_of_word_defaults : TokenWithBytes
 token_of_word_defaults = record { kind = kind.Word; text = codes "Defaults"; start = 0; stop = 0; last = false }
@@ -280,5 +280,5 @@ token_of_word_defaults_is_defaults = refl
 pub defaults_node_reader_follows_rule : ReaderFollowsRule defaults_node_reader IsDefaultsNodeSequence may_continue_parameter_list
 unfolding defaults_node_reader
 defaults_node_reader_follows_rule = sequence_after_ended_reader_follows_rule (passing_token_reader_follows_rule is_defaults token_of_word_defaults token_of_word_defaults_is_defaults)
-    (λ w. choice_reader_follows_chosen_rule (completed_first_rule_completes_choice (scoped_defaults_begin_with_scope_sign w.stop) (scoped_defaults_reader_follows_rule w.stop).some) (rule_taking_tokens_suits_any_test (IsScopedDefaultsNode w.stop) (has_meaning_by (scope_kind_of_token w.stop)) true may_continue_parameter_list (scoped_defaults_take_tokens w.stop)) (rule_taking_tokens_suits_any_test (IsDefaultsNodeOfParameters None) (has_meaning_by (scope_kind_of_token w.stop)) false may_continue_parameter_list (parameters_take_tokens None))
+    (λ w. choice_reader_follows_chosen_rule (completed_first_rule_completes_choice (scoped_defaults_begin_with_scope_sign w.stop) (scoped_defaults_reader_follows_rule w.stop).some) (rule_taking_tokens_suits_any_test (IsScopedDefaultsNode w.stop) (has_meaning_by (scope_kind_of_sign_token_after w.stop)) true may_continue_parameter_list (scoped_defaults_take_tokens w.stop)) (rule_taking_tokens_suits_any_test (IsDefaultsNodeOfParameters None) (has_meaning_by (scope_kind_of_sign_token_after w.stop)) false may_continue_parameter_list (parameters_take_tokens None))
     (scoped_defaults_reader_follows_rule w.stop) (parameters_reader_follows_rule None))

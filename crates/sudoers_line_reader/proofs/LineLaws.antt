@@ -4,7 +4,7 @@ use Rattle.sudoers_text.specs.declared.token.TokenKind.TheVariants as kind
 use Rattle.sudoers_grammar.specs.declared.node.Kind.TheVariants.{User}
 use Rattle.sudoers_grammar.specs.Node.{Member, Scope, Param, Node}
 use Rattle.sudoers_grammar.specs.Node as node
-use Rattle.sudoers_grammar.specs.Piece.{TokenWithBytes, is_some, is_punct, is_word, is_comment, is_arg, is_mark_of_byte, alias_kind_of_token, include_dir_of_token, operator_of_token, scope_kind_of_token}
+use Rattle.sudoers_grammar.specs.Piece.{TokenWithBytes, is_some, is_punct, is_word, is_comment, is_arg, is_mark_of_byte, alias_kind_of_token, include_is_dir_of_token, operator_of_token, scope_kind_of_sign_token_after}
 use Rattle.sudoers_grammar.specs.Grammar.{Separated, AreMembers, IsDef, IsHostGroup, is_defaults, BeginsSpec, BeginsNoScope, PerhapsScope, IsParam, IsEnd, ReadsNodeWithRest, Reads}
 use Rattle.sudoers_line_reader.proofs.Tokens.{kind_of_member_token_is_no_comment, mark_is_no_comment, token_without_punct_kind_is_no_mark, include_word_is_no_alias_kind, include_token_has_word_kind, defaults_token_has_word_kind, defaults_token_is_no_alias_kind, defaults_token_is_no_include, alias_kind_token_has_word_kind}
 use Rattle.sudoers_line_reader.specs.Reader.{is_next_token, ◌>>=◌, passing_token_reader, reader_chosen_by_next_token, end_of_line_reader}
@@ -109,7 +109,7 @@ abbrev IsDefaultsOrSpecLine : GrammarRule Node
 IsDefaultsOrSpecLine = IsRuleChosenByNextToken is_defaults (IsRuleThenLineEnd IsDefaultsNodeSequence) (IsRuleThenLineEnd IsUserSpecSequence)
 
 abbrev IsIncludeOrLaterKindOfLine : GrammarRule Node
-IsIncludeOrLaterKindOfLine = IsRuleChosenByNextToken (has_meaning_by include_dir_of_token) (IsRuleThenLineEnd IsIncludeNodeSequence) IsDefaultsOrSpecLine
+IsIncludeOrLaterKindOfLine = IsRuleChosenByNextToken (has_meaning_by include_is_dir_of_token) (IsRuleThenLineEnd IsIncludeNodeSequence) IsDefaultsOrSpecLine
 
 abbrev IsAliasOrLaterKindOfLine : GrammarRule Node
 IsAliasOrLaterKindOfLine = IsRuleChosenByNextToken (has_meaning_by alias_kind_of_token) (IsRuleThenLineEnd IsAliasNodeSequence) IsIncludeOrLaterKindOfLine
@@ -126,22 +126,22 @@ defaults_line_begins_with_defaults ts n rest h = ap (is_next_token is_defaults) 
 reader_from_defaults_on_follows_rule : ReaderFollowsRule (reader_chosen_by_next_token is_defaults (defaults_node_reader >>= optional_comment_end_reader) (user_spec_reader >>= optional_comment_end_reader)) IsDefaultsOrSpecLine is_token_of_full_test
 reader_from_defaults_on_follows_rule = choice_reader_follows_chosen_rule (completed_first_rule_completes_choice defaults_line_begins_with_defaults defaults_line_reader_follows_rule.some) (rule_begun_by_test_suits_passed_test (IsRuleThenLineEnd IsDefaultsNodeSequence) is_defaults defaults_line_begins_with_defaults) (rule_to_line_end_suits_failed_test (IsRuleThenLineEnd IsUserSpecSequence) is_defaults) defaults_line_reader_follows_rule spec_line_reader_follows_rule
 
-include_line_begins_with_include : BeginsWithPassingToken (has_meaning_by include_dir_of_token) (IsRuleThenLineEnd IsIncludeNodeSequence)
-include_line_begins_with_include ts n rest h = ap (is_next_token (has_meaning_by include_dir_of_token)) h.2.2.1 ∙ ap is_some h.2.2.2
+include_line_begins_with_include : BeginsWithPassingToken (has_meaning_by include_is_dir_of_token) (IsRuleThenLineEnd IsIncludeNodeSequence)
+include_line_begins_with_include ts n rest h = ap (is_next_token (has_meaning_by include_is_dir_of_token)) h.2.2.1 ∙ ap is_some h.2.2.2
 
-reader_from_include_on_follows_rule : ReaderFollowsRule (reader_chosen_by_next_token (has_meaning_by include_dir_of_token) (include_node_reader >>= optional_comment_end_reader) (reader_chosen_by_next_token is_defaults (defaults_node_reader >>= optional_comment_end_reader) (user_spec_reader >>= optional_comment_end_reader))) IsIncludeOrLaterKindOfLine is_token_of_full_test
-reader_from_include_on_follows_rule = choice_reader_follows_chosen_rule (completed_first_rule_completes_choice include_line_begins_with_include include_line_reader_follows_rule.some) (rule_begun_by_test_suits_passed_test (IsRuleThenLineEnd IsIncludeNodeSequence) (has_meaning_by include_dir_of_token) include_line_begins_with_include) (rule_to_line_end_suits_failed_test IsDefaultsOrSpecLine (has_meaning_by include_dir_of_token)) include_line_reader_follows_rule reader_from_defaults_on_follows_rule
+reader_from_include_on_follows_rule : ReaderFollowsRule (reader_chosen_by_next_token (has_meaning_by include_is_dir_of_token) (include_node_reader >>= optional_comment_end_reader) (reader_chosen_by_next_token is_defaults (defaults_node_reader >>= optional_comment_end_reader) (user_spec_reader >>= optional_comment_end_reader))) IsIncludeOrLaterKindOfLine is_token_of_full_test
+reader_from_include_on_follows_rule = choice_reader_follows_chosen_rule (completed_first_rule_completes_choice include_line_begins_with_include include_line_reader_follows_rule.some) (rule_begun_by_test_suits_passed_test (IsRuleThenLineEnd IsIncludeNodeSequence) (has_meaning_by include_is_dir_of_token) include_line_begins_with_include) (rule_to_line_end_suits_failed_test IsDefaultsOrSpecLine (has_meaning_by include_is_dir_of_token)) include_line_reader_follows_rule reader_from_defaults_on_follows_rule
 
 alias_line_begins_with_alias_kind : BeginsWithPassingToken (has_meaning_by alias_kind_of_token) (IsRuleThenLineEnd IsAliasNodeSequence)
 alias_line_begins_with_alias_kind ts n rest h = ap (is_next_token (has_meaning_by alias_kind_of_token)) h.2.2.1 ∙ ap is_some h.2.2.2
 
-reader_from_alias_on_follows_rule : ReaderFollowsRule (reader_chosen_by_next_token (has_meaning_by alias_kind_of_token) (alias_node_reader >>= optional_comment_end_reader) (reader_chosen_by_next_token (has_meaning_by include_dir_of_token) (include_node_reader >>= optional_comment_end_reader) (reader_chosen_by_next_token is_defaults (defaults_node_reader >>= optional_comment_end_reader) (user_spec_reader >>= optional_comment_end_reader)))) IsAliasOrLaterKindOfLine is_token_of_full_test
+reader_from_alias_on_follows_rule : ReaderFollowsRule (reader_chosen_by_next_token (has_meaning_by alias_kind_of_token) (alias_node_reader >>= optional_comment_end_reader) (reader_chosen_by_next_token (has_meaning_by include_is_dir_of_token) (include_node_reader >>= optional_comment_end_reader) (reader_chosen_by_next_token is_defaults (defaults_node_reader >>= optional_comment_end_reader) (user_spec_reader >>= optional_comment_end_reader)))) IsAliasOrLaterKindOfLine is_token_of_full_test
 reader_from_alias_on_follows_rule = choice_reader_follows_chosen_rule (completed_first_rule_completes_choice alias_line_begins_with_alias_kind alias_line_reader_follows_rule.some) (rule_begun_by_test_suits_passed_test (IsRuleThenLineEnd IsAliasNodeSequence) (has_meaning_by alias_kind_of_token) alias_line_begins_with_alias_kind) (rule_to_line_end_suits_failed_test IsIncludeOrLaterKindOfLine (has_meaning_by alias_kind_of_token)) alias_line_reader_follows_rule reader_from_include_on_follows_rule
 
 comment_line_begins_with_comment : BeginsWithPassingToken is_comment_token IsCommentLine
 comment_line_begins_with_comment ts n rest h = ap (is_next_token is_comment_token) h.2.0 ∙ h.2.1
 
-reader_from_comment_on_follows_rule : ReaderFollowsRule (reader_chosen_by_next_token is_comment_token (passing_token_reader is_comment_token >>= (λ _. end_of_line_reader node.Comment)) (reader_chosen_by_next_token (has_meaning_by alias_kind_of_token) (alias_node_reader >>= optional_comment_end_reader) (reader_chosen_by_next_token (has_meaning_by include_dir_of_token) (include_node_reader >>= optional_comment_end_reader) (reader_chosen_by_next_token is_defaults (defaults_node_reader >>= optional_comment_end_reader) (user_spec_reader >>= optional_comment_end_reader))))) IsCommentOrLaterKindOfLine is_token_of_full_test
+reader_from_comment_on_follows_rule : ReaderFollowsRule (reader_chosen_by_next_token is_comment_token (passing_token_reader is_comment_token >>= (λ _. end_of_line_reader node.Comment)) (reader_chosen_by_next_token (has_meaning_by alias_kind_of_token) (alias_node_reader >>= optional_comment_end_reader) (reader_chosen_by_next_token (has_meaning_by include_is_dir_of_token) (include_node_reader >>= optional_comment_end_reader) (reader_chosen_by_next_token is_defaults (defaults_node_reader >>= optional_comment_end_reader) (user_spec_reader >>= optional_comment_end_reader))))) IsCommentOrLaterKindOfLine is_token_of_full_test
 reader_from_comment_on_follows_rule = choice_reader_follows_chosen_rule (completed_first_rule_completes_choice comment_line_begins_with_comment comment_line_reader_follows_rule.some) (rule_begun_by_test_suits_passed_test IsCommentLine is_comment_token comment_line_begins_with_comment) (rule_to_line_end_suits_failed_test IsAliasOrLaterKindOfLine is_comment_token) comment_line_reader_follows_rule reader_from_alias_on_follows_rule
 
 passing_next_token_is_any_token : (test : TokenWithBytes → Bool) (ts : List TokenWithBytes) → is_next_token test ts ≡ true → is_next_token is_any_token ts ≡ true
@@ -154,7 +154,7 @@ spec_line_begins_with_any_token ts n rest h = members_begin_with_sign_or_member_
 line_other_than_blank_begins_with_token : BeginsWithPassingToken is_any_token IsCommentOrLaterKindOfLine
 line_other_than_blank_begins_with_token ts n rest (inl h) = passing_next_token_is_any_token is_comment_token ts h.0
 line_other_than_blank_begins_with_token ts n rest (inr (c, inl h)) = passing_next_token_is_any_token (has_meaning_by alias_kind_of_token) ts h.0
-line_other_than_blank_begins_with_token ts n rest (inr (c, inr (d, inl h))) = passing_next_token_is_any_token (has_meaning_by include_dir_of_token) ts h.0
+line_other_than_blank_begins_with_token ts n rest (inr (c, inr (d, inl h))) = passing_next_token_is_any_token (has_meaning_by include_is_dir_of_token) ts h.0
 line_other_than_blank_begins_with_token ts n rest (inr (c, inr (d, inr (e, inl h)))) = passing_next_token_is_any_token is_defaults ts h.0
 line_other_than_blank_begins_with_token ts n rest (inr (c, inr (d, inr (e, inr h)))) = spec_line_begins_with_any_token ts n rest h.1
 
@@ -172,13 +172,13 @@ not_some_is_none : {X : Type 0} (o : Option X) → is_some o ≡ false → o ≡
 not_some_is_none None e = refl
 not_some_is_none (Some x) e = absurd cc
 
-line_without_keyword_begins_spec : (ts : List TokenWithBytes) → is_next_token (has_meaning_by alias_kind_of_token) ts ≡ false → is_next_token (has_meaning_by include_dir_of_token) ts ≡ false → is_next_token is_defaults ts ≡ false → BeginsSpec ts
+line_without_keyword_begins_spec : (ts : List TokenWithBytes) → is_next_token (has_meaning_by alias_kind_of_token) ts ≡ false → is_next_token (has_meaning_by include_is_dir_of_token) ts ≡ false → is_next_token is_defaults ts ≡ false → BeginsSpec ts
 line_without_keyword_begins_spec [] e f g = tt
-line_without_keyword_begins_spec (t ∷ ts) e f g = record { no_kind = not_some_is_none (alias_kind_of_token t) e; no_include = not_some_is_none (include_dir_of_token t) f; no_defaults = g }
+line_without_keyword_begins_spec (t ∷ ts) e f g = record { no_kind = not_some_is_none (alias_kind_of_token t) e; no_include = not_some_is_none (include_is_dir_of_token t) f; no_defaults = g }
 
-no_scope_sign_implies_no_scope : (stop : _) (ts : List TokenWithBytes) → is_next_token (has_meaning_by (scope_kind_of_token stop)) ts ≡ false → PerhapsScope stop ts None ts
+no_scope_sign_implies_no_scope : (stop : _) (ts : List TokenWithBytes) → is_next_token (has_meaning_by (scope_kind_of_sign_token_after stop)) ts ≡ false → PerhapsScope stop ts None ts
 no_scope_sign_implies_no_scope stop [] e = (refl, tt)
-no_scope_sign_implies_no_scope stop (t ∷ ts) e = (refl, not_some_is_none (scope_kind_of_token stop t) e)
+no_scope_sign_implies_no_scope stop (t ∷ ts) e = (refl, not_some_is_none (scope_kind_of_sign_token_after stop t) e)
 
 alias_sequence_reads_as_node : (ts : List TokenWithBytes) (n : Node) (rest : List TokenWithBytes) → IsAliasNodeSequence ts n rest → ReadsNodeWithRest ts n rest
 alias_sequence_reads_as_node ts n rest (k, behind, (t, e, has_meaning_by), (ds, end, h, (f, same))) =
@@ -214,17 +214,17 @@ line_of_any_kind_is_entire_line ts n rest (inl (c, inr (d, inr (k, inr (i, inr (
 word_is_no_comment : (t : TokenWithBytes) → t.kind ≡ kind.Word → is_comment_token t ≡ false
 word_is_no_comment t e = ap is_comment e
 
-beginning_without_scope_has_no_scope_sign : (stop : _) (ts : List TokenWithBytes) → BeginsNoScope stop ts → is_next_token (has_meaning_by (scope_kind_of_token stop)) ts ≡ false
+beginning_without_scope_has_no_scope_sign : (stop : _) (ts : List TokenWithBytes) → BeginsNoScope stop ts → is_next_token (has_meaning_by (scope_kind_of_sign_token_after stop)) ts ≡ false
 beginning_without_scope_has_no_scope_sign stop [] h = refl
 beginning_without_scope_has_no_scope_sign stop (t ∷ ts) h = ap is_some h
 
 optional_scope_is_chosen_by_next_token : (w : TokenWithBytes) (behind mid : List TokenWithBytes) (scope : Option Scope) (ps : List Param) (rest : List TokenWithBytes) → PerhapsScope w.stop behind scope mid → Separated 44 IsParam mid ps rest
-    → IsRuleChosenByNextToken (has_meaning_by (scope_kind_of_token w.stop)) (IsScopedDefaultsNode w.stop) (IsDefaultsNodeOfParameters None) behind (node.Defaults scope ps) rest
+    → IsRuleChosenByNextToken (has_meaning_by (scope_kind_of_sign_token_after w.stop)) (IsScopedDefaultsNode w.stop) (IsDefaultsNodeOfParameters None) behind (node.Defaults scope ps) rest
 optional_scope_is_chosen_by_next_token w behind mid None ps rest h params = inr (beginning_without_scope_has_no_scope_sign w.stop behind h.1, (ps, rest, subst (λ (l : List TokenWithBytes). Separated 44 IsParam l ps rest) (sym h.0) params, (refl, refl)))
-optional_scope_is_chosen_by_next_token w behind mid (Some s) ps rest h params = inl (ap (is_next_token (has_meaning_by (scope_kind_of_token w.stop))) h.split ∙ ap is_some h.is_sign, (s, mid, h, (ps, rest, params, (refl, refl))))
+optional_scope_is_chosen_by_next_token w behind mid (Some s) ps rest h params = inl (ap (is_next_token (has_meaning_by (scope_kind_of_sign_token_after w.stop))) h.split ∙ ap is_some h.is_sign, (s, mid, h, (ps, rest, params, (refl, refl))))
 
 spec_begins_with_no_keyword : (ts : List TokenWithBytes) (us : List Member) (mid : List TokenWithBytes) → BeginsSpec ts → AreMembers User ts us mid
-    → (is_next_token is_comment_token ts ≡ false) × (is_next_token (has_meaning_by alias_kind_of_token) ts ≡ false) × (is_next_token (has_meaning_by include_dir_of_token) ts ≡ false) × (is_next_token is_defaults ts ≡ false)
+    → (is_next_token is_comment_token ts ≡ false) × (is_next_token (has_meaning_by alias_kind_of_token) ts ≡ false) × (is_next_token (has_meaning_by include_is_dir_of_token) ts ≡ false) × (is_next_token is_defaults ts ≡ false)
 spec_begins_with_no_keyword [] us mid b h = (refl, refl, refl, refl)
 spec_begins_with_no_keyword (t ∷ ts) us mid b h =
     (members_begin_with_sign_or_member_token is_comment_token false (λ u e. mark_is_no_comment 33 u e) (λ u e. kind_of_member_token_is_no_comment u.kind e) User (t ∷ ts) us mid h, ap is_some b.no_kind, ap is_some b.no_include, b.no_defaults)
@@ -251,7 +251,7 @@ node_and_end_are_line_of_any_kind ts (node.Include dir path) mid rest h is g =
         inr (
           ap (is_next_token (has_meaning_by alias_kind_of_token)) h.split ∙ ap is_some (include_word_is_no_alias_kind h.word dir h.is_include),
           inl (
-            ap (is_next_token (has_meaning_by include_dir_of_token)) h.split ∙ ap is_some h.is_include,
+            ap (is_next_token (has_meaning_by include_is_dir_of_token)) h.split ∙ ap is_some h.is_include,
             (node.Include dir path, mid, (dir, h.name ∷ mid, (h.word, h.split, h.is_include), (path, mid, (h.name, refl, h.is_path), (refl, refl))), (is, g, refl)),
           ),
         ),
@@ -265,7 +265,7 @@ node_and_end_are_line_of_any_kind ts (node.Defaults scope ps) mid rest h is g =
         inr (
           ap (is_next_token (has_meaning_by alias_kind_of_token)) h.split ∙ ap is_some (defaults_token_is_no_alias_kind h.word h.is_word),
           inr (
-            ap (is_next_token (has_meaning_by include_dir_of_token)) h.split ∙ ap is_some (defaults_token_is_no_include h.word h.is_word),
+            ap (is_next_token (has_meaning_by include_is_dir_of_token)) h.split ∙ ap is_some (defaults_token_is_no_include h.word h.is_word),
             inl (ap (is_next_token is_defaults) h.split ∙ h.is_word, (node.Defaults scope ps, mid, (h.word, h.behind, (h.split, h.is_word), optional_scope_is_chosen_by_next_token h.word h.behind h.behind_scope scope ps mid h.in_scope h.params), (is, g, refl))),
           ),
         ),

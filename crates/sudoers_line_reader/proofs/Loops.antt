@@ -5,7 +5,7 @@ use Rattle.sudoers_line_reader.specs.Reader.{Read, is_next_token, passing_token_
 use Rattle.sudoers_grammar.specs.declared.node.Kind.{Kind}
 use Rattle.sudoers_grammar.specs.declared.node.Args.{Args}
 use Rattle.sudoers_grammar.specs.Grammar.{IsMember, IsDigest, IsCommand, IsScopeCommand, IsCmdSpec, IsHostGroup, IsDef, IsParam}
-use Rattle.sudoers_line_reader.specs.Descent.{command_reader, scope_command_reader, cmd_spec_reader, host_group_reader, alias_definition_reader, sign_toggled_by_mark, negation_reader, member_reader, digest_reader, is_argument_token, args_and_stop_with_one_more, parameter_reader}
+use Rattle.sudoers_line_reader.specs.Descent.{command_reader, digestless_scope_command_reader, cmd_spec_reader, host_group_reader, alias_definition_reader, sign_toggled_by_mark, negation_reader, member_reader, digest_reader, is_argument_token, args_and_stop_with_one_more, parameter_reader}
 use Rattle.sudoers_line_reader.proofs.Keeps.{is_token_of_empty_test, passing_token_is_read}
 use Rattle.sudoers_line_reader.proofs.Repeats.{passing_token_reader_consumes_tokens, reader_after_mark_consumes_tokens, next_read, next_none}
 use Rattle.sudoers_line_reader.proofs.MemberLaws.{member_reader_follows_rule}
@@ -53,8 +53,8 @@ argument_reader_consumes_tokens = passing_token_reader_consumes_tokens is_argume
 pub next_command_reader_consumes_tokens : ReaderConsumesTokens (reader_after_mark 44 command_reader)
 next_command_reader_consumes_tokens = reader_after_mark_consumes_tokens 44 command_reader IsCommand is_argument_token command_reader_follows_rule
 
-pub next_scope_command_reader_consumes_tokens : ReaderConsumesTokens (reader_after_mark 44 scope_command_reader)
-next_scope_command_reader_consumes_tokens = reader_after_mark_consumes_tokens 44 scope_command_reader IsScopeCommand is_argument_token scope_command_reader_follows_rule
+pub next_scope_command_reader_consumes_tokens : ReaderConsumesTokens (reader_after_mark 44 digestless_scope_command_reader)
+next_scope_command_reader_consumes_tokens = reader_after_mark_consumes_tokens 44 digestless_scope_command_reader IsScopeCommand is_argument_token scope_command_reader_follows_rule
 
 pub next_cmd_spec_reader_consumes_tokens : ReaderConsumesTokens (reader_after_mark 44 cmd_spec_reader)
 next_cmd_spec_reader_consumes_tokens = reader_after_mark_consumes_tokens 44 cmd_spec_reader IsCmdSpec is_argument_token cmd_spec_reader_follows_rule

@@ -12,7 +12,7 @@ use Rattle.sudoers_grammar.specs.declared.node.Tag.{Tag}
 use Rattle.sudoers_grammar.specs.declared.node.DigestKind.{DigestKind}
 use Rattle.sudoers_grammar.specs.declared.node.Operator.{Operator}
 use Rattle.sudoers_grammar.specs.declared.node.Atom.{Atom}
-use Rattle.sudoers_grammar.specs.Piece.{TokenWithBytes, is_punct, is_word, is_arg, is_parameter_name_kind, is_comment, is_mark_of_byte, is_given_word, value_of_matching_row, meaning_of_token_word, alias_kinds_by_keyword, alias_kind_of_token, include_dirs_by_word, include_dir_of_token, options_by_name, option_of_token, tags_by_word, tag_and_sign_of_word, tag_and_sign_of_token, digest_kinds_by_word, digest_kind_of_token, operators_by_mark, operator_of_token}
+use Rattle.sudoers_grammar.specs.Piece.{TokenWithBytes, is_punct, is_word, is_arg, is_parameter_name_kind, is_comment, is_mark_of_byte, is_given_word, value_of_matching_row, meaning_of_token_word, alias_kinds_by_keyword, alias_kind_of_token, include_is_dir_by_word, include_is_dir_of_token, options_by_name, option_of_token, tags_by_word, tag_and_sign_of_word, tag_and_sign_of_token, digest_kinds_by_word, digest_kind_of_token, operators_by_mark, operator_of_token}
 use Rattle.sudoers_grammar.specs.Atom.{atom_of_token, user_atom_of_token, host_atom_of_token, command_atom_without_args, command_atom_of_word}
 use Rattle.sudoers_grammar.specs.Grammar.{is_defaults}
 
@@ -120,11 +120,11 @@ excluded_meaning_is_none (Some x) p y none e = absurd (let n = none x refl in cc
 
 -- ---- the words that begin a line
 
-pub include_word_is_no_alias_kind : (t : TokenWithBytes) (dir : Bool) → include_dir_of_token t ≡ Some dir → alias_kind_of_token t ≡ None
-unfolding include_dir_of_token alias_kind_of_token
+pub include_word_is_no_alias_kind : (t : TokenWithBytes) (dir : Bool) → include_is_dir_of_token t ≡ Some dir → alias_kind_of_token t ≡ None
+unfolding include_is_dir_of_token alias_kind_of_token
 include_word_is_no_alias_kind t dir e =
     text_without_meaning_has_no_word_meaning (value_of_matching_row alias_kinds_by_keyword) t
-    (word_found_in_table_has_row_property (value_of_matching_row alias_kinds_by_keyword) None include_dirs_by_word t.text dir (search) (word_meaning_is_that_of_text (value_of_matching_row include_dirs_by_word) t dir e))
+    (word_found_in_table_has_row_property (value_of_matching_row alias_kinds_by_keyword) None include_is_dir_by_word t.text dir (search) (word_meaning_is_that_of_text (value_of_matching_row include_is_dir_by_word) t dir e))
 
 pub defaults_token_has_word_kind : (t : TokenWithBytes) → is_defaults t ≡ true → t.kind ≡ kind.Word
 unfolding is_given_word
@@ -138,9 +138,9 @@ pub defaults_token_is_no_alias_kind : (t : TokenWithBytes) → is_defaults t ≡
 unfolding alias_kind_of_token
 defaults_token_is_no_alias_kind t e = text_without_meaning_has_no_word_meaning (value_of_matching_row alias_kinds_by_keyword) t (ap (value_of_matching_row alias_kinds_by_keyword) (defaults_token_has_text_defaults t e))
 
-pub defaults_token_is_no_include : (t : TokenWithBytes) → is_defaults t ≡ true → include_dir_of_token t ≡ None
-unfolding include_dir_of_token
-defaults_token_is_no_include t e = text_without_meaning_has_no_word_meaning (value_of_matching_row include_dirs_by_word) t (ap (value_of_matching_row include_dirs_by_word) (defaults_token_has_text_defaults t e))
+pub defaults_token_is_no_include : (t : TokenWithBytes) → is_defaults t ≡ true → include_is_dir_of_token t ≡ None
+unfolding include_is_dir_of_token
+defaults_token_is_no_include t e = text_without_meaning_has_no_word_meaning (value_of_matching_row include_is_dir_by_word) t (ap (value_of_matching_row include_is_dir_by_word) (defaults_token_has_text_defaults t e))
 
 -- ---- members of lists, and commands
 
@@ -262,9 +262,9 @@ pub alias_kind_token_has_word_kind : (t : TokenWithBytes) (k : Kind) → alias_k
 unfolding alias_kind_of_token
 alias_kind_token_has_word_kind t k e = token_with_word_meaning_has_word_kind (value_of_matching_row alias_kinds_by_keyword) t k e
 
-pub include_token_has_word_kind : (t : TokenWithBytes) (dir : Bool) → include_dir_of_token t ≡ Some dir → t.kind ≡ kind.Word
-unfolding include_dir_of_token
-include_token_has_word_kind t dir e = token_with_word_meaning_has_word_kind (value_of_matching_row include_dirs_by_word) t dir e
+pub include_token_has_word_kind : (t : TokenWithBytes) (dir : Bool) → include_is_dir_of_token t ≡ Some dir → t.kind ≡ kind.Word
+unfolding include_is_dir_of_token
+include_token_has_word_kind t dir e = token_with_word_meaning_has_word_kind (value_of_matching_row include_is_dir_by_word) t dir e
 
 pub option_token_has_word_kind : (t : TokenWithBytes) (o : OptionName) → option_of_token t ≡ Some o → t.kind ≡ kind.Word
 unfolding option_of_token

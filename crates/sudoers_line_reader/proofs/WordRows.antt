@@ -12,12 +12,12 @@ use Rattle.sudoers_line_rows.specs.declared.rows.AtomRow.{AtomRow}
 use Rattle.sudoers_line_rows.specs.declared.rows.RowRange.{RowRange}
 use Rattle.sudoers_line_reader.specs.declared.command_words.CommandStartRow.{CommandStartRow}
 use Rattle.sudoers_line_rows.specs.declared.rows.Tables.{Tables}
-use Rattle.sudoers_line_reader.specs.Descent.{member_of_token_and_atom, command_start_if_allowed, command_start_of_token, command_open_to_arguments, is_argument_token, arguments_reader, optional_arguments_reader, has_meaning_by, digest_reader, optional_digests_reader}
+use Rattle.sudoers_line_reader.specs.Descent.{member_of_token_and_atom, command_start_if_allowed, command_start_of_token, command_open_to_arguments, is_argument_token, member_with_arguments_reader, member_with_optional_arguments_reader, has_meaning_by, digest_reader, optional_digests_reader}
 use Rattle.sudoers_line_reader.specs.Reader.{ReadOutcome, Read, Halt, is_next_token, pure, separated_list_reader}
 use Rattle.sudoers_line_reader.proofs.Keeps.{OutcomeFollowsRule as ToldBy, passing_token_chooses_first_reader, failing_token_chooses_second_reader}
 use Rattle.sudoers_line_reader.proofs.DigestLaws.{digest_list_reader_follows_rule}
 use Rattle.sudoers_line_rows.proofs.Growth.{table_growth_is_transitive}
-use Rattle.sudoers_line_rows.specs.Tables.{TablesHaveGrown, RowMeaningLasts, atom_in_tables, digests_in_tables}
+use Rattle.sudoers_line_rows.specs.Tables.{TablesHaveGrown, RowMeaningLasts, atom_in_tables, digests_of_range_in_tables}
 use Rattle.sudoers_line_reader.specs.internal.Answer.{ReportsDigestPresence, command_start_of_word_row}
 
 -- ---- digests
@@ -48,14 +48,14 @@ swapped_branches_negate_the_test : (c : Bool) (o : Option ArglessCommand) → (i
 swapped_branches_negate_the_test true o = refl
 swapped_branches_negate_the_test false o = refl
 
-pub command_start_is_that_of_its_row : (t u : Tables) (b : Bool) (range : RowRange) (piece : TokenWithBytes) (atom : AtomRow) (stop : ℕ) (has : Bool) → TablesHaveGrown t u → RowMeaningLasts digests_in_tables t range → stop ≡ piece.stop → has ≡ not (has_last_byte 47 piece.text)
-    → (command_open_to_arguments piece (atom_in_tables u atom), member_of_token_and_atom b (digests_in_tables t range) piece (atom_in_tables u atom)) ≡ command_start_of_word_row u (command_start_row_of_parts stop b range atom has)
+pub command_start_is_that_of_its_row : (t u : Tables) (b : Bool) (range : RowRange) (piece : TokenWithBytes) (atom : AtomRow) (stop : ℕ) (has : Bool) → TablesHaveGrown t u → RowMeaningLasts digests_of_range_in_tables t range → stop ≡ piece.stop → has ≡ not (has_last_byte 47 piece.text)
+    → (command_open_to_arguments piece (atom_in_tables u atom), member_of_token_and_atom b (digests_of_range_in_tables t range) piece (atom_in_tables u atom)) ≡ command_start_of_word_row u (command_start_row_of_parts stop b range atom has)
 command_start_is_that_of_its_row t u b range piece atom stop has g lasts e f = λ i. (
   (swapped_branches_negate_the_test (has_last_byte 47 piece.text) (argless_command_of_atom (atom_in_tables u atom)) ∙ ap (λ (c : Bool). if c then argless_command_of_atom (atom_in_tables u atom) else None) (sym f)) i,
   record { start = 0; stop = sym e i; negated = b; digests = sym (lasts u g) i; atom = atom_in_tables u atom },
 )
 
-pub command_start_row_lasts_in_grown_tables : (t u : Tables) (b : Bool) (range : RowRange) (atom : AtomRow) (stop : ℕ) (has : Bool) → TablesHaveGrown t u → RowMeaningLasts digests_in_tables t range → RowMeaningLasts atom_in_tables u atom → RowMeaningLasts command_start_of_word_row u (command_start_row_of_parts stop b range atom has)
+pub command_start_row_lasts_in_grown_tables : (t u : Tables) (b : Bool) (range : RowRange) (atom : AtomRow) (stop : ℕ) (has : Bool) → TablesHaveGrown t u → RowMeaningLasts digests_of_range_in_tables t range → RowMeaningLasts atom_in_tables u atom → RowMeaningLasts command_start_of_word_row u (command_start_row_of_parts stop b range atom has)
 command_start_row_lasts_in_grown_tables t u b range atom stop has g lasts kept v h = λ i. (
   (if has then argless_command_of_atom (kept v h i) else None),
   record { start = 0; stop = stop; negated = b; digests = (lasts v (table_growth_is_transitive t u v g h) ∙ sym (lasts u g)) i; atom = kept v h i },
@@ -63,20 +63,20 @@ command_start_row_lasts_in_grown_tables t u b range atom stop has g lasts kept v
 
 -- ---- behind the word
 
-pub closed_command_is_read_without_arguments : (w : Option ArglessCommand × Member) (ts : List TokenWithBytes) → is_some w.0 ≡ false → optional_arguments_reader w ts ≡ Read w.1 ts
-unfolding optional_arguments_reader
+pub closed_command_is_read_without_arguments : (w : Option ArglessCommand × Member) (ts : List TokenWithBytes) → is_some w.0 ≡ false → member_with_optional_arguments_reader w ts ≡ Read w.1 ts
+unfolding member_with_optional_arguments_reader
 closed_command_is_read_without_arguments (None, m) ts e = refl
 closed_command_is_read_without_arguments (Some p, m) ts e = absurd cc
 
-pub command_before_no_argument_is_read_alone : (w : Option ArglessCommand × Member) (ts : List TokenWithBytes) → is_next_token is_argument_token ts ≡ false → optional_arguments_reader w ts ≡ Read w.1 ts
-unfolding optional_arguments_reader
+pub command_before_no_argument_is_read_alone : (w : Option ArglessCommand × Member) (ts : List TokenWithBytes) → is_next_token is_argument_token ts ≡ false → member_with_optional_arguments_reader w ts ≡ Read w.1 ts
+unfolding member_with_optional_arguments_reader
 command_before_no_argument_is_read_alone (None, m) ts e = refl
 command_before_no_argument_is_read_alone (Some p, m) ts e = rw e refl
 
-pub open_command_is_read_with_arguments : (w : Option ArglessCommand × Member) (p : ArglessCommand) (ts : List TokenWithBytes) → w.0 ≡ Some p → is_next_token is_argument_token ts ≡ true → optional_arguments_reader w ts ≡ arguments_reader p w.1 ts
-unfolding optional_arguments_reader
+pub open_command_is_read_with_arguments : (w : Option ArglessCommand × Member) (p : ArglessCommand) (ts : List TokenWithBytes) → w.0 ≡ Some p → is_next_token is_argument_token ts ≡ true → member_with_optional_arguments_reader w ts ≡ member_with_arguments_reader p w.1 ts
+unfolding member_with_optional_arguments_reader
 open_command_is_read_with_arguments (None, m) p ts f e = absurd cc
-open_command_is_read_with_arguments (Some q, m) p ts f e = rw e (ap (λ (x : ArglessCommand). arguments_reader x m ts) (same_Some q p f))
+open_command_is_read_with_arguments (Some q, m) p ts f e = rw e (ap (λ (x : ArglessCommand). member_with_arguments_reader x m ts) (same_Some q p f))
 
 pub program_under_condition_is_some : (c : Bool) (o : Option ArglessCommand) → is_some (if c then o else None) ≡ true → (p : ArglessCommand) × (o ≡ Some p) × ((if c then o else None) ≡ Some p)
 program_under_condition_is_some true (Some p) e = (p, refl, refl)

@@ -13,7 +13,7 @@ use Rattle.sudoers_grammar.specs.declared.node.Args.TheVariants.{Any}
 use Rattle.sudoers_grammar.specs.declared.node.Atom.{Atom}
 use Rattle.sudoers_grammar.specs.declared.command_arguments.ArglessCommand.{ArglessCommand}
 use Rattle.sudoers_grammar.specs.Node as node
-use Rattle.sudoers_grammar.specs.Piece.{is_some, TokenWithBytes, is_arg, is_digest, is_parameter_name_kind, is_value, is_comment, is_mark_of_byte, is_alias_name, alias_kind_of_token, include_dir_of_token, option_of_token, tag_and_sign_of_token, digest_kind_of_token, operator_of_token, scope_kind_of_token, has_first_byte, has_last_byte}
+use Rattle.sudoers_grammar.specs.Piece.{is_some, TokenWithBytes, is_arg, is_digest, is_parameter_name_kind, is_value, is_comment, is_mark_of_byte, is_alias_name, alias_kind_of_token, include_is_dir_of_token, option_of_token, tag_and_sign_of_token, digest_kind_of_token, operator_of_token, scope_kind_of_sign_token_after, has_first_byte, has_last_byte}
 use Rattle.sudoers_grammar.specs.Atom.{atom_of_token, command_atom_without_args, option_value_of_token, include_path_of_token}
 use Rattle.sudoers_grammar.specs.declared.expected_tokens.ExpectedTokens.{ExpectedTokens}
 use Rattle.sudoers_grammar.specs.declared.fault.Why.{Why}
@@ -28,8 +28,8 @@ use Rattle.sudoers_line_reader.specs.Reader.{ReadOutcome, Read, Halt, TokenReade
 abbrev pub is_argument_token : TokenWithBytes → Bool
 is_argument_token t = is_arg t.kind
 
-abbrev pub is_first_argument_token : TokenWithBytes → Bool
-is_first_argument_token t = is_arg t.kind && not (has_first_byte 94 t.text)
+abbrev pub is_argument_token_but_no_regex : TokenWithBytes → Bool
+is_argument_token_but_no_regex t = is_arg t.kind && not (has_first_byte 94 t.text)
 
 abbrev pub is_digest_token : TokenWithBytes → Bool
 is_digest_token t = is_digest t.kind
@@ -92,13 +92,13 @@ args_and_stop_with_one_more r t = (args_with_one_more r.0 t.text, t.stop)
 abbrev pub member_with_arguments : ArglessCommand → Member → Args × ℕ → Member
 member_with_arguments p m r = record { start = m.start; stop = r.1; negated = m.negated; digests = m.digests; atom = atom_of_command_and_args p r.0 }
 
-unfoldable pub arguments_reader : ArglessCommand → Member → TokenReader Member
-arguments_reader p m =
-    passing_token_reader is_first_argument_token >>= (λ t. repetition_reader args_and_stop_with_one_more is_argument_token (passing_token_reader is_argument_token) (args_with_one_more Any t.text, t.stop) >>= (λ r. pure (member_with_arguments p m r)))
+unfoldable pub member_with_arguments_reader : ArglessCommand → Member → TokenReader Member
+member_with_arguments_reader p m =
+    passing_token_reader is_argument_token_but_no_regex >>= (λ t. repetition_reader args_and_stop_with_one_more is_argument_token (passing_token_reader is_argument_token) (args_with_one_more Any t.text, t.stop) >>= (λ r. pure (member_with_arguments p m r)))
 
-unfoldable pub optional_arguments_reader : Option ArglessCommand × Member → TokenReader Member
-optional_arguments_reader (None, m) = pure m
-optional_arguments_reader (Some p, m) = reader_chosen_by_next_token is_argument_token (arguments_reader p m) (pure m)
+unfoldable pub member_with_optional_arguments_reader : Option ArglessCommand × Member → TokenReader Member
+member_with_optional_arguments_reader (None, m) = pure m
+member_with_optional_arguments_reader (Some p, m) = reader_chosen_by_next_token is_argument_token (member_with_arguments_reader p m) (pure m)
 
 abbrev pub command_start_if_allowed : Bool → List Digest → TokenWithBytes → Atom → Option (Option ArglessCommand × Member)
 command_start_if_allowed b ds t a = if has_digests_only_if_allowed ds a then Some (command_open_to_arguments t a, member_of_token_and_atom b ds t a) else None
@@ -107,28 +107,28 @@ abbrev pub command_start_of_token : Bool → List Digest → TokenWithBytes → 
 command_start_of_token b ds t = option_and_then (command_start_if_allowed b ds t) (command_atom_without_args t.kind t.text)
 
 unfoldable pub command_after_digests_reader : List Digest → TokenReader Member
-command_after_digests_reader ds = negation_reader >>= (λ b. one_token_reader (command_start_of_token b ds) >>= optional_arguments_reader)
+command_after_digests_reader ds = negation_reader >>= (λ b. one_token_reader (command_start_of_token b ds) >>= member_with_optional_arguments_reader)
 
 unfoldable pub command_reader : TokenReader Member
 command_reader = reader_with_start (optional_digests_reader >>= command_after_digests_reader) member_with_start
 
 -- a command of a scope has no digests
-unfoldable pub scope_command_reader : TokenReader Member
-scope_command_reader = reader_with_start (command_after_digests_reader []) member_with_start
+unfoldable pub digestless_scope_command_reader : TokenReader Member
+digestless_scope_command_reader = reader_with_start (command_after_digests_reader []) member_with_start
 
 -- ---- aliases
 
-unfoldable pub alias_list_reader : Kind → TokenReader (List Member)
-alias_list_reader User = member_list_reader User
-alias_list_reader Runas = member_list_reader Runas
-alias_list_reader Host = member_list_reader Host
-alias_list_reader Cmnd = separated_list_reader 44 command_reader
+unfoldable pub alias_member_list_reader : Kind → TokenReader (List Member)
+alias_member_list_reader User = member_list_reader User
+alias_member_list_reader Runas = member_list_reader Runas
+alias_member_list_reader Host = member_list_reader Host
+alias_member_list_reader Cmnd = separated_list_reader 44 command_reader
 
 abbrev pub definition_of_name_and_list : TokenWithBytes → List Member → Def
 definition_of_name_and_list n ms = record { name = n.text; start = n.start; stop = stop_of_last_member ms; members = ms }
 
 unfoldable pub alias_definition_reader : Kind → TokenReader Def
-alias_definition_reader k = passing_token_reader is_alias_name >>= (λ n. passing_token_reader (is_mark_of_byte 61) >>= (λ _. alias_list_reader k >>= (λ ms. pure (definition_of_name_and_list n ms))))
+alias_definition_reader k = passing_token_reader is_alias_name >>= (λ n. passing_token_reader (is_mark_of_byte 61) >>= (λ _. alias_member_list_reader k >>= (λ ms. pure (definition_of_name_and_list n ms))))
 
 unfoldable pub alias_node_reader : TokenReader Node
 alias_node_reader = one_token_reader alias_kind_of_token >>= (λ k. separated_list_reader 58 (alias_definition_reader k) >>= (λ ds. pure (node.Alias k ds)))
@@ -169,14 +169,14 @@ user_spec_reader = member_list_reader User >>= (λ us. separated_list_reader 58 
 
 -- ---- Defaults
 
-unfoldable pub scope_list_reader : Kind → TokenReader (List Member)
-scope_list_reader User = member_list_reader User
-scope_list_reader Runas = member_list_reader Runas
-scope_list_reader Host = member_list_reader Host
-scope_list_reader Cmnd = separated_list_reader 44 scope_command_reader
+unfoldable pub scope_member_list_reader : Kind → TokenReader (List Member)
+scope_member_list_reader User = member_list_reader User
+scope_member_list_reader Runas = member_list_reader Runas
+scope_member_list_reader Host = member_list_reader Host
+scope_member_list_reader Cmnd = separated_list_reader 44 digestless_scope_command_reader
 
 unfoldable pub defaults_scope_reader : ℕ → TokenReader Scope
-defaults_scope_reader stop = one_token_reader (scope_kind_of_token stop) >>= (λ k. scope_list_reader k >>= (λ ms. pure (record { kind = k; members = ms })))
+defaults_scope_reader stop = one_token_reader (scope_kind_of_sign_token_after stop) >>= (λ k. scope_member_list_reader k >>= (λ ms. pure (record { kind = k; members = ms })))
 
 abbrev pub flag_parameter : Bool → TokenWithBytes → Param
 flag_parameter b n = record { negated = b; name = n.text; setting = None }
@@ -196,19 +196,19 @@ named_parameter_reader = passing_token_reader is_parameter_name_token >>= (λ n.
 unfoldable pub parameter_reader : TokenReader Param
 parameter_reader = reader_chosen_by_next_token (is_mark_of_byte 33) negatable_flag_reader named_parameter_reader
 
-unfoldable pub parameters_reader : Option Scope → TokenReader Node
-parameters_reader s = separated_list_reader 44 parameter_reader >>= (λ ps. pure (node.Defaults s ps))
+unfoldable pub defaults_parameters_node_reader : Option Scope → TokenReader Node
+defaults_parameters_node_reader s = separated_list_reader 44 parameter_reader >>= (λ ps. pure (node.Defaults s ps))
 
 unfoldable pub scoped_defaults_reader : ℕ → TokenReader Node
-scoped_defaults_reader stop = defaults_scope_reader stop >>= (λ s. parameters_reader (Some s))
+scoped_defaults_reader stop = defaults_scope_reader stop >>= (λ s. defaults_parameters_node_reader (Some s))
 
 unfoldable pub defaults_node_reader : TokenReader Node
-defaults_node_reader = passing_token_reader is_defaults >>= (λ w. reader_chosen_by_next_token (has_meaning_by (scope_kind_of_token w.stop)) (scoped_defaults_reader w.stop) (parameters_reader None))
+defaults_node_reader = passing_token_reader is_defaults >>= (λ w. reader_chosen_by_next_token (has_meaning_by (scope_kind_of_sign_token_after w.stop)) (scoped_defaults_reader w.stop) (defaults_parameters_node_reader None))
 
 -- ---- includes and lines
 
 unfoldable pub include_node_reader : TokenReader Node
-include_node_reader = one_token_reader include_dir_of_token >>= (λ dir. one_token_reader include_path_of_token >>= (λ path. pure (node.Include dir path)))
+include_node_reader = one_token_reader include_is_dir_of_token >>= (λ dir. one_token_reader include_path_of_token >>= (λ path. pure (node.Include dir path)))
 
 -- A comment may stand at the end.
 unfoldable pub optional_comment_end_reader : Node → TokenReader Node
@@ -239,7 +239,7 @@ whole_line_reader =
     reader_chosen_by_next_token is_any_token
     (reader_chosen_by_next_token is_comment_token comment_line_reader
     (reader_chosen_by_next_token (has_meaning_by alias_kind_of_token) alias_line_reader
-    (reader_chosen_by_next_token (has_meaning_by include_dir_of_token) include_line_reader
+    (reader_chosen_by_next_token (has_meaning_by include_is_dir_of_token) include_line_reader
     (reader_chosen_by_next_token is_defaults defaults_line_reader
     spec_line_reader))))
     (end_of_line_reader node.Blank)

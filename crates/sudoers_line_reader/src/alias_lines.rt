@@ -3,7 +3,7 @@
 ghost use Rattle.sudoers_grammar.specs.Node.{Def as DefOf};
 ghost use Rattle.sudoers_line_reader.specs.Reader.{separated_list_reader};
 ghost use Rattle.sudoers_line_reader.specs.Descent.{alias_node_reader, alias_definition_reader};
-ghost use Rattle.sudoers_line_rows.specs.Tables.{TablesHaveGrown, alias_definition_in_tables, alias_definitions_in_tables, node_in_tables};
+ghost use Rattle.sudoers_line_rows.specs.Tables.{TablesHaveGrown, alias_definition_in_tables, alias_definitions_of_range_in_tables, node_in_tables};
 ghost use Rattle.sudoers_line_reader.specs.internal.Answer.{RowReadsAsOutcome};
 
 use crate::cursor::{ReadResult, TokenCursor};
@@ -57,7 +57,7 @@ pub fn read_alias_definitions(
     tables: &mut Tables,
     kind: Kind,
 ) -> ReadResult<RowRange>
-    ensures reads { RowReadsAsOutcome (separated_list_reader 58 (alias_definition_reader kind) cursor.old) alias_definitions_in_tables tables.new result cursor.new }
+    ensures reads { RowReadsAsOutcome (separated_list_reader 58 (alias_definition_reader kind) cursor.old) alias_definitions_of_range_in_tables tables.new result cursor.new }
     ensures grown { TablesHaveGrown tables.old tables.new }
 {
     read_separated_rows(AliasDefinitionReader { kind }, b':', alloc, cursor, tables)

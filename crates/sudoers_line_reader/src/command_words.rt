@@ -7,7 +7,7 @@ ghost use Rattle.sudoers_grammar.specs.Arguments.{has_digests_only_if_allowed};
 ghost use Rattle.sudoers_line_rows.specs.declared.rows.Tables.{Tables as TablesOf};
 ghost use Rattle.sudoers_line_reader.specs.Reader.{one_token_reader};
 ghost use Rattle.sudoers_line_reader.specs.Descent.{command_start_of_token};
-ghost use Rattle.sudoers_line_rows.specs.Tables.{TablesHaveGrown, OptionalRowMeansForGood, RowMeaningLasts, atom_in_tables, digests_in_tables};
+ghost use Rattle.sudoers_line_rows.specs.Tables.{TablesHaveGrown, OptionalRowMeansForGood, RowMeaningLasts, atom_in_tables, digests_of_range_in_tables};
 ghost use Rattle.sudoers_line_reader.specs.internal.Answer.{RowReadsAsOutcome, ReportsDigestPresence, command_start_of_word_row};
 
 use crate::cursor::{HaltCause, ReadResult, TokenCursor};
@@ -64,9 +64,9 @@ pub fn read_command_word(
     digests: RowRange,
     has_digests: bool,
 ) -> ReadResult<CommandStartRow>
-    requires tells { ReportsDigestPresence has_digests (digests_in_tables tables.now digests) }
-    requires lasts { RowMeaningLasts digests_in_tables tables.now digests }
-    ensures reads { RowReadsAsOutcome (one_token_reader (command_start_of_token negated (digests_in_tables tables.old digests)) cursor.old) command_start_of_word_row tables.new result cursor.new }
+    requires tells { ReportsDigestPresence has_digests (digests_of_range_in_tables tables.now digests) }
+    requires lasts { RowMeaningLasts digests_of_range_in_tables tables.now digests }
+    ensures reads { RowReadsAsOutcome (one_token_reader (command_start_of_token negated (digests_of_range_in_tables tables.old digests)) cursor.old) command_start_of_word_row tables.new result cursor.new }
     ensures grown { TablesHaveGrown tables.old tables.new }
 {
     let Some(part) = cursor.peek() else {

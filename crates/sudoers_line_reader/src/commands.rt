@@ -8,9 +8,9 @@ ghost use Rattle.sudoers_line_rows.specs.declared.rows.Tables.{Tables as TablesO
 ghost use Rattle.sudoers_grammar.specs.Node.{Member as MemberOf};
 ghost use Rattle.sudoers_line_reader.specs.Reader.{repetition_reader, separated_list_reader, passing_token_reader};
 ghost use Rattle.sudoers_grammar.specs.Piece.{is_some};
-ghost use Rattle.sudoers_line_reader.specs.Descent.{args_and_stop_with_one_more, is_argument_token, arguments_reader, command_after_digests_reader, optional_arguments_reader, command_reader, scope_command_reader};
+ghost use Rattle.sudoers_line_reader.specs.Descent.{args_and_stop_with_one_more, is_argument_token, member_with_arguments_reader, command_after_digests_reader, member_with_optional_arguments_reader, command_reader, digestless_scope_command_reader};
 ghost use Rattle.sudoers_line_reader.specs.internal.Cursor.{value_itself, ReadsAsOutcome};
-ghost use Rattle.sudoers_line_rows.specs.Tables.{TablesHaveGrown, RowMeaningLasts, args_in_tables, atom_in_tables, digests_in_tables, member_in_tables, members_in_tables};
+ghost use Rattle.sudoers_line_rows.specs.Tables.{TablesHaveGrown, RowMeaningLasts, args_in_tables, atom_in_tables, digests_of_range_in_tables, member_in_tables, members_of_range_in_tables};
 ghost use Rattle.sudoers_line_reader.specs.internal.Answer.{RowReadsAsOutcome, ReportsDigestPresence, command_start_of_word_row};
 
 use crate::command_words::{CommandStartRow, read_command_word};
@@ -25,7 +25,7 @@ use sudoers_line_rows::{
 };
 
 /// Reads the arguments behind the first, and returns all of them, and where the last ends.
-fn read_further_arguments(
+fn add_further_arguments_to_first(
     alloc: Global,
     cursor: &mut TokenCursor<'_>,
     first: &TokenWithText<'_>,
@@ -54,8 +54,8 @@ fn replace_command_args(atom: AtomRow, args: ArgsRow) -> AtomRow
 }
 
 /// Reads the arguments of this command, which can have some.
-#[tactic(auto, unfolding(crate::specs::Descent::arguments_reader))]
-fn read_command_arguments(
+#[tactic(auto, unfolding(crate::specs::Descent::member_with_arguments_reader))]
+fn read_arguments_into_member(
     alloc: Global,
     cursor: &mut TokenCursor<'_>,
     tables: &mut Tables,
@@ -63,11 +63,11 @@ fn read_command_arguments(
 ) -> ReadResult<MemberRow>
     requires { RowMeaningLasts member_in_tables tables.now member }
     ensures reads { (p : ProgramOf) → argless_command_of_atom (atom_in_tables tables.old member.atom) ≡ Some p
-        → RowReadsAsOutcome (arguments_reader p (member_in_tables tables.old member) cursor.old) member_in_tables tables.new result cursor.new }
+        → RowReadsAsOutcome (member_with_arguments_reader p (member_in_tables tables.old member) cursor.old) member_in_tables tables.new result cursor.new }
     ensures grown { TablesHaveGrown tables.old tables.new }
 {
-    let first = cursor.expect_first_argument()?;
-    let (args, stop) = read_further_arguments(alloc, cursor, &first)?;
+    let first = cursor.expect_argument_that_is_no_regex()?;
+    let (args, stop) = add_further_arguments_to_first(alloc, cursor, &first)?;
     let args = store_command_args(tables, &args)?;
     let stop = convert_offset_to_u32(stop)?;
     Ok(MemberRow {
@@ -89,14 +89,14 @@ fn may_have_arguments(word: CommandStartRow) -> bool
 }
 
 /// Reads the arguments behind the word of a command, if there are any.
-fn read_optional_arguments(
+fn read_optional_arguments_into_member(
     alloc: Global,
     cursor: &mut TokenCursor<'_>,
     tables: &mut Tables,
     word: CommandStartRow,
 ) -> ReadResult<MemberRow>
     requires { RowMeaningLasts command_start_of_word_row tables.now word }
-    ensures reads { RowReadsAsOutcome (optional_arguments_reader (command_start_of_word_row tables.old word) cursor.old) member_in_tables tables.new result cursor.new }
+    ensures reads { RowReadsAsOutcome (member_with_optional_arguments_reader (command_start_of_word_row tables.old word) cursor.old) member_in_tables tables.new result cursor.new }
     ensures grown { TablesHaveGrown tables.old tables.new }
 {
     if !may_have_arguments(word) {
@@ -105,7 +105,7 @@ fn read_optional_arguments(
     if !cursor.is_at_argument() {
         return Ok(word.member);
     }
-    read_command_arguments(alloc, cursor, tables, word.member)
+    read_arguments_into_member(alloc, cursor, tables, word.member)
 }
 
 /// Reads a command behind these digests, without its place.
@@ -117,14 +117,14 @@ fn read_command_after_digests(
     digests: RowRange,
     has_digests: bool,
 ) -> ReadResult<MemberRow>
-    requires tells { ReportsDigestPresence has_digests (digests_in_tables tables.now digests) }
-    requires lasts { RowMeaningLasts digests_in_tables tables.now digests }
-    ensures reads { RowReadsAsOutcome (command_after_digests_reader (digests_in_tables tables.old digests) cursor.old) member_in_tables tables.new result cursor.new }
+    requires tells { ReportsDigestPresence has_digests (digests_of_range_in_tables tables.now digests) }
+    requires lasts { RowMeaningLasts digests_of_range_in_tables tables.now digests }
+    ensures reads { RowReadsAsOutcome (command_after_digests_reader (digests_of_range_in_tables tables.old digests) cursor.old) member_in_tables tables.new result cursor.new }
     ensures grown { TablesHaveGrown tables.old tables.new }
 {
     let negated = read_negation_signs(cursor);
     let word = read_command_word(alloc, cursor, tables, negated, digests, has_digests)?;
-    read_optional_arguments(alloc, cursor, tables, word)
+    read_optional_arguments_into_member(alloc, cursor, tables, word)
 }
 
 /// Reads commands.
@@ -147,7 +147,7 @@ impl RowReader for CommandReader {
         cursor: &mut TokenCursor<'_>,
         tables: &mut Tables,
     ) -> ReadResult<MemberRow> {
-        let start = convert_offset_to_u32(cursor.start_of_next_token())?;
+        let start = convert_offset_to_u32(cursor.start_of_next_token_or_zero())?;
         let has_digests = cursor.is_at_digest_kind();
         let digests = read_optional_digests(alloc, cursor, tables)?;
         let row = read_command_after_digests(alloc, cursor, tables, digests, has_digests)?;
@@ -157,25 +157,25 @@ impl RowReader for CommandReader {
 
 /// Reads commands of a scope, which have no digests.
 #[derive(Clone, Copy)]
-pub struct ScopeCommandReader;
+pub struct DigestlessScopeCommandReader;
 
-impl RowReader for ScopeCommandReader {
+impl RowReader for DigestlessScopeCommandReader {
     type Row = MemberRow;
 
     ghost Said = { MemberOf };
 
     ghost said = { member_in_tables };
 
-    ghost rule = { λ _. scope_command_reader };
+    ghost rule = { λ _. digestless_scope_command_reader };
 
-    #[tactic(auto, unfolding(crate::specs::Descent::scope_command_reader))]
+    #[tactic(auto, unfolding(crate::specs::Descent::digestless_scope_command_reader))]
     fn read(
         self,
         alloc: Global,
         cursor: &mut TokenCursor<'_>,
         tables: &mut Tables,
     ) -> ReadResult<MemberRow> {
-        let start = convert_offset_to_u32(cursor.start_of_next_token())?;
+        let start = convert_offset_to_u32(cursor.start_of_next_token_or_zero())?;
         let row = read_command_after_digests(alloc, cursor, tables, NONE, false)?;
         Ok(MemberRow { start, ..row })
     }
@@ -188,7 +188,7 @@ pub fn read_command_list(
     cursor: &mut TokenCursor<'_>,
     tables: &mut Tables,
 ) -> ReadResult<RowRange>
-    ensures reads { RowReadsAsOutcome (separated_list_reader 44 command_reader cursor.old) members_in_tables tables.new result cursor.new }
+    ensures reads { RowReadsAsOutcome (separated_list_reader 44 command_reader cursor.old) members_of_range_in_tables tables.new result cursor.new }
     ensures grown { TablesHaveGrown tables.old tables.new }
 {
     read_separated_rows(CommandReader, b',', alloc, cursor, tables)
@@ -201,8 +201,8 @@ pub fn read_scope_command_list(
     cursor: &mut TokenCursor<'_>,
     tables: &mut Tables,
 ) -> ReadResult<RowRange>
-    ensures reads { RowReadsAsOutcome (separated_list_reader 44 scope_command_reader cursor.old) members_in_tables tables.new result cursor.new }
+    ensures reads { RowReadsAsOutcome (separated_list_reader 44 digestless_scope_command_reader cursor.old) members_of_range_in_tables tables.new result cursor.new }
     ensures grown { TablesHaveGrown tables.old tables.new }
 {
-    read_separated_rows(ScopeCommandReader, b',', alloc, cursor, tables)
+    read_separated_rows(DigestlessScopeCommandReader, b',', alloc, cursor, tables)
 }

@@ -2,10 +2,10 @@
 
 ghost use Rattle.std.specs.Prelude.{◌≡◌, Bool, Option, drop, length, map, not, option_and_then, option_map};
 ghost use Rattle.sudoers_grammar.specs.Seen.{model_of_token_part};
-ghost use Rattle.sudoers_grammar.specs.Piece.{TokenWithBytes, is_mark_of_byte, is_alias_name, alias_kind_of_token, include_dir_of_token, option_of_token, tag_and_sign_of_token, digest_kind_of_token, operator_of_token, scope_kind_of_token};
+ghost use Rattle.sudoers_grammar.specs.Piece.{TokenWithBytes, is_mark_of_byte, is_alias_name, alias_kind_of_token, include_is_dir_of_token, option_of_token, tag_and_sign_of_token, digest_kind_of_token, operator_of_token, scope_kind_of_sign_token_after};
 ghost use Rattle.sudoers_grammar.specs.Grammar.{is_defaults, start_of_first_token};
 ghost use Rattle.sudoers_line_reader.specs.Reader.{is_next_token, one_token_reader, passing_token_reader};
-ghost use Rattle.sudoers_line_reader.specs.Descent.{is_any_token, is_argument_token, is_comment_token, is_digest_token, is_first_argument_token, is_inside_runas_users, is_parameter_name_token, has_meaning_by, is_parameter_value_token};
+ghost use Rattle.sudoers_line_reader.specs.Descent.{is_any_token, is_argument_token, is_comment_token, is_digest_token, is_argument_token_but_no_regex, is_inside_runas_users, is_parameter_name_token, has_meaning_by, is_parameter_value_token};
 ghost use Rattle.sudoers_line_reader.specs.internal.Cursor.{first_token_option, value_itself, ReadsAsOutcome};
 
 use std::alloc::AllocError;
@@ -96,7 +96,7 @@ impl<'a> TokenCursor<'a> {
     }
 
     /// Returns where the next token begins; 0 if none is left.
-    pub fn start_of_next_token(&self) -> usize
+    pub fn start_of_next_token_or_zero(&self) -> usize
         ensures { result ≡ start_of_first_token self.now }
     {
         match self.peek() {
@@ -106,7 +106,7 @@ impl<'a> TokenCursor<'a> {
     }
 
     /// Passes the next token, if it is said to be one that may stand here.
-    pub fn pass_token_if(&mut self, holds: bool) -> ReadResult<TokenWithText<'a>>
+    pub fn pass_token_if_allowed_or_halt(&mut self, holds: bool) -> ReadResult<TokenWithText<'a>>
         ensures { (test : TokenWithBytes → Bool) → holds ≡ is_next_token test self.old → ReadsAsOutcome (passing_token_reader test self.old) model_of_token_part result self.new }
     {
         match self.peek() {
@@ -119,7 +119,7 @@ impl<'a> TokenCursor<'a> {
     }
 
     /// Passes the next token, which says this, if it says anything.
-    pub fn pass_token_with_meaning<T: Drop>(&mut self, found: Option<T>) -> ReadResult<T>
+    pub fn pass_token_with_meaning_or_halt<T: Drop>(&mut self, found: Option<T>) -> ReadResult<T>
         ensures { (says : TokenWithBytes → Option T) → found ≡ option_and_then says (first_token_option self.old) → ReadsAsOutcome (one_token_reader says self.old) value_itself result self.new }
     {
         match found {
@@ -135,84 +135,84 @@ impl<'a> TokenCursor<'a> {
     pub fn expect_mark(&mut self, mark: u8) -> ReadResult<TokenWithText<'a>>
         ensures { ReadsAsOutcome (passing_token_reader (is_mark_of_byte mark) self.old) model_of_token_part result self.new }
     {
-        self.pass_token_if(self.is_at_mark(mark))
+        self.pass_token_if_allowed_or_halt(self.is_at_mark(mark))
     }
 
     /// Passes the text of a digest.
     pub fn expect_digest_text(&mut self) -> ReadResult<TokenWithText<'a>>
         ensures { ReadsAsOutcome (passing_token_reader is_digest_token self.old) model_of_token_part result self.new }
     {
-        self.pass_token_if(self.peek().is_some_and(|part| part.is_digest()))
+        self.pass_token_if_allowed_or_halt(self.peek().is_some_and(|part| part.is_digest()))
     }
 
     /// Passes the name of an alias.
     pub fn expect_alias_name(&mut self) -> ReadResult<TokenWithText<'a>>
         ensures { ReadsAsOutcome (passing_token_reader is_alias_name self.old) model_of_token_part result self.new }
     {
-        self.pass_token_if(self.peek().is_some_and(|part| part.is_alias_name()))
+        self.pass_token_if_allowed_or_halt(self.peek().is_some_and(|part| part.is_alias_name()))
     }
 
     /// Passes the word `Defaults`.
     pub fn expect_defaults_word(&mut self) -> ReadResult<TokenWithText<'a>>
         ensures { ReadsAsOutcome (passing_token_reader is_defaults self.old) model_of_token_part result self.new }
     {
-        self.pass_token_if(self.is_at_defaults_word())
+        self.pass_token_if_allowed_or_halt(self.is_at_defaults_word())
     }
 
     /// Passes the name of a parameter.
     pub fn expect_parameter_name(&mut self) -> ReadResult<TokenWithText<'a>>
         ensures { ReadsAsOutcome (passing_token_reader is_parameter_name_token self.old) model_of_token_part result self.new }
     {
-        self.pass_token_if(self.peek().is_some_and(|part| part.is_parameter_name()))
+        self.pass_token_if_allowed_or_halt(self.peek().is_some_and(|part| part.is_parameter_name()))
     }
 
     /// Passes the value of a parameter.
     pub fn expect_parameter_value(&mut self) -> ReadResult<TokenWithText<'a>>
         ensures { ReadsAsOutcome (passing_token_reader is_parameter_value_token self.old) model_of_token_part result self.new }
     {
-        self.pass_token_if(self.peek().is_some_and(|part| part.is_value()))
+        self.pass_token_if_allowed_or_halt(self.peek().is_some_and(|part| part.is_value()))
     }
 
     /// Passes a word with which a line of aliases begins.
     pub fn expect_alias_keyword(&mut self) -> ReadResult<Kind>
         ensures { ReadsAsOutcome (one_token_reader alias_kind_of_token self.old) value_itself result self.new }
     {
-        self.pass_token_with_meaning(self.peek().and_then(|part| part.alias_kind()))
+        self.pass_token_with_meaning_or_halt(self.peek().and_then(|part| part.alias_kind()))
     }
 
     /// Passes a word with which an include begins.
     pub fn expect_include_word(&mut self) -> ReadResult<bool>
-        ensures { ReadsAsOutcome (one_token_reader include_dir_of_token self.old) value_itself result self.new }
+        ensures { ReadsAsOutcome (one_token_reader include_is_dir_of_token self.old) value_itself result self.new }
     {
-        self.pass_token_with_meaning(self.peek().and_then(|part| part.include_is_dir()))
+        self.pass_token_with_meaning_or_halt(self.peek().and_then(|part| part.include_is_dir()))
     }
 
     /// Passes the name of an option.
     pub fn expect_option_name(&mut self) -> ReadResult<OptionName>
         ensures { ReadsAsOutcome (one_token_reader option_of_token self.old) value_itself result self.new }
     {
-        self.pass_token_with_meaning(self.peek().and_then(|part| part.option_name()))
+        self.pass_token_with_meaning_or_halt(self.peek().and_then(|part| part.option_name()))
     }
 
     /// Passes a tag.
     pub fn expect_tag(&mut self) -> ReadResult<(Tag, bool)>
         ensures { ReadsAsOutcome (one_token_reader tag_and_sign_of_token self.old) value_itself result self.new }
     {
-        self.pass_token_with_meaning(self.peek().and_then(|part| part.tag_with_sign()))
+        self.pass_token_with_meaning_or_halt(self.peek().and_then(|part| part.tag_with_sign()))
     }
 
     /// Passes the kind of a digest.
     pub fn expect_digest_kind(&mut self) -> ReadResult<DigestKind>
         ensures { ReadsAsOutcome (one_token_reader digest_kind_of_token self.old) value_itself result self.new }
     {
-        self.pass_token_with_meaning(self.peek().and_then(|part| part.digest_kind()))
+        self.pass_token_with_meaning_or_halt(self.peek().and_then(|part| part.digest_kind()))
     }
 
     /// Passes the operator of a parameter.
     pub fn expect_operator(&mut self) -> ReadResult<Operator>
         ensures { ReadsAsOutcome (one_token_reader operator_of_token self.old) value_itself result self.new }
     {
-        self.pass_token_with_meaning(self.peek().and_then(|part| part.operator()))
+        self.pass_token_with_meaning_or_halt(self.peek().and_then(|part| part.operator()))
     }
 
     /// Returns whether the next token is the kind of a digest.
@@ -259,25 +259,25 @@ impl<'a> TokenCursor<'a> {
     }
 
     /// Passes the first argument of a command.
-    pub fn expect_first_argument(&mut self) -> ReadResult<TokenWithText<'a>>
-        ensures { ReadsAsOutcome (passing_token_reader is_first_argument_token self.old) model_of_token_part result self.new }
+    pub fn expect_argument_that_is_no_regex(&mut self) -> ReadResult<TokenWithText<'a>>
+        ensures { ReadsAsOutcome (passing_token_reader is_argument_token_but_no_regex self.old) model_of_token_part result self.new }
     {
         let holds = self
             .peek()
             .is_some_and(|part| part.is_arg() && !begins_with_byte(b'^', part.text));
-        self.pass_token_if(holds)
+        self.pass_token_if_allowed_or_halt(holds)
     }
 
     /// Passes a further argument of a command.
     pub fn expect_argument(&mut self) -> ReadResult<TokenWithText<'a>>
         ensures { ReadsAsOutcome (passing_token_reader is_argument_token self.old) model_of_token_part result self.new }
     {
-        self.pass_token_if(self.is_at_argument())
+        self.pass_token_if_allowed_or_halt(self.is_at_argument())
     }
 
     /// Returns whether the next token is the sign of a scope, directly behind the word that ends at this byte.
     pub fn is_at_scope_sign(&self, stop: usize) -> bool
-        ensures { result ≡ is_next_token (has_meaning_by (scope_kind_of_token stop)) self.now }
+        ensures { result ≡ is_next_token (has_meaning_by (scope_kind_of_sign_token_after stop)) self.now }
     {
         self.peek()
             .is_some_and(|part| part.scope_kind_of_sign_after(stop).is_some())
@@ -285,9 +285,9 @@ impl<'a> TokenCursor<'a> {
 
     /// Passes the sign of a scope, directly behind the word that ends at this byte.
     pub fn expect_scope_sign(&mut self, stop: usize) -> ReadResult<Kind>
-        ensures { ReadsAsOutcome (one_token_reader (scope_kind_of_token stop) self.old) value_itself result self.new }
+        ensures { ReadsAsOutcome (one_token_reader (scope_kind_of_sign_token_after stop) self.old) value_itself result self.new }
     {
-        self.pass_token_with_meaning(
+        self.pass_token_with_meaning_or_halt(
             self.peek()
                 .and_then(|part| part.scope_kind_of_sign_after(stop)),
         )
@@ -309,7 +309,7 @@ impl<'a> TokenCursor<'a> {
 
     /// Returns whether the next token is a word with which an include begins.
     pub fn is_at_include_word(&self) -> bool
-        ensures { result ≡ is_next_token (has_meaning_by include_dir_of_token) self.now }
+        ensures { result ≡ is_next_token (has_meaning_by include_is_dir_of_token) self.now }
     {
         self.peek()
             .is_some_and(|part| part.include_is_dir().is_some())
@@ -333,6 +333,6 @@ impl<'a> TokenCursor<'a> {
     pub fn expect_comment(&mut self) -> ReadResult<TokenWithText<'a>>
         ensures { ReadsAsOutcome (passing_token_reader is_comment_token self.old) model_of_token_part result self.new }
     {
-        self.pass_token_if(self.is_at_comment())
+        self.pass_token_if_allowed_or_halt(self.is_at_comment())
     }
 }

@@ -1,9 +1,9 @@
 //! Lines of Defaults.
 
 ghost use Rattle.std.specs.Prelude.{◌≡◌, None};
-ghost use Rattle.sudoers_grammar.specs.Piece.{scope_kind_of_token};
+ghost use Rattle.sudoers_grammar.specs.Piece.{scope_kind_of_sign_token_after};
 ghost use Rattle.sudoers_line_reader.specs.Reader.{one_token_reader, optional_reader};
-ghost use Rattle.sudoers_line_reader.specs.Descent.{defaults_node_reader, parameters_reader, defaults_scope_reader, scoped_defaults_reader};
+ghost use Rattle.sudoers_line_reader.specs.Descent.{defaults_node_reader, defaults_parameters_node_reader, defaults_scope_reader, scoped_defaults_reader};
 ghost use Rattle.sudoers_line_reader.specs.internal.Cursor.{value_itself, ReadsAsOutcome};
 ghost use Rattle.sudoers_line_rows.specs.Tables.{TablesHaveGrown, RowMeaningLasts, node_in_tables, scope_in_tables};
 ghost use Rattle.sudoers_line_reader.specs.internal.Answer.{RowReadsAsOutcome};
@@ -31,7 +31,7 @@ fn read_defaults_scope(
 }
 
 /// Reads a scope and parameters.
-#[tactic(auto, unfolding(crate::specs::Descent::scoped_defaults_reader, crate::specs::Descent::parameters_reader))]
+#[tactic(auto, unfolding(crate::specs::Descent::scoped_defaults_reader, crate::specs::Descent::defaults_parameters_node_reader))]
 fn read_scoped_parameters(
     alloc: Global,
     cursor: &mut TokenCursor<'_>,
@@ -50,13 +50,13 @@ fn read_scoped_parameters(
 }
 
 /// Reads parameters that have no scope.
-#[tactic(auto, unfolding(crate::specs::Descent::parameters_reader))]
+#[tactic(auto, unfolding(crate::specs::Descent::defaults_parameters_node_reader))]
 fn read_unscoped_parameters(
     alloc: Global,
     cursor: &mut TokenCursor<'_>,
     tables: &mut Tables,
 ) -> ReadResult<NodeRow>
-    ensures reads { RowReadsAsOutcome (parameters_reader None cursor.old) node_in_tables tables.new result cursor.new }
+    ensures reads { RowReadsAsOutcome (defaults_parameters_node_reader None cursor.old) node_in_tables tables.new result cursor.new }
     ensures grown { TablesHaveGrown tables.old tables.new }
 {
     let params = read_parameter_list(alloc, cursor, tables)?;

@@ -6,7 +6,7 @@ ghost use Rattle.sudoers_grammar.specs.Seen.{model_of_token_part};
 ghost use Rattle.sudoers_grammar.specs.Node.{Param as ParamOf};
 ghost use Rattle.sudoers_line_reader.specs.Reader.{reader_after_mark, separated_list_reader};
 ghost use Rattle.sudoers_line_reader.specs.Descent.{flag_parameter, negatable_flag_reader, named_parameter_reader, parameter_reader, parameter_setting_reader};
-ghost use Rattle.sudoers_line_rows.specs.Tables.{TablesHaveGrown, RowMeansForGood, parameter_in_tables, parameters_in_tables, text_in_tables};
+ghost use Rattle.sudoers_line_rows.specs.Tables.{TablesHaveGrown, RowMeansForGood, parameter_in_tables, parameters_of_range_in_tables, text_in_tables};
 ghost use Rattle.sudoers_line_reader.specs.internal.Answer.{RowReadsAsOutcome};
 
 use crate::cursor::{ReadResult, TokenCursor};
@@ -134,7 +134,7 @@ pub fn read_parameter_list(
     cursor: &mut TokenCursor<'_>,
     tables: &mut Tables,
 ) -> ReadResult<RowRange>
-    ensures reads { RowReadsAsOutcome (separated_list_reader 44 parameter_reader cursor.old) parameters_in_tables tables.new result cursor.new }
+    ensures reads { RowReadsAsOutcome (separated_list_reader 44 parameter_reader cursor.old) parameters_of_range_in_tables tables.new result cursor.new }
     ensures grown { TablesHaveGrown tables.old tables.new }
 {
     read_separated_rows(ParamReader, b',', alloc, cursor, tables)

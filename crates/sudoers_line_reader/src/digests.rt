@@ -2,7 +2,7 @@
 
 ghost use Rattle.sudoers_line_reader.specs.Reader.{separated_list_reader};
 ghost use Rattle.sudoers_line_reader.specs.Descent.{digest_reader, optional_digests_reader};
-ghost use Rattle.sudoers_line_rows.specs.Tables.{TablesHaveGrown, digest_in_tables, digests_in_tables};
+ghost use Rattle.sudoers_line_rows.specs.Tables.{TablesHaveGrown, digest_in_tables, digests_of_range_in_tables};
 ghost use Rattle.sudoers_grammar.specs.Node.{Digest as DigestOf};
 ghost use Rattle.sudoers_line_reader.specs.internal.Answer.{RowReadsAsOutcome};
 
@@ -46,7 +46,7 @@ pub fn read_digest_list(
     cursor: &mut TokenCursor<'_>,
     tables: &mut Tables,
 ) -> ReadResult<RowRange>
-    ensures reads { RowReadsAsOutcome (separated_list_reader 44 digest_reader cursor.old) digests_in_tables tables.new result cursor.new }
+    ensures reads { RowReadsAsOutcome (separated_list_reader 44 digest_reader cursor.old) digests_of_range_in_tables tables.new result cursor.new }
     ensures grown { TablesHaveGrown tables.old tables.new }
 {
     read_separated_rows(DigestReader, b',', alloc, cursor, tables)
@@ -59,7 +59,7 @@ pub fn read_optional_digests(
     cursor: &mut TokenCursor<'_>,
     tables: &mut Tables,
 ) -> ReadResult<RowRange>
-    ensures reads { RowReadsAsOutcome (optional_digests_reader cursor.old) digests_in_tables tables.new result cursor.new }
+    ensures reads { RowReadsAsOutcome (optional_digests_reader cursor.old) digests_of_range_in_tables tables.new result cursor.new }
     ensures grown { TablesHaveGrown tables.old tables.new }
 {
     if cursor.is_at_digest_kind() {

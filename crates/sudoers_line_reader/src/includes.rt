@@ -24,7 +24,7 @@ fn read_include_path_token(
         return Err(HaltCause::Fault);
     };
     let found = parse_include_path(alloc, &part)?;
-    let path = cursor.pass_token_with_meaning(found)?;
+    let path = cursor.pass_token_with_meaning_or_halt(found)?;
     Ok(store_text(tables, path.as_slice())?)
 }
 

@@ -4,7 +4,7 @@ ghost use Rattle.sudoers_grammar.specs.Node.{Member as MemberOf};
 ghost use Rattle.sudoers_line_reader.specs.Reader.{one_token_reader};
 ghost use Rattle.sudoers_line_reader.specs.Descent.{negation_reader, member_of_single_token, member_reader, member_list_reader};
 ghost use Rattle.sudoers_line_reader.specs.internal.Cursor.{ReadsAsOutcome, SignsReadAs};
-ghost use Rattle.sudoers_line_rows.specs.Tables.{TablesHaveGrown, member_in_tables, members_in_tables};
+ghost use Rattle.sudoers_line_rows.specs.Tables.{TablesHaveGrown, member_in_tables, members_of_range_in_tables};
 ghost use Rattle.sudoers_line_reader.specs.internal.Answer.{RowReadsAsOutcome};
 
 use crate::cursor::{HaltCause, ReadResult, TokenCursor};
@@ -12,7 +12,7 @@ use crate::row_reader::{RowReader, read_separated_rows};
 use std::alloc::Global;
 use sudoers_grammar::Kind;
 use sudoers_line_rows::{
-    MemberRow, NONE, RowRange, Tables, convert_offset_to_u32, store_member_atom,
+    MemberRow, NONE, RowRange, Tables, convert_offset_to_u32, store_atom_of_member_token,
 };
 
 /// Passes signs, and returns whether their number is odd.
@@ -43,7 +43,7 @@ fn read_single_token_member(
         return Err(HaltCause::Fault);
     };
     let stop = convert_offset_to_u32(part.stop)?;
-    let Some(atom) = store_member_atom(alloc, tables, kind, &part)? else {
+    let Some(atom) = store_atom_of_member_token(alloc, tables, kind, &part)? else {
         return Err(HaltCause::Fault);
     };
     cursor.pass_next_token();
@@ -78,7 +78,7 @@ impl RowReader for MemberReader {
         cursor: &mut TokenCursor<'_>,
         tables: &mut Tables,
     ) -> ReadResult<MemberRow> {
-        let start = convert_offset_to_u32(cursor.start_of_next_token())?;
+        let start = convert_offset_to_u32(cursor.start_of_next_token_or_zero())?;
         let negated = read_negation_signs(cursor);
         let row = read_single_token_member(alloc, cursor, tables, self.kind, negated)?;
         Ok(MemberRow { start, ..row })
@@ -93,7 +93,7 @@ pub fn read_member_list(
     tables: &mut Tables,
     kind: Kind,
 ) -> ReadResult<RowRange>
-    ensures reads { RowReadsAsOutcome (member_list_reader kind cursor.old) members_in_tables tables.new result cursor.new }
+    ensures reads { RowReadsAsOutcome (member_list_reader kind cursor.old) members_of_range_in_tables tables.new result cursor.new }
     ensures grown { TablesHaveGrown tables.old tables.new }
 {
     read_separated_rows(MemberReader { kind }, b',', alloc, cursor, tables)

@@ -7,7 +7,7 @@ ghost use Rattle.sudoers_grammar.specs.Atom.{option_value_of_token};
 ghost use Rattle.sudoers_grammar.specs.declared.node.Tag.{Tag as TagOf};
 ghost use Rattle.sudoers_line_reader.specs.Reader.{repetition_reader, one_token_reader, snoc};
 ghost use Rattle.sudoers_line_reader.specs.Descent.{option_reader, has_meaning_by, tag_reader};
-ghost use Rattle.sudoers_line_rows.specs.Tables.{TablesHaveGrown, option_in_tables, options_in_tables, tag_in_tables, tags_in_tables, text_in_tables};
+ghost use Rattle.sudoers_line_rows.specs.Tables.{TablesHaveGrown, option_in_tables, options_of_range_in_tables, tag_in_tables, tags_of_range_in_tables, text_in_tables};
 ghost use Rattle.sudoers_line_reader.specs.internal.Answer.{RowReadsAsOutcome};
 
 use crate::cursor::{HaltCause, ReadResult, TokenCursor};
@@ -30,7 +30,7 @@ fn read_option_value(
         return Err(HaltCause::Fault);
     };
     let found = parse_option_value(alloc, name, &part)?;
-    let value = cursor.pass_token_with_meaning(found)?;
+    let value = cursor.pass_token_with_meaning_or_halt(found)?;
     Ok(store_text(tables, value.as_slice())?)
 }
 
@@ -110,7 +110,7 @@ pub fn read_command_options(
     cursor: &mut TokenCursor<'_>,
     tables: &mut Tables,
 ) -> ReadResult<RowRange>
-    ensures reads { RowReadsAsOutcome (repetition_reader snoc (has_meaning_by option_of_token) option_reader [] cursor.old) options_in_tables tables.new result cursor.new }
+    ensures reads { RowReadsAsOutcome (repetition_reader snoc (has_meaning_by option_of_token) option_reader [] cursor.old) options_of_range_in_tables tables.new result cursor.new }
     ensures grown { TablesHaveGrown tables.old tables.new }
 {
     read_repeated_rows(OptionReader, Vec::new(alloc), alloc, cursor, tables)
@@ -123,7 +123,7 @@ pub fn read_command_tags(
     cursor: &mut TokenCursor<'_>,
     tables: &mut Tables,
 ) -> ReadResult<RowRange>
-    ensures reads { RowReadsAsOutcome (repetition_reader snoc (has_meaning_by tag_and_sign_of_token) tag_reader [] cursor.old) tags_in_tables tables.new result cursor.new }
+    ensures reads { RowReadsAsOutcome (repetition_reader snoc (has_meaning_by tag_and_sign_of_token) tag_reader [] cursor.old) tags_of_range_in_tables tables.new result cursor.new }
     ensures grown { TablesHaveGrown tables.old tables.new }
 {
     read_repeated_rows(TagReader, Vec::new(alloc), alloc, cursor, tables)

@@ -5,7 +5,7 @@ ghost use Rattle.sudoers_grammar.specs.Piece.{is_mark_of_byte};
 ghost use Rattle.sudoers_grammar.specs.declared.node.Kind.TheVariants.{Runas};
 ghost use Rattle.sudoers_line_reader.specs.Reader.{reader_after_mark, optional_reader};
 ghost use Rattle.sudoers_line_reader.specs.Descent.{member_list_reader, runas_users_reader, runas_groups_reader, runas_reader};
-ghost use Rattle.sudoers_line_rows.specs.Tables.{TablesHaveGrown, members_in_tables, runas_in_tables, optional_runas_in_tables};
+ghost use Rattle.sudoers_line_rows.specs.Tables.{TablesHaveGrown, members_of_range_in_tables, runas_in_tables, optional_runas_in_tables};
 ghost use Rattle.sudoers_line_reader.specs.internal.Answer.{RowReadsAsOutcome};
 
 use crate::cursor::{ReadResult, TokenCursor};
@@ -21,7 +21,7 @@ fn read_runas_users(
     cursor: &mut TokenCursor<'_>,
     tables: &mut Tables,
 ) -> ReadResult<RowRange>
-    ensures reads { RowReadsAsOutcome (runas_users_reader cursor.old) members_in_tables tables.new result cursor.new }
+    ensures reads { RowReadsAsOutcome (runas_users_reader cursor.old) members_of_range_in_tables tables.new result cursor.new }
     ensures grown { TablesHaveGrown tables.old tables.new }
 {
     if cursor.is_inside_runas_user_list() {
@@ -38,7 +38,7 @@ fn read_runas_groups(
     cursor: &mut TokenCursor<'_>,
     tables: &mut Tables,
 ) -> ReadResult<RowRange>
-    ensures reads { RowReadsAsOutcome (runas_groups_reader cursor.old) members_in_tables tables.new result cursor.new }
+    ensures reads { RowReadsAsOutcome (runas_groups_reader cursor.old) members_of_range_in_tables tables.new result cursor.new }
     ensures grown { TablesHaveGrown tables.old tables.new }
 {
     if cursor.is_at_mark(b':') {

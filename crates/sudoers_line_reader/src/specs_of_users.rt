@@ -3,7 +3,7 @@
 ghost use Rattle.sudoers_grammar.specs.Node.{CmdSpec as CmdSpecOf, HostGroup as HostGroupOf};
 ghost use Rattle.sudoers_line_reader.specs.Reader.{separated_list_reader};
 ghost use Rattle.sudoers_line_reader.specs.Descent.{cmd_spec_reader, host_group_reader, user_spec_reader};
-ghost use Rattle.sudoers_line_rows.specs.Tables.{TablesHaveGrown, command_in_tables, commands_in_tables, host_group_in_tables, host_groups_in_tables, node_in_tables};
+ghost use Rattle.sudoers_line_rows.specs.Tables.{TablesHaveGrown, command_in_tables, commands_of_range_in_tables, host_group_in_tables, host_groups_of_range_in_tables, node_in_tables};
 ghost use Rattle.sudoers_line_reader.specs.internal.Answer.{RowReadsAsOutcome};
 
 use crate::commands::CommandReader;
@@ -56,7 +56,7 @@ pub fn read_cmd_spec_list(
     cursor: &mut TokenCursor<'_>,
     tables: &mut Tables,
 ) -> ReadResult<RowRange>
-    ensures reads { RowReadsAsOutcome (separated_list_reader 44 cmd_spec_reader cursor.old) commands_in_tables tables.new result cursor.new }
+    ensures reads { RowReadsAsOutcome (separated_list_reader 44 cmd_spec_reader cursor.old) commands_of_range_in_tables tables.new result cursor.new }
     ensures grown { TablesHaveGrown tables.old tables.new }
 {
     read_separated_rows(CmdSpecReader, b',', alloc, cursor, tables)
@@ -96,7 +96,7 @@ pub fn read_host_group_list(
     cursor: &mut TokenCursor<'_>,
     tables: &mut Tables,
 ) -> ReadResult<RowRange>
-    ensures reads { RowReadsAsOutcome (separated_list_reader 58 host_group_reader cursor.old) host_groups_in_tables tables.new result cursor.new }
+    ensures reads { RowReadsAsOutcome (separated_list_reader 58 host_group_reader cursor.old) host_groups_of_range_in_tables tables.new result cursor.new }
     ensures grown { TablesHaveGrown tables.old tables.new }
 {
     read_separated_rows(HostGroupReader, b':', alloc, cursor, tables)

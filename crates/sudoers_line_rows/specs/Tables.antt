@@ -63,17 +63,17 @@ atom_in_tables t (atom_row.Sudoedit r) = atom.Sudoedit (args_in_tables t r)
 abbrev pub digest_in_tables : Tables → DigestRow → Digest
 digest_in_tables t d = record { kind = d.kind; text = text_in_tables t d.text }
 
-abbrev pub digests_in_tables : Tables → RowRange → List Digest
-digests_in_tables t = values_of_row_range t.digests.items (digest_in_tables t)
+abbrev pub digests_of_range_in_tables : Tables → RowRange → List Digest
+digests_of_range_in_tables t = values_of_row_range t.digests.items (digest_in_tables t)
 
 abbrev pub member_in_tables : Tables → MemberRow → Member
-member_in_tables t m = record { start = m.start; stop = m.stop; negated = m.negated; digests = digests_in_tables t m.digests; atom = atom_in_tables t m.atom }
+member_in_tables t m = record { start = m.start; stop = m.stop; negated = m.negated; digests = digests_of_range_in_tables t m.digests; atom = atom_in_tables t m.atom }
 
-abbrev pub members_in_tables : Tables → RowRange → List Member
-members_in_tables t = values_of_row_range t.members.items (member_in_tables t)
+abbrev pub members_of_range_in_tables : Tables → RowRange → List Member
+members_of_range_in_tables t = values_of_row_range t.members.items (member_in_tables t)
 
 abbrev pub runas_in_tables : Tables → RunasRow → RunasSpec
-runas_in_tables t r = record { users = members_in_tables t r.users; groups = members_in_tables t r.groups }
+runas_in_tables t r = record { users = members_of_range_in_tables t r.users; groups = members_of_range_in_tables t r.groups }
 
 abbrev pub optional_runas_in_tables : Tables → Option RunasRow → Option RunasSpec
 optional_runas_in_tables t o = option_map (runas_in_tables t) o
@@ -81,32 +81,32 @@ optional_runas_in_tables t o = option_map (runas_in_tables t) o
 abbrev pub option_in_tables : Tables → OptionRow → OptionName × List ℕ
 option_in_tables t o = (o.name, text_in_tables t o.value)
 
-abbrev pub options_in_tables : Tables → RowRange → List (OptionName × List ℕ)
-options_in_tables t = values_of_row_range t.options.items (option_in_tables t)
+abbrev pub options_of_range_in_tables : Tables → RowRange → List (OptionName × List ℕ)
+options_of_range_in_tables t = values_of_row_range t.options.items (option_in_tables t)
 
 abbrev pub tag_in_tables : Tables → TagRow → Tag × Bool
 tag_in_tables t g = (g.tag, g.on)
 
-abbrev pub tags_in_tables : Tables → RowRange → List (Tag × Bool)
-tags_in_tables t = values_of_row_range t.tags.items (tag_in_tables t)
+abbrev pub tags_of_range_in_tables : Tables → RowRange → List (Tag × Bool)
+tags_of_range_in_tables t = values_of_row_range t.tags.items (tag_in_tables t)
 
 abbrev pub command_in_tables : Tables → CommandRow → CmdSpec
-command_in_tables t c = record { runas = option_map (runas_in_tables t) c.runas; options = options_in_tables t c.options; tags = tags_in_tables t c.tags; member = member_in_tables t c.member }
+command_in_tables t c = record { runas = option_map (runas_in_tables t) c.runas; options = options_of_range_in_tables t c.options; tags = tags_of_range_in_tables t c.tags; member = member_in_tables t c.member }
 
-abbrev pub commands_in_tables : Tables → RowRange → List CmdSpec
-commands_in_tables t = values_of_row_range t.commands.items (command_in_tables t)
+abbrev pub commands_of_range_in_tables : Tables → RowRange → List CmdSpec
+commands_of_range_in_tables t = values_of_row_range t.commands.items (command_in_tables t)
 
 abbrev pub host_group_in_tables : Tables → HostGroupRow → HostGroup
-host_group_in_tables t g = record { hosts = members_in_tables t g.hosts; commands = commands_in_tables t g.commands }
+host_group_in_tables t g = record { hosts = members_of_range_in_tables t g.hosts; commands = commands_of_range_in_tables t g.commands }
 
-abbrev pub host_groups_in_tables : Tables → RowRange → List HostGroup
-host_groups_in_tables t = values_of_row_range t.groups.items (host_group_in_tables t)
+abbrev pub host_groups_of_range_in_tables : Tables → RowRange → List HostGroup
+host_groups_of_range_in_tables t = values_of_row_range t.groups.items (host_group_in_tables t)
 
 abbrev pub alias_definition_in_tables : Tables → AliasDefinitionRow → Def
-alias_definition_in_tables t d = record { name = text_in_tables t d.name; start = d.start; stop = stop_of_last_member (members_in_tables t d.members); members = members_in_tables t d.members }
+alias_definition_in_tables t d = record { name = text_in_tables t d.name; start = d.start; stop = stop_of_last_member (members_of_range_in_tables t d.members); members = members_of_range_in_tables t d.members }
 
-abbrev pub alias_definitions_in_tables : Tables → RowRange → List Def
-alias_definitions_in_tables t = values_of_row_range t.defs.items (alias_definition_in_tables t)
+abbrev pub alias_definitions_of_range_in_tables : Tables → RowRange → List Def
+alias_definitions_of_range_in_tables t = values_of_row_range t.defs.items (alias_definition_in_tables t)
 
 abbrev pub setting_in_tables : Tables → SettingRow → Setting
 setting_in_tables t s = record { operator = s.operator; value = text_in_tables t s.value }
@@ -114,19 +114,19 @@ setting_in_tables t s = record { operator = s.operator; value = text_in_tables t
 abbrev pub parameter_in_tables : Tables → ParamRow → Param
 parameter_in_tables t p = record { negated = p.negated; name = text_in_tables t p.name; setting = option_map (setting_in_tables t) p.setting }
 
-abbrev pub parameters_in_tables : Tables → RowRange → List Param
-parameters_in_tables t = values_of_row_range t.params.items (parameter_in_tables t)
+abbrev pub parameters_of_range_in_tables : Tables → RowRange → List Param
+parameters_of_range_in_tables t = values_of_row_range t.params.items (parameter_in_tables t)
 
 abbrev pub scope_in_tables : Tables → ScopeRow → Scope
-scope_in_tables t s = record { kind = s.kind; members = members_in_tables t s.members }
+scope_in_tables t s = record { kind = s.kind; members = members_of_range_in_tables t s.members }
 
 abbrev pub node_in_tables : Tables → NodeRow → Node
 node_in_tables t node_row.Blank = node.Blank
 node_in_tables t node_row.Comment = node.Comment
 node_in_tables t (node_row.Include dir path) = node.Include dir (text_in_tables t path)
-node_in_tables t (node_row.Defaults scope params) = node.Defaults (option_map (scope_in_tables t) scope) (parameters_in_tables t params)
-node_in_tables t (node_row.Alias kind defs) = node.Alias kind (alias_definitions_in_tables t defs)
-node_in_tables t (node_row.Spec users groups) = node.Spec (members_in_tables t users) (host_groups_in_tables t groups)
+node_in_tables t (node_row.Defaults scope params) = node.Defaults (option_map (scope_in_tables t) scope) (parameters_of_range_in_tables t params)
+node_in_tables t (node_row.Alias kind defs) = node.Alias kind (alias_definitions_of_range_in_tables t defs)
+node_in_tables t (node_row.Spec users groups) = node.Spec (members_of_range_in_tables t users) (host_groups_of_range_in_tables t groups)
 
 -- ---- tables that only grow
 

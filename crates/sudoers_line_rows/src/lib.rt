@@ -21,8 +21,8 @@ pub use rows::{
     Tables, TagRow,
 };
 pub use table_appending::{
-    append_table_rows, convert_offset_to_u32, store_atom, store_command_args, store_member_atom,
-    store_text,
+    append_table_rows, convert_offset_to_u32, store_atom, store_atom_of_member_token,
+    store_command_args, store_text,
 };
 pub use view::{
     BorrowedArgs, BorrowedAtom, CmdSpec, Def, Digest, HostGroup, Member, Node, Param, RunasSpec,

@@ -27,7 +27,7 @@ impl Tables {
 }
 
 /// Returns the rows from one count to another. More than 2^32 rows are want of memory.
-fn make_row_range(from: usize, to: usize) -> Result<RowRange, AllocError>
+fn make_row_range_from_to(from: usize, to: usize) -> Result<RowRange, AllocError>
     ensures { IfOk result (λ r. IsRowRangeFromTo r from to) }
 {
     match (u32::try_from(from), u32::try_from(to)) {
@@ -43,7 +43,7 @@ pub fn append_table_rows<T: Copy>(table: &mut Vec<T>, rows: &[T]) -> Result<RowR
 {
     let from = table.len();
     table.extend_from_slice(rows)?;
-    make_row_range(from, table.len())
+    make_row_range_from_to(from, table.len())
 }
 
 /// Keeps the bytes.
@@ -100,7 +100,7 @@ pub fn store_atom(tables: &mut Tables, atom: &Atom) -> Result<AtomRow, AllocErro
 }
 
 /// Keeps what the token is as a member of a list of this kind, if it is one.
-pub fn store_member_atom(
+pub fn store_atom_of_member_token(
     alloc: Global,
     tables: &mut Tables,
     kind: Kind,

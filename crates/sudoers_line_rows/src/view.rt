@@ -3,7 +3,7 @@
 ghost use Rattle.std.specs.Prelude.{◌≡◌, map, slice_range, option_map};
 ghost use Rattle.sudoers_grammar.specs.Grammar.{stop_of_last_member};
 ghost use Rattle.sudoers_line_rows.specs.declared.rows.Tables.{Tables as TablesOf};
-ghost use Rattle.sudoers_line_rows.specs.Tables.{text_in_tables, args_in_tables, atom_in_tables, digest_in_tables, member_in_tables, members_in_tables, runas_in_tables, option_in_tables, tag_in_tables, command_in_tables, host_group_in_tables, alias_definition_in_tables, setting_in_tables, parameter_in_tables, scope_in_tables, node_in_tables};
+ghost use Rattle.sudoers_line_rows.specs.Tables.{text_in_tables, args_in_tables, atom_in_tables, digest_in_tables, member_in_tables, members_of_range_in_tables, runas_in_tables, option_in_tables, tag_in_tables, command_in_tables, host_group_in_tables, alias_definition_in_tables, setting_in_tables, parameter_in_tables, scope_in_tables, node_in_tables};
 ghost use Rattle.sudoers_line_rows.specs.View.{args_of_view, atom_of_view, digest_of_view, member_of_view, members_of_view, runas_of_view, command_of_view, host_group_of_view, alias_definition_of_view, setting_of_view, parameter_of_view, scope_of_view, node_of_view};
 
 use crate::row_lists::{RowsOfTable, rows_in};
@@ -188,7 +188,7 @@ impl Tables {
 
     /// Returns the members of a list.
     pub fn members_of_row_range(&self, range: RowRange) -> RowsOfTable<'_, MemberRow>
-        ensures { members_of_view result ≡ members_in_tables self.now range }
+        ensures { members_of_view result ≡ members_of_range_in_tables self.now range }
     {
         RowsOfTable {
             tables: self,

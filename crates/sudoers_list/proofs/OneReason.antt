@@ -7,16 +7,16 @@ use Rattle.sudoers_grammar.specs.declared.node.Kind.TheVariants.{Cmnd}
 use Rattle.sudoers_grammar.specs.Node.{Member}
 use Rattle.sudoers_tree.specs.Line.{Line}
 use Rattle.sudoers_tree.specs.Load.{LoadedPolicy}
-use Rattle.sudoers_check.specs.Chain.{IsReachedBySteps, here, onward}
+use Rattle.sudoers_check.specs.Chain.{IsReachedByChainOfSteps, here, onward}
 use Rattle.sudoers_match_member.specs.declared.people_and_commands.Who.{Who}
 use Rattle.sudoers_match_member.specs.declared.request.Request.{Request}
 use Rattle.sudoers_match_member.specs.Hits.{is_command_atom_match}
 use Rattle.sudoers_match_list.specs.Flat.{alias_members_of_atom}
-use Rattle.sudoers_match.specs.Answer.{Answer, command_line_of_request}
+use Rattle.sudoers_match.specs.Answer.{Answer, command_with_joined_arguments_of_request}
 use Rattle.sudoers_match.specs.Default.{IsRunasDefault}
 use Rattle.sudoers_match.specs.Last.{IsLastItemWith}
 use Rattle.sudoers_match.proofs.Lasts.{last_one}
-use Rattle.sudoers_list.specs.Inner.{IsDecidingMemberOfAlias, InnerAliasMember, IsDecidingAliasMember, IsInnermostDecidingMember, DecidingMemberNamesAlias, MemberMatchesCommand}
+use Rattle.sudoers_list.specs.Inner.{IsDecidingMemberOfAlias, InnerAliasMember, IsDecidingAliasMember, IsInnermostDecidingMember, DecidingMemberOfAliasNamesOtherAlias, MemberMatchesCommand}
 use Rattle.sudoers_list.specs.Reason.{IsAliasMemberOfRule, IsReasonText, IsReasonByDecidingRule, IsReasonOfAnswer, rule_text_with_alias_member}
 use Rattle.sudoers_list.specs.Rule.{DecidingRuleOnLine, deciding_rule}
 
@@ -24,25 +24,25 @@ use Rattle.sudoers_list.specs.Rule.{DecidingRuleOnLine, deciding_rule}
 
 module _ {X : Type 0} (Step : X → X → Type 0) where
   -- A chain has no step, or a first one.
-  pub first_step : (x y : X) → IsReachedBySteps Step (λ z. x ≡ z) y → (x ≡ y) ⊎ ((z : X) × Step x z × IsReachedBySteps Step (λ w. z ≡ w) y)
+  pub first_step : (x y : X) → IsReachedByChainOfSteps Step (λ z. x ≡ z) y → (x ≡ y) ⊎ ((z : X) × Step x z × IsReachedByChainOfSteps Step (λ w. z ≡ w) y)
   first_step x y (here z e) = inl e
   first_step x y (onward z w c s) = by (first_step x z c)
     where
-      by : (x ≡ z) ⊎ ((v : X) × Step x v × IsReachedBySteps Step (λ u. v ≡ u) z) → (x ≡ w) ⊎ ((v : X) × Step x v × IsReachedBySteps Step (λ u. v ≡ u) w)
+      by : (x ≡ z) ⊎ ((v : X) × Step x v × IsReachedByChainOfSteps Step (λ u. v ≡ u) z) → (x ≡ w) ⊎ ((v : X) × Step x v × IsReachedByChainOfSteps Step (λ u. v ≡ u) w)
       by (inl e) = inr (w, subst (λ v. Step v w) (sym e) s, here w refl)
       by (inr r) = inr (r.0, r.1, onward z w r.2 s)
 
   module _ (one_step : (x y z : X) → Step x y → Step x z → y ≡ z) where
     -- Of two chains from one thing, one goes on with the other.
-    pub one_way : (x y z : X) → IsReachedBySteps Step (λ w. x ≡ w) y → IsReachedBySteps Step (λ w. x ≡ w) z → IsReachedBySteps Step (λ w. y ≡ w) z ⊎ IsReachedBySteps Step (λ w. z ≡ w) y
-    one_way x y z c (here w e) = inr (subst (λ v. IsReachedBySteps Step (λ u. v ≡ u) y) e c)
+    pub one_way : (x y z : X) → IsReachedByChainOfSteps Step (λ w. x ≡ w) y → IsReachedByChainOfSteps Step (λ w. x ≡ w) z → IsReachedByChainOfSteps Step (λ w. y ≡ w) z ⊎ IsReachedByChainOfSteps Step (λ w. z ≡ w) y
+    one_way x y z c (here w e) = inr (subst (λ v. IsReachedByChainOfSteps Step (λ u. v ≡ u) y) e c)
     one_way x y z c (onward v w d s) = by (one_way x y v c d)
       where
-        go : (v ≡ y) ⊎ ((u : X) × Step v u × IsReachedBySteps Step (λ t. u ≡ t) y) → IsReachedBySteps Step (λ u. y ≡ u) w ⊎ IsReachedBySteps Step (λ u. w ≡ u) y
+        go : (v ≡ y) ⊎ ((u : X) × Step v u × IsReachedByChainOfSteps Step (λ t. u ≡ t) y) → IsReachedByChainOfSteps Step (λ u. y ≡ u) w ⊎ IsReachedByChainOfSteps Step (λ u. w ≡ u) y
         go (inl e) = inl (onward y w (here y refl) (subst (λ u. Step u w) e s))
-        go (inr r) = inr (subst (λ u. IsReachedBySteps Step (λ t. u ≡ t) y) (one_step v r.0 w r.1 s) r.2)
+        go (inr r) = inr (subst (λ u. IsReachedByChainOfSteps Step (λ t. u ≡ t) y) (one_step v r.0 w r.1 s) r.2)
 
-        by : IsReachedBySteps Step (λ u. y ≡ u) v ⊎ IsReachedBySteps Step (λ u. v ≡ u) y → IsReachedBySteps Step (λ u. y ≡ u) w ⊎ IsReachedBySteps Step (λ u. w ≡ u) y
+        by : IsReachedByChainOfSteps Step (λ u. y ≡ u) v ⊎ IsReachedByChainOfSteps Step (λ u. v ≡ u) y → IsReachedByChainOfSteps Step (λ u. y ≡ u) w ⊎ IsReachedByChainOfSteps Step (λ u. w ≡ u) y
         by (inl a) = inl (onward v w a s)
         by (inr b) = go (first_step v y b)
 
@@ -54,27 +54,27 @@ module _ (lines : List Line) (test : Atom → Bool) where
       let same : a.members ≡ b.members = same_Some a.members b.members (sym a.are_members ∙ b.are_members) in
       same_Some m n (last_one (MemberMatchesCommand lines test) b.members (Some m) (Some n) (subst (λ ms. IsLastItemWith (MemberMatchesCommand lines test) ms (Some m)) same a.is_last) b.is_last)
 
-  one_leads : (name a b : List ℕ) → DecidingMemberNamesAlias lines test name a → DecidingMemberNamesAlias lines test name b → a ≡ b
+  one_leads : (name a b : List ℕ) → DecidingMemberOfAliasNamesOtherAlias lines test name a → DecidingMemberOfAliasNamesOtherAlias lines test name b → a ≡ b
   one_leads name a b p q =
       let same : p.0 ≡ q.0 = one_decides name p.0 q.0 p.1 q.1 in
       let atoms : Alias a ≡ Alias b = sym p.2 ∙ ap (λ (m : Member). m.atom) same ∙ q.2 in
       cc
 
   -- A member decides at each place of a chain at whose end one does.
-  decides_first : (name other : List ℕ) (m : Member) → IsReachedBySteps (DecidingMemberNamesAlias lines test) (λ x. name ≡ x) other → IsDecidingMemberOfAlias lines test other m
+  decides_first : (name other : List ℕ) (m : Member) → IsReachedByChainOfSteps (DecidingMemberOfAliasNamesOtherAlias lines test) (λ x. name ≡ x) other → IsDecidingMemberOfAlias lines test other m
       → (n : Member) × IsDecidingMemberOfAlias lines test name n
-  decides_first name other m c d = by (first_step (DecidingMemberNamesAlias lines test) name other c)
+  decides_first name other m c d = by (first_step (DecidingMemberOfAliasNamesOtherAlias lines test) name other c)
     where
-      by : (name ≡ other) ⊎ ((z : List ℕ) × DecidingMemberNamesAlias lines test name z × IsReachedBySteps (DecidingMemberNamesAlias lines test) (λ w. z ≡ w) other) → (n : Member) × IsDecidingMemberOfAlias lines test name n
+      by : (name ≡ other) ⊎ ((z : List ℕ) × DecidingMemberOfAliasNamesOtherAlias lines test name z × IsReachedByChainOfSteps (DecidingMemberOfAliasNamesOtherAlias lines test) (λ w. z ≡ w) other) → (n : Member) × IsDecidingMemberOfAlias lines test name n
       by (inl e) = (m, subst (λ x. IsDecidingMemberOfAlias lines test x m) (sym e) d)
       by (inr r) = (r.1.0, r.1.1)
 
   -- No alias is defined that the member names which decides in the end.
   at_end : (a b : InnerAliasMember) → IsDecidingMemberOfAlias lines test a.name a.member → alias_members_of_atom Cmnd lines a.member.atom ≡ None
-      → IsReachedBySteps (DecidingMemberNamesAlias lines test) (λ x. a.name ≡ x) b.name → IsDecidingMemberOfAlias lines test b.name b.member → a.name ≡ b.name
-  at_end a b d none c e = by (first_step (DecidingMemberNamesAlias lines test) a.name b.name c)
+      → IsReachedByChainOfSteps (DecidingMemberOfAliasNamesOtherAlias lines test) (λ x. a.name ≡ x) b.name → IsDecidingMemberOfAlias lines test b.name b.member → a.name ≡ b.name
+  at_end a b d none c e = by (first_step (DecidingMemberOfAliasNamesOtherAlias lines test) a.name b.name c)
     where
-      by : (a.name ≡ b.name) ⊎ ((z : List ℕ) × DecidingMemberNamesAlias lines test a.name z × IsReachedBySteps (DecidingMemberNamesAlias lines test) (λ w. z ≡ w) b.name) → a.name ≡ b.name
+      by : (a.name ≡ b.name) ⊎ ((z : List ℕ) × DecidingMemberOfAliasNamesOtherAlias lines test a.name z × IsReachedByChainOfSteps (DecidingMemberOfAliasNamesOtherAlias lines test) (λ w. z ≡ w) b.name) → a.name ≡ b.name
       by (inl same) = same
       by (inr r) =
           let m : a.member ≡ r.1.0 = one_decides a.name a.member r.1.0 d r.1.1 in
@@ -86,11 +86,11 @@ module _ (lines : List Line) (test : Atom → Bool) where
 
   one_innermost : (outer : List ℕ) (a b : InnerAliasMember) → IsInnermostDecidingMember lines test outer a → IsInnermostDecidingMember lines test outer b → a ≡ b
   one_innermost outer a b p q =
-      let name : a.name ≡ b.name = by (one_way (DecidingMemberNamesAlias lines test) one_leads outer a.name b.name p.reached q.reached) in
+      let name : a.name ≡ b.name = by (one_way (DecidingMemberOfAliasNamesOtherAlias lines test) one_leads outer a.name b.name p.reached q.reached) in
       let member : a.member ≡ b.member = one_decides b.name a.member b.member (subst (λ x. IsDecidingMemberOfAlias lines test x a.member) name p.decides) q.decides in
       ap₂ (λ (n : List ℕ) (m : Member). record { name = n; member = m }) name member
     where
-      by : IsReachedBySteps (DecidingMemberNamesAlias lines test) (λ x. a.name ≡ x) b.name ⊎ IsReachedBySteps (DecidingMemberNamesAlias lines test) (λ x. b.name ≡ x) a.name → a.name ≡ b.name
+      by : IsReachedByChainOfSteps (DecidingMemberOfAliasNamesOtherAlias lines test) (λ x. a.name ≡ x) b.name ⊎ IsReachedByChainOfSteps (DecidingMemberOfAliasNamesOtherAlias lines test) (λ x. b.name ≡ x) a.name → a.name ≡ b.name
       by (inl c) = at_end a b p.decides p.no_alias c q.decides
       by (inr c) = sym (at_end b a q.decides q.no_alias c p.decides)
 
@@ -114,7 +114,7 @@ module _ (lines : List Line) (test : Atom → Bool) where
 
 alias_member_of_rule_is_unique : (lines : List Line) (r : Request) (o : Option DecidingRuleOnLine) (a b : Option InnerAliasMember) → IsAliasMemberOfRule lines r o a → IsAliasMemberOfRule lines r o b → a ≡ b
 alias_member_of_rule_is_unique lines r None a b p q = p ∙ sym q
-alias_member_of_rule_is_unique lines r (Some rule) a b p q = one_inner lines (is_command_atom_match (command_line_of_request r)) rule.command.member a b p q
+alias_member_of_rule_is_unique lines r (Some rule) a b p q = one_inner lines (is_command_atom_match (command_with_joined_arguments_of_request r)) rule.command.member a b p q
 
 reason_by_deciding_rule_is_unique : (policy : LoadedPolicy) (r : Request) (d : List ℕ) (a : Answer) (t u : List ℕ) → IsReasonByDecidingRule policy r d a t → IsReasonByDecidingRule policy r d a u → t ≡ u
 reason_by_deciding_rule_is_unique policy r d a t u p q =

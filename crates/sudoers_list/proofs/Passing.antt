@@ -5,14 +5,14 @@ use Rattle.std.specs.Option.{option_map}
 use Rattle.sudoers_grammar.specs.Node.{CmdSpec}
 use Rattle.sudoers_tree.specs.Line.{Line}
 use Rattle.sudoers_match.specs.declared.command_settings.CommandSettings.{CommandSettings as HeadHeld}
-use Rattle.sudoers_match.specs.Heads.{SettingsOfCommand, settings_after_command, commands_with_settings}
+use Rattle.sudoers_match.specs.Heads.{AccumulatedCommandSettings, settings_after_command, commands_with_settings}
 use Rattle.sudoers_match.specs.IsHead.{HoldsCommandSettings}
 use Rattle.sudoers_cvt_rules.specs.Effective.{effective_command}
 use Rattle.sudoers_list.specs.Rule.{lines_with_numbers}
 
 -- With the lines of these commands, the text becomes the whole.
 pub record IsTextBeforeRemainingCommands (line : CmdSpec → List ℕ) (held : HeadHeld) (out : List ℕ) (rest : List CmdSpec) (whole : List ℕ) : Type 0 where
-  pub head : SettingsOfCommand
+  pub head : AccumulatedCommandSettings
   pub is_head : HoldsCommandSettings held head
   pub so_far : out ++ flat_map line (map effective_command (commands_with_settings head rest)) ≡ whole
 

@@ -14,7 +14,7 @@ use Rattle.sudoers_match_list.specs.Flat as flat
 use Rattle.sudoers_match_list.proofs.Flats.{last_hit_of_appended_is_later_hit, negated_list_has_negated_last_hit}
 use Rattle.sudoers_match.specs.Last.{IsLastItemWith}
 use Rattle.sudoers_match.proofs.Lasts.{last_then}
-use Rattle.sudoers_list.specs.internal.Going.{HasFlatCommandList}
+use Rattle.sudoers_list.specs.internal.Going.{IsFlattenableCommandList}
 use Rattle.sudoers_list.specs.Inner.{ListMatchesCommand, MemberMatchesCommand}
 
 -- ---- hits
@@ -54,12 +54,12 @@ list_with_matching_flat_atom_matches_command lines test ms fs s made has hits = 
     by None e = absurd (atom_with_hit_gives_last_hit test fs s has (matching_atom_without_digests_gives_hit test s hits) e)
 
 module _ (lines : List Line) where
-  pub flat_each : (ms : List Member) (fs : List SignedAtom) → IsFlatListOf Cmnd lines ms fs → (m : Member) → ListHasElement ms m → HasFlatCommandList lines (m ∷ [])
+  pub flat_each : (ms : List Member) (fs : List SignedAtom) → IsFlatListOf Cmnd lines ms fs → (m : Member) → ListHasElement ms m → IsFlattenableCommandList lines (m ∷ [])
   flat_each ms fs flat.none m has = absurd has
-  flat_each ms fs (flat.one n rest gs e f) m (inl same) = subst (λ x. HasFlatCommandList lines (x ∷ [])) same (signed_atom_of_member n ∷ [], flat.one n [] [] e flat.none)
+  flat_each ms fs (flat.one n rest gs e f) m (inl same) = subst (λ x. IsFlattenableCommandList lines (x ∷ [])) same (signed_atom_of_member n ∷ [], flat.one n [] [] e flat.none)
   flat_each ms fs (flat.one n rest gs e f) m (inr has) = flat_each rest gs f m has
   flat_each ms fs (flat.many n rest members inner gs e i f) m (inl same) =
-      subst (λ x. HasFlatCommandList lines (x ∷ [])) same (map (signed_atom_under_negation n.negated) inner ++ [], flat.many n [] members inner [] e i flat.none)
+      subst (λ x. IsFlattenableCommandList lines (x ∷ [])) same (map (signed_atom_under_negation n.negated) inner ++ [], flat.many n [] members inner [] e i flat.none)
   flat_each ms fs (flat.many n rest members inner gs e i f) m (inr has) = flat_each rest gs f m has
 
   none_flat : (ms : List Member) (fs : List SignedAtom) → IsFlatListOf Cmnd lines ms fs → ms ≡ [] → fs ≡ []

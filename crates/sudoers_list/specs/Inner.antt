@@ -6,7 +6,7 @@ use Rattle.sudoers_grammar.specs.declared.node.Kind.TheVariants.{Cmnd}
 use Rattle.sudoers_grammar.specs.Node.{Member}
 use Rattle.sudoers_tree.specs.Line.{Line}
 use Rattle.sudoers_tree.specs.Definition.{members_of_alias_definition}
-use Rattle.sudoers_check.specs.Chain.{IsReachedBySteps}
+use Rattle.sudoers_check.specs.Chain.{IsReachedByChainOfSteps}
 use Rattle.sudoers_match_list.specs.declared.verdict.MemberHit.{MemberHit}
 use Rattle.sudoers_match_list.specs.Flat.{IsLastHitOfList, alias_members_of_atom}
 use Rattle.sudoers_match.specs.Last.{IsLastItemWith}
@@ -26,8 +26,8 @@ pub record IsDecidingMemberOfAlias (lines : List Line) (test : Atom → Bool) (n
   pub is_last : IsLastItemWith (MemberMatchesCommand lines test) members (Some m)
 
 -- The member that decides in an alias names another.
-abbrev pub DecidingMemberNamesAlias : List Line → (Atom → Bool) → List ℕ → List ℕ → Type 0
-DecidingMemberNamesAlias lines test name other = (m : Member) × IsDecidingMemberOfAlias lines test name m × (m.atom ≡ Alias other)
+abbrev pub DecidingMemberOfAliasNamesOtherAlias : List Line → (Atom → Bool) → List ℕ → List ℕ → Type 0
+DecidingMemberOfAliasNamesOtherAlias lines test name other = (m : Member) × IsDecidingMemberOfAlias lines test name m × (m.atom ≡ Alias other)
 
 -- a member of an alias
 pub record InnerAliasMember : Type 0 where
@@ -36,7 +36,7 @@ pub record InnerAliasMember : Type 0 where
 
 -- The member decides, where a rule names the alias `outer`: deciding members lead to its alias, and it names none.
 pub record IsInnermostDecidingMember (lines : List Line) (test : Atom → Bool) (outer : List ℕ) (inner : InnerAliasMember) : Type 0 where
-  pub reached : IsReachedBySteps (DecidingMemberNamesAlias lines test) (λ name. outer ≡ name) inner.name
+  pub reached : IsReachedByChainOfSteps (DecidingMemberOfAliasNamesOtherAlias lines test) (λ name. outer ≡ name) inner.name
   pub decides : IsDecidingMemberOfAlias lines test inner.name inner.member
   pub no_alias : alias_members_of_atom Cmnd lines inner.member.atom ≡ None
 

@@ -8,10 +8,10 @@ use Rattle.sudoers_tree.specs.Line.{Line}
 use Rattle.sudoers_match_member.specs.declared.people_and_commands.Who.{Who}
 use Rattle.sudoers_match.specs.declared.matching_host_groups.HostGroupPlace.{HostGroupPlace}
 use Rattle.sudoers_match.specs.Specs.{UserSpec, user_specs_of_lines}
-use Rattle.sudoers_match.specs.Groups.{AreMatchingHostGroups}
+use Rattle.sudoers_match.specs.Groups.{ArePlacesOfMatchingHostGroups}
 use Rattle.sudoers_match.specs.Default.{IsRunasDefault}
 use Rattle.sudoers_cvt_spell.specs.Members.{printed_member_list}
-use Rattle.sudoers_cvt_spell.specs.Commands.{printed_command}
+use Rattle.sudoers_cvt_spell.specs.Commands.{printed_runas_options_tags_and_command}
 use Rattle.sudoers_cvt_rules.specs.Effective.{effective_commands}
 
 -- ---- as whom a command is listed
@@ -25,18 +25,18 @@ runas_users_or_self user [] = member_of_plain_name user ∷ []
 runas_users_or_self user (u ∷ us) = u ∷ us
 
 -- A command without a Runas_Spec is listed with `(D)`, D being runas_default. In a Runas_Spec without users the user himself stands.
-abbrev pub listed_runas_spec : List ℕ → List ℕ → Option RunasSpec → RunasSpec
-listed_runas_spec user d None = record { users = member_of_plain_name d ∷ []; groups = [] }
-listed_runas_spec user d (Some r) = record { users = runas_users_or_self user r.users; groups = r.groups }
+abbrev pub runas_spec_with_users_filled_in : List ℕ → List ℕ → Option RunasSpec → RunasSpec
+runas_spec_with_users_filled_in user d None = record { users = member_of_plain_name d ∷ []; groups = [] }
+runas_spec_with_users_filled_in user d (Some r) = record { users = runas_users_or_self user r.users; groups = r.groups }
 
-abbrev pub command_as_listed : List ℕ → List ℕ → CmdSpec → CmdSpec
-command_as_listed user d c = record { runas = Some (listed_runas_spec user d c.runas); options = c.options; tags = c.tags; member = c.member }
+abbrev pub command_with_runas_users_filled_in : List ℕ → List ℕ → CmdSpec → CmdSpec
+command_with_runas_users_filled_in user d c = record { runas = Some (runas_spec_with_users_filled_in user d c.runas); options = c.options; tags = c.tags; member = c.member }
 
 -- ---- the text
 
 -- a line for a command, which says all that holds of it
 abbrev pub listed_command_text_line : List ℕ → List ℕ → CmdSpec → List ℕ
-listed_command_text_line user d c = codes "    " ++ printed_command (command_as_listed user d c) ++ codes "\n"
+listed_command_text_line user d c = codes "    " ++ printed_runas_options_tags_and_command (command_with_runas_users_filled_in user d c) ++ codes "\n"
 
 abbrev pub listed_host_group_lines : List ℕ → List ℕ → HostGroup → List ℕ
 listed_host_group_lines user d g = flat_map (listed_command_text_line user d) (effective_commands g.commands)
@@ -63,19 +63,19 @@ listing_text user host d groups = listing_heading user host groups ++ flat_map (
 
 -- ---- host groups by their places
 
-abbrev pub host_groups_of_specs : List Line → List (List HostGroup)
-host_groups_of_specs lines = map (λ (s : UserSpec). s.groups) (user_specs_of_lines lines)
+abbrev pub host_groups_of_each_user_spec : List Line → List (List HostGroup)
+host_groups_of_each_user_spec lines = map (λ (s : UserSpec). s.groups) (user_specs_of_lines lines)
 
-abbrev pub host_group_at_place : List (List HostGroup) → HostGroupPlace → Option HostGroup
-host_group_at_place specs place = option_and_then (λ groups. slice_get groups place.host_group) (slice_get specs place.spec)
+abbrev pub host_group_at_spec_and_group_number : List (List HostGroup) → HostGroupPlace → Option HostGroup
+host_group_at_spec_and_group_number specs place = option_and_then (λ groups. slice_get groups place.host_group) (slice_get specs place.spec)
 
 abbrev pub host_groups_at_places : List Line → List HostGroupPlace → List HostGroup
-host_groups_at_places lines places = filter_map (host_group_at_place (host_groups_of_specs lines)) places
+host_groups_at_places lines places = filter_map (host_group_at_spec_and_group_number (host_groups_of_each_user_spec lines)) places
 
 -- The text lists the host groups whose users and hosts match, in the order of the lines, with the commands of each.
 pub record IsListingOfUser (lines : List Line) (who : Who) (text : List ℕ) : Type 0 where
   pub places : List HostGroupPlace
-  pub are_all : AreMatchingHostGroups lines who places
+  pub are_all : ArePlacesOfMatchingHostGroups lines who places
   pub default : List ℕ
   pub is_default : IsRunasDefault lines who default
   pub says : text ≡ listing_text who.user.name who.long_host default (host_groups_at_places lines places)

@@ -12,11 +12,11 @@ use Rattle.sudoers_tree.specs.Physical.{column_behind}
 use Rattle.sudoers_tree.specs.Walk.{spot_of_walk_line}
 use Rattle.sudoers_match_member.specs.declared.request.Request.{Request}
 use Rattle.sudoers_match_member.specs.Hits.{is_command_atom_match}
-use Rattle.sudoers_match.specs.Answer.{Answer, command_line_of_request}
+use Rattle.sudoers_match.specs.Answer.{Answer, command_with_joined_arguments_of_request}
 use Rattle.sudoers_match.specs.Default.{IsRunasDefault}
-use Rattle.sudoers_cvt_spell.specs.Commands.{printed_command}
+use Rattle.sudoers_cvt_spell.specs.Commands.{printed_runas_options_tags_and_command}
 use Rattle.sudoers_cvt_spell.specs.Members.{printed_member}
-use Rattle.sudoers_list.specs.Listing.{command_as_listed}
+use Rattle.sudoers_list.specs.Listing.{command_with_runas_users_filled_in}
 use Rattle.sudoers_list.specs.Inner.{InnerAliasMember, IsDecidingAliasMember}
 use Rattle.sudoers_list.specs.Rule.{DecidingRuleOnLine, deciding_rule, lines_with_numbers}
 
@@ -44,10 +44,10 @@ allowed_or_denied_words true = codes ": allowed by: "
 allowed_or_denied_words false = codes ": denied by: "
 
 -- the rule as it is listed, with its place
-abbrev pub deciding_rule_text : LoadedPolicy → List ℕ → List ℕ → Bool → DecidingRuleOnLine → List ℕ
-deciding_rule_text policy user d allow rule =
+abbrev pub place_verdict_and_command_text : LoadedPolicy → List ℕ → List ℕ → Bool → DecidingRuleOnLine → List ℕ
+place_verdict_and_command_text policy user d allow rule =
     file_row_column_text policy rule.line rule.text rule.command.member.start ++ allowed_or_denied_words allow
-    ++ printed_command (command_as_listed user d rule.command) ++ codes "\n"
+    ++ printed_runas_options_tags_and_command (command_with_runas_users_filled_in user d rule.command) ++ codes "\n"
 
 -- the line on which an alias of commands is defined, with its number
 abbrev pub alias_definition_line : List Line → List ℕ → Option (ℕ × Line)
@@ -67,12 +67,12 @@ alias_member_reason_text policy (Some inner) = alias_member_text_on_line policy 
 -- a rule, and the member that decides if an alias hides it
 abbrev pub rule_text_with_alias_member : LoadedPolicy → List ℕ → List ℕ → Bool → Option InnerAliasMember → Option DecidingRuleOnLine → List ℕ
 rule_text_with_alias_member policy user d allow inner None = no_rule_matches_text
-rule_text_with_alias_member policy user d allow inner (Some rule) = deciding_rule_text policy user d allow rule ++ alias_member_reason_text policy inner
+rule_text_with_alias_member policy user d allow inner (Some rule) = place_verdict_and_command_text policy user d allow rule ++ alias_member_reason_text policy inner
 
 -- The member that decides of the rule stands in this alias, if it stands in one.
 abbrev pub IsAliasMemberOfRule : List Line → Request → Option DecidingRuleOnLine → Option InnerAliasMember → Type 0
 IsAliasMemberOfRule lines request None inner = inner ≡ None
-IsAliasMemberOfRule lines request (Some rule) inner = IsDecidingAliasMember lines (is_command_atom_match (command_line_of_request request)) rule.command.member inner
+IsAliasMemberOfRule lines request (Some rule) inner = IsDecidingAliasMember lines (is_command_atom_match (command_with_joined_arguments_of_request request)) rule.command.member inner
 
 -- The text names the rule that gives the answer. d: as whom a command runs where nothing else is said
 pub record IsReasonByDecidingRule (policy : LoadedPolicy) (request : Request) (d : List ℕ) (a : Answer) (text : List ℕ) : Type 0 where

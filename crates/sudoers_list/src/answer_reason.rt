@@ -3,25 +3,25 @@
 ghost use Rattle.std.specs.Prelude.{◌≡◌, ◌⊎◌, ◌++◌, slice_get, Some, IfOk, IfErr, IfSome, OnOk};
 ghost use Rattle.std.specs.Option.{option_map};
 ghost use Rattle.sudoers_tree.specs.Line.{line_of_view};
-ghost use Rattle.sudoers_check.specs.Chains.{HasReachableCycle};
+ghost use Rattle.sudoers_check.specs.Chains.{HasCyclicAliasReachedFromSpecOrDefaults};
 ghost use Rattle.sudoers_match_list.specs.declared.verdict.AskFault.TheVariants.{Cycle, NoMemory};
 ghost use Rattle.sudoers_match.specs.Answer.{IsAnswerToRequest, answer_of_view};
 ghost use Rattle.sudoers_match.specs.Default.{IsRunasDefault};
-ghost use Rattle.sudoers_match.specs.Found.{IsFoundInLines, answer_of_found};
-ghost use Rattle.sudoers_match.specs.Heads.{SettingsOfCommand as HeadOf};
+ghost use Rattle.sudoers_match.specs.Found.{HasMemberAndSettingsFromLines, answer_without_member_and_settings};
+ghost use Rattle.sudoers_match.specs.Heads.{AccumulatedCommandSettings as HeadOf};
 ghost use Rattle.sudoers_match.specs.IsHead.{HoldsCommandSettings};
-ghost use Rattle.sudoers_list.specs.internal.Inside.{alias_member_of_view, rule_of_view_and_settings};
-ghost use Rattle.sudoers_list.specs.Reason.{IsReasonText, IsReasonByDecidingRule, alias_member_reason_text, no_rule_matches_text, deciding_rule_text, allowed_or_denied_words as words_of};
+ghost use Rattle.sudoers_list.specs.internal.Inside.{alias_member_of_view, deciding_rule_of_held_and_settings};
+ghost use Rattle.sudoers_list.specs.Reason.{IsReasonText, IsReasonByDecidingRule, alias_member_reason_text, no_rule_matches_text, place_verdict_and_command_text, allowed_or_denied_words as words_of};
 
 use crate::byte_place::append_byte_place;
 use crate::deciding_member::{DecidingAliasMember, find_deciding_alias_member};
-use crate::deciding_rule::{DecidingRule, find_deciding_rule, find_walk_line};
-use crate::listed_commands::{ListingNames, append_listed_command};
+use crate::deciding_rule::{DecidingRule, deciding_rule_of_found_answer, find_walk_line_by_number};
+use crate::listed_commands::{UserAndRunasDefaultNames, append_listed_command};
 use std::alloc::{AllocError, Global};
 use sudoers_cvt_spell::append_member;
 use sudoers_grammar::Kind;
 use sudoers_match::{
-    Answer, AnswerWithCommand, find_answer_without_args_limit, find_runas_default_for,
+    Answer, AnswerWithMemberAndSettings, find_answer_without_args_limit, find_runas_default_for,
 };
 use sudoers_match_list::{AcyclicWalk, AskFault};
 use sudoers_match_member::Request;
@@ -46,15 +46,15 @@ fn make_no_rule_text(alloc: Global) -> Result<Vec<u8>, AllocError>
 }
 
 /// Returns the rule as a text.
-fn make_deciding_rule_text(
+fn make_place_verdict_and_command_text(
     alloc: Global,
     policy: &Policy,
-    names: &ListingNames<'_>,
+    names: &UserAndRunasDefaultNames<'_>,
     rule: &DecidingRule<'_>,
     allow: bool,
 ) -> Result<Vec<u8>, AllocError>
     requires { slice_get policy.now.walk.lines rule.now.at.number ≡ Some (line_of_view rule.now.at.line) }
-    ensures { IfOk result (λ text. (h : HeadOf) → HoldsCommandSettings rule.now.command.head h → text.items ≡ deciding_rule_text policy.now names.now.user.now names.now.default.now allow (rule_of_view_and_settings rule.now h)) }
+    ensures { IfOk result (λ text. (h : HeadOf) → HoldsCommandSettings rule.now.command.head h → text.items ≡ place_verdict_and_command_text policy.now names.now.user.now names.now.default.now allow (deciding_rule_of_held_and_settings rule.now h)) }
 {
     let mut text = Vec::new(alloc);
     append_byte_place(
@@ -88,7 +88,7 @@ fn append_alias_member_reason(
     let Some(place) = policy.walk().place_of_definition(Kind::Cmnd, inner.name) else {
         return Ok(());
     };
-    let Some(at) = find_walk_line(policy, place.line) else {
+    let Some(at) = find_walk_line_by_number(policy, place.line) else {
         return Ok(());
     };
     append_byte_place(alloc, out, policy, &at, inner.member.start)?;
@@ -100,22 +100,28 @@ fn append_alias_member_reason(
 }
 
 /// Returns the rule that gives an answer as a text, and the member that decides if an alias hides it.
-fn make_answer_reason_text<'a>(
+fn make_reason_text_of_found_answer<'a>(
     alloc: Global,
     policy: &'a Policy,
     acyclic: &AcyclicWalk<'a>,
     request: &Request,
-    names: &ListingNames<'_>,
-    found: &AnswerWithCommand<'a>,
+    names: &UserAndRunasDefaultNames<'_>,
+    found: &AnswerWithMemberAndSettings<'a>,
 ) -> Result<Vec<u8>, AllocError>
     requires same { acyclic.now ≡ policy.now.walk.lines }
-    requires answer { IsAnswerToRequest policy.now.walk.lines request.now (Some (answer_of_found found.now)) }
-    requires found { IsFoundInLines policy.now.walk.lines found.now }
+    requires answer { IsAnswerToRequest policy.now.walk.lines request.now (Some (answer_without_member_and_settings found.now)) }
+    requires found { HasMemberAndSettingsFromLines policy.now.walk.lines found.now }
     requires user { names.now.user.now ≡ request.now.who.user.name }
-    ensures { IfOk result (λ text. IsReasonByDecidingRule policy.now request.now names.now.default.now (answer_of_found found.now) text.items) }
+    ensures { IfOk result (λ text. IsReasonByDecidingRule policy.now request.now names.now.default.now (answer_without_member_and_settings found.now) text.items) }
 {
-    let rule = find_deciding_rule(policy, found);
-    let mut text = make_deciding_rule_text(alloc, policy, names, &rule, found.answer.allow)?;
+    let rule = deciding_rule_of_found_answer(policy, found);
+    let mut text = make_place_verdict_and_command_text(
+        alloc,
+        policy,
+        names,
+        &rule,
+        found.answer.allow,
+    )?;
     if let Some(inner) = find_deciding_alias_member(
         alloc,
         acyclic,
@@ -143,14 +149,14 @@ pub fn explain(
 ) -> Result<Vec<u8>, AskFault>
     requires { IsAnswerToRequest policy.now.walk.lines request.now (option_map answer_of_view answer) }
     ensures text { IfOk result (λ text. IsReasonText policy.now request.now (option_map answer_of_view answer.entry) text.items) }
-    ensures straight { IfOk result (λ _. HasReachableCycle policy.now.walk.lines → ⊥) }
-    ensures fault { IfErr result (λ fault. (fault ≡ NoMemory) ⊎ ((fault ≡ Cycle) × HasReachableCycle policy.now.walk.lines)) }
+    ensures straight { IfOk result (λ _. HasCyclicAliasReachedFromSpecOrDefaults policy.now.walk.lines → ⊥) }
+    ensures fault { IfErr result (λ fault. (fault ≡ NoMemory) ⊎ ((fault ≡ Cycle) × HasCyclicAliasReachedFromSpecOrDefaults policy.now.walk.lines)) }
 {
     // A request has one answer, so the row that is found has the one that is given.
     let acyclic = AcyclicWalk::new(alloc, policy.walk())?;
     let default = find_runas_default_for(alloc, &acyclic, &request.who)?;
     let found = find_answer_without_args_limit(alloc, &acyclic, request, default)?;
-    let text = explain_answer(alloc, policy, &acyclic, request, default, found)?;
+    let text = explain_found_answer(alloc, policy, &acyclic, request, default, found)?;
     Ok(text)
 }
 
@@ -160,26 +166,28 @@ pub fn explain(
 /// # Errors
 ///
 /// Memory ran out.
-pub fn explain_answer<'a>(
+pub fn explain_found_answer<'a>(
     alloc: Global,
     policy: &'a Policy,
     acyclic: &AcyclicWalk<'a>,
     request: &Request,
     default: &[u8],
-    found: Option<AnswerWithCommand<'a>>,
+    found: Option<AnswerWithMemberAndSettings<'a>>,
 ) -> Result<Vec<u8>, AllocError>
     requires same { acyclic.now ≡ policy.now.walk.lines }
     requires default { IsRunasDefault policy.now.walk.lines request.now.who default.now }
-    requires answer { IsAnswerToRequest policy.now.walk.lines request.now (option_map answer_of_found found) }
-    requires found { IfSome found (IsFoundInLines policy.now.walk.lines) }
-    ensures { IfOk result (λ text. IsReasonText policy.now request.now (option_map answer_of_found found.entry) text.items) }
+    requires answer { IsAnswerToRequest policy.now.walk.lines request.now (option_map answer_without_member_and_settings found) }
+    requires found { IfSome found (HasMemberAndSettingsFromLines policy.now.walk.lines) }
+    ensures { IfOk result (λ text. IsReasonText policy.now request.now (option_map answer_without_member_and_settings found.entry) text.items) }
 {
-    let names = ListingNames {
+    let names = UserAndRunasDefaultNames {
         user: request.who.user.name.as_slice(),
         default,
     };
     match found {
-        Some(found) => make_answer_reason_text(alloc, policy, acyclic, request, &names, &found),
+        Some(found) => make_reason_text_of_found_answer(
+            alloc, policy, acyclic, request, &names, &found,
+        ),
         None => make_no_rule_text(alloc),
     }
 }

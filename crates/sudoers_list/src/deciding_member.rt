@@ -10,17 +10,17 @@ ghost use Rattle.sudoers_tree.specs.Definition.{definitions_of_lines, members_of
 ghost use Rattle.sudoers_match_member.specs.Hits.{is_command_atom_match};
 ghost use Rattle.sudoers_match_list.specs.Flat.{alias_members_of_atom};
 ghost use Rattle.sudoers_match_list.specs.Search.{IsValidVerdictCache};
-ghost use Rattle.sudoers_match.specs.Answer.{command_line_of_request};
+ghost use Rattle.sudoers_match.specs.Answer.{command_with_joined_arguments_of_request};
 ghost use Rattle.sudoers_match.specs.Last.{IsLastItemWith};
-ghost use Rattle.sudoers_list.specs.internal.Going.{HasFlatCommandList, IsAliasGoneAfterExpansions};
+ghost use Rattle.sudoers_list.specs.internal.Going.{IsFlattenableCommandList, IsAliasGoneAfterExpansions};
 ghost use Rattle.sudoers_list.specs.Inner.{IsDecidingAliasMember, IsInnermostDecidingMember, ListMatchesCommand, MemberMatchesCommand};
 ghost use Rattle.sudoers_list.specs.internal.Inside.{alias_member_of_view};
 
 use std::alloc::{AllocError, Global};
 use sudoers_grammar::Kind;
 use sudoers_line_rows::{BorrowedAtom, Member, MemberRow, RowsOfTable, Tables};
-use sudoers_match::make_joined_command_line;
-use sudoers_match_list::{AcyclicWalk, AliasVerdictCache, CommandListKind, ListDecision};
+use sudoers_match::make_command_with_joined_arguments;
+use sudoers_match_list::{AcyclicWalk, AliasVerdictCache, CommandListKind, LastHitOrCycle};
 use sudoers_match_member::{CommandLine, Request};
 
 /// A member of an alias.
@@ -58,7 +58,7 @@ fn is_member_matching_command<'a>(
     command: &CommandLine,
 ) -> Result<bool, AllocError>
     requires verdicts { IsValidVerdictCache OfCommands policy.now (is_command_atom_match command.now) verdicts.old }
-    requires flat { HasFlatCommandList policy.now (member_in_tables tables.now row.now ∷ []) }
+    requires flat { IsFlattenableCommandList policy.now (member_in_tables tables.now row.now ∷ []) }
     ensures kept { IfOk result (λ _. IsValidVerdictCache OfCommands policy.now (is_command_atom_match command.now) verdicts.new) }
     ensures speaks { IfOk result (λ speaks. IsTrue speaks ↔ MemberMatchesCommand policy.now (is_command_atom_match command.now) (member_in_tables tables.now row.now)) }
 {
@@ -74,8 +74,8 @@ fn is_member_matching_command<'a>(
         &member,
         command,
     )? {
-        ListDecision::Latest(hit) => Ok(hit.is_some()),
-        ListDecision::Cyclic => unreachable!(),
+        LastHitOrCycle::Latest(hit) => Ok(hit.is_some()),
+        LastHitOrCycle::Cyclic => unreachable!(),
     }
 }
 
@@ -87,7 +87,7 @@ fn find_last_matching_member<'a>(
     command: &CommandLine,
 ) -> Result<Option<Member<'a>>, AllocError>
     requires verdicts { IsValidVerdictCache OfCommands policy.now (is_command_atom_match command.now) verdicts.old }
-    requires flat { HasFlatCommandList policy.now (members_of_view members.now) }
+    requires flat { IsFlattenableCommandList policy.now (members_of_view members.now) }
     ensures kept { IfOk result (λ _. IsValidVerdictCache OfCommands policy.now (is_command_atom_match command.now) verdicts.new) }
     ensures last { IfOk result (λ last. IsLastItemWith (MemberMatchesCommand policy.now (is_command_atom_match command.now)) (members_of_view members.now) (option_map member_of_view last)) }
 {
@@ -145,8 +145,8 @@ pub fn find_deciding_alias_member<'a>(
     request: &Request,
     member: &Member<'a>,
 ) -> Result<Option<DecidingAliasMember<'a>>, AllocError>
-    requires { MemberMatchesCommand policy.now (is_command_atom_match (command_line_of_request request.now)) (member_of_view member.now) }
-    ensures { IfOk result (λ inner. IsDecidingAliasMember policy.now (is_command_atom_match (command_line_of_request request.now)) (member_of_view member.now) (option_map alias_member_of_view inner)) }
+    requires { MemberMatchesCommand policy.now (is_command_atom_match (command_with_joined_arguments_of_request request.now)) (member_of_view member.now) }
+    ensures { IfOk result (λ inner. IsDecidingAliasMember policy.now (is_command_atom_match (command_with_joined_arguments_of_request request.now)) (member_of_view member.now) (option_map alias_member_of_view inner)) }
 {
     // laws
     policy.is_acyclic();
@@ -154,6 +154,6 @@ pub fn find_deciding_alias_member<'a>(
         return Ok(None);
     };
     let mut verdicts = policy.make_verdict_cache(alloc)?;
-    let command = make_joined_command_line(alloc, request)?;
+    let command = make_command_with_joined_arguments(alloc, request)?;
     Ok(Some(find_innermost_member(&mut verdicts, policy, &outer, &command)?))
 }

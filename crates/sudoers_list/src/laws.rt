@@ -9,8 +9,8 @@ ghost use Rattle.sudoers_match_member.specs.declared.people_and_commands.Who.{Wh
 ghost use Rattle.sudoers_match.specs.declared.matching_host_groups.HostGroupPlace.{HostGroupPlace as GroupPlaceOf};
 ghost use Rattle.sudoers_match_member.specs.declared.request.Request.{Request as RequestOf};
 ghost use Rattle.sudoers_match.specs.Answer.{Answer as AnswerOf, IsAnswerToRequest};
-ghost use Rattle.sudoers_match.specs.Groups.{AreMatchingHostGroups, host_group_place};
-ghost use Rattle.sudoers_list.specs.Listing.{IsListingOfUser, host_group_at_place, host_groups_of_specs};
+ghost use Rattle.sudoers_match.specs.Groups.{ArePlacesOfMatchingHostGroups, host_group_place_from_spec_number};
+ghost use Rattle.sudoers_list.specs.Listing.{IsListingOfUser, host_group_at_spec_and_group_number, host_groups_of_each_user_spec};
 ghost use Rattle.sudoers_list.specs.Reason.{IsReasonText};
 ghost use Rattle.sudoers_list.specs.Rule.{DecidingRuleOnLine as RuleOf, deciding_rule};
 
@@ -40,12 +40,12 @@ pub fn answer_has_rule()
 
 /// At each place that is listed for a user there is a host group.
 pub fn places_have_groups()
-    ensures { (lines : List LineOf) (who : WhoOf) (places : List GroupPlaceOf) (place : GroupPlaceOf) → AreMatchingHostGroups lines who places
-        → ListHasElement places place → (group : HostGroupOf) × (host_group_at_place (host_groups_of_specs lines) place ≡ Some group) }
+    ensures { (lines : List LineOf) (who : WhoOf) (places : List GroupPlaceOf) (place : GroupPlaceOf) → ArePlacesOfMatchingHostGroups lines who places
+        → ListHasElement places place → (group : HostGroupOf) × (host_group_at_spec_and_group_number (host_groups_of_each_user_spec lines) place ≡ Some group) }
 {}
 
 /// The host group of the rule that decides is one of those that are listed for the user.
 pub fn deciding_rule_is_listed()
     ensures { (lines : List LineOf) (request : RequestOf) (answer : AnswerOf) (places : List GroupPlaceOf) → IsAnswerToRequest lines request (Some answer)
-        → AreMatchingHostGroups lines request.who places → ListHasElement places (host_group_place answer.spec answer.host_group) }
+        → ArePlacesOfMatchingHostGroups lines request.who places → ListHasElement places (host_group_place_from_spec_number answer.spec answer.host_group) }
 {}

@@ -10,6 +10,6 @@ pub mod laws;
 mod listed_commands;
 mod listing;
 
-pub use answer_reason::{explain, explain_answer};
-pub use listing::{list, list_rules};
+pub use answer_reason::{explain, explain_found_answer};
+pub use listing::{list, list_rules_as_text};
 pub use sudoers_list_people::{People, PeopleFault, WhoFault, request_for, who_for};

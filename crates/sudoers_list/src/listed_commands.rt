@@ -5,12 +5,12 @@ ghost use Rattle.std.specs.List.{flat_map};
 ghost use Rattle.std.specs.Option.{option_map};
 ghost use Rattle.sudoers_grammar.specs.declared.node.Kind.TheVariants.{Runas as RunasKind};
 ghost use Rattle.sudoers_line_rows.specs.View.{commands_of_view, host_group_of_view, member_of_view, members_of_view, runas_of_view};
-ghost use Rattle.sudoers_match.specs.Heads.{SettingsOfCommand as HeadOf};
+ghost use Rattle.sudoers_match.specs.Heads.{AccumulatedCommandSettings as HeadOf};
 ghost use Rattle.sudoers_match.specs.IsHead.{HoldsCommandSettings};
 ghost use Rattle.sudoers_cvt_spell.specs.Members.{printed_member_list};
-ghost use Rattle.sudoers_cvt_spell.specs.Commands.{printed_command, printed_runas};
+ghost use Rattle.sudoers_cvt_spell.specs.Commands.{printed_runas_options_tags_and_command, printed_runas};
 ghost use Rattle.sudoers_cvt_rules.specs.Effective.{effective_command, effective_commands};
-ghost use Rattle.sudoers_list.specs.Listing.{listed_command_text_line, listed_host_group_lines, command_as_listed, listed_runas_spec, printed_runas_name, runas_users_or_self};
+ghost use Rattle.sudoers_list.specs.Listing.{listed_command_text_line, listed_host_group_lines, command_with_runas_users_filled_in, runas_spec_with_users_filled_in, printed_runas_name, runas_users_or_self};
 ghost use Rattle.sudoers_list.specs.internal.Inside.{printed_runas_groups_part};
 
 use std::alloc::{AllocError, Global};
@@ -24,7 +24,7 @@ use sudoers_match::CommandSettings;
 
 /// A user who may run something, and the user as whom he runs it where nothing else is said.
 #[derive(Clone, Copy)]
-pub struct ListingNames<'a> {
+pub struct UserAndRunasDefaultNames<'a> {
     pub user: &'a [u8],
     pub default: &'a [u8],
 }
@@ -53,7 +53,7 @@ pub fn append_runas_name(
 }
 
 /// Appends the users of a Runas_Spec; the user himself if there are none.
-fn append_runas_users(
+fn append_runas_users_or_self(
     alloc: Global,
     out: &mut Vec<u8>,
     user: &[u8],
@@ -87,16 +87,16 @@ fn append_listed_runas_spec(
     alloc: Global,
     out: &mut Vec<u8>,
     tables: &Tables,
-    names: &ListingNames<'_>,
+    names: &UserAndRunasDefaultNames<'_>,
     runas: &Option<RunasSpec<'_>>,
 ) -> Result<(), AllocError>
-    ensures { OnOk result (out.new.items ≡ out.old.items ++ printed_runas (listed_runas_spec names.now.user.now names.now.default.now (option_map runas_of_view runas.now))) }
+    ensures { OnOk result (out.new.items ≡ out.old.items ++ printed_runas (runas_spec_with_users_filled_in names.now.user.now names.now.default.now (option_map runas_of_view runas.now))) }
 {
     out.extend_from_slice(b"(")?;
     match runas {
         None => append_runas_name(alloc, out, tables, names.default)?,
         Some(runas) => {
-            append_runas_users(alloc, out, names.user, &runas.users)?;
+            append_runas_users_or_self(alloc, out, names.user, &runas.users)?;
             append_runas_groups(alloc, out, &runas.groups)?;
         }
     }
@@ -111,12 +111,12 @@ fn append_listed_runas_spec(
 pub fn append_listed_command(
     alloc: Global,
     out: &mut Vec<u8>,
-    names: &ListingNames<'_>,
+    names: &UserAndRunasDefaultNames<'_>,
     head: &CommandSettings<'_>,
     member: &Member<'_>,
 ) -> Result<(), AllocError>
     ensures { OnOk result ((h : HeadOf) → HoldsCommandSettings head.now h
-        → out.new.items ≡ out.old.items ++ printed_command (command_as_listed names.now.user.now names.now.default.now (effective_command (h, member_of_view member.now)))) }
+        → out.new.items ≡ out.old.items ++ printed_runas_options_tags_and_command (command_with_runas_users_filled_in names.now.user.now names.now.default.now (effective_command (h, member_of_view member.now)))) }
 {
     append_listed_runas_spec(alloc, out, member.digests.tables, names, &head.runas)?;
     out.extend_from_slice(b" ")?;
@@ -133,7 +133,7 @@ pub fn append_listed_command(
 fn append_listed_command_line(
     alloc: Global,
     out: &mut Vec<u8>,
-    names: &ListingNames<'_>,
+    names: &UserAndRunasDefaultNames<'_>,
     head: &CommandSettings<'_>,
     member: &Member<'_>,
 ) -> Result<(), AllocError>
@@ -149,7 +149,7 @@ fn append_listed_command_line(
 fn append_host_group_commands(
     alloc: Global,
     out: &mut Vec<u8>,
-    names: &ListingNames<'_>,
+    names: &UserAndRunasDefaultNames<'_>,
     commands: &RowsOfTable<'_, CommandRow>,
 ) -> Result<(), AllocError>
     ensures { OnOk result (out.new.items ≡ out.old.items ++ flat_map (listed_command_text_line names.now.user.now names.now.default.now) (effective_commands (commands_of_view commands.now))) }
@@ -158,7 +158,7 @@ fn append_host_group_commands(
     let tables = commands.tables;
     for row in commands.rows {
         let command = tables.command_of_row(row);
-        head.inherit_settings(&command);
+        head.apply_settings_of_command(&command);
         append_listed_command_line(alloc, out, names, &head, &command.member)?;
     }
     Ok(())
@@ -172,7 +172,7 @@ fn append_host_group_commands(
 pub fn append_host_groups_commands(
     alloc: Global,
     out: &mut Vec<u8>,
-    names: &ListingNames<'_>,
+    names: &UserAndRunasDefaultNames<'_>,
     groups: &[HostGroup<'_>],
 ) -> Result<(), AllocError>
     ensures { OnOk result (out.new.items ≡ out.old.items ++ flat_map (listed_host_group_lines names.now.user.now names.now.default.now) (map host_group_of_view groups.now)) }

@@ -2,16 +2,18 @@
 
 ghost use Rattle.std.specs.Prelude.{◌≡◌, ◌⊎◌, ◌++◌, map, OnOk, IfOk, IfErr};
 ghost use Rattle.sudoers_line_rows.specs.View.{host_group_of_view};
-ghost use Rattle.sudoers_check.specs.Chains.{HasReachableCycle};
+ghost use Rattle.sudoers_check.specs.Chains.{HasCyclicAliasReachedFromSpecOrDefaults};
 ghost use Rattle.sudoers_match_list.specs.declared.verdict.AskFault.TheVariants.{Cycle, NoMemory};
 ghost use Rattle.sudoers_match.specs.Default.{IsRunasDefault};
 ghost use Rattle.sudoers_list.specs.Listing.{IsListingOfUser, listing_heading, text_after_host_name, text_before_host_name};
 
 use crate::groups::collect_host_groups_at;
-use crate::listed_commands::{ListingNames, append_host_groups_commands, append_runas_name};
+use crate::listed_commands::{
+    UserAndRunasDefaultNames, append_host_groups_commands, append_runas_name,
+};
 use std::alloc::{AllocError, Global};
 use sudoers_line_rows::{HostGroup, Tables};
-use sudoers_match::{find_matching_host_groups, find_runas_default_for};
+use sudoers_match::{find_places_of_matching_host_groups, find_runas_default_for};
 use sudoers_match_list::{AcyclicWalk, AskFault};
 use sudoers_match_member::Who;
 use sudoers_tree::Policy;
@@ -60,12 +62,12 @@ fn append_listing_heading(
 /// `Cycle`: a reachable alias is cyclic. `NoMemory`: memory ran out.
 pub fn list(alloc: Global, policy: &Policy, who: &Who) -> Result<Vec<u8>, AskFault>
     ensures text { IfOk result (λ text. IsListingOfUser policy.now.walk.lines who.now text.items) }
-    ensures straight { IfOk result (λ _. HasReachableCycle policy.now.walk.lines → ⊥) }
-    ensures fault { IfErr result (λ fault. (fault ≡ NoMemory) ⊎ ((fault ≡ Cycle) × HasReachableCycle policy.now.walk.lines)) }
+    ensures straight { IfOk result (λ _. HasCyclicAliasReachedFromSpecOrDefaults policy.now.walk.lines → ⊥) }
+    ensures fault { IfErr result (λ fault. (fault ≡ NoMemory) ⊎ ((fault ≡ Cycle) × HasCyclicAliasReachedFromSpecOrDefaults policy.now.walk.lines)) }
 {
     let policy = AcyclicWalk::new(alloc, policy.walk())?;
     let default = find_runas_default_for(alloc, &policy, who)?;
-    Ok(list_rules(alloc, &policy, who, default)?)
+    Ok(list_rules_as_text(alloc, &policy, who, default)?)
 }
 
 /// Returns what `who` may run, as [`list`] does. `default` is the user as whom a command runs where nothing else is said.
@@ -73,7 +75,7 @@ pub fn list(alloc: Global, policy: &Policy, who: &Who) -> Result<Vec<u8>, AskFau
 /// # Errors
 ///
 /// Memory ran out.
-pub fn list_rules(
+pub fn list_rules_as_text(
     alloc: Global,
     policy: &AcyclicWalk<'_>,
     who: &Who,
@@ -82,9 +84,9 @@ pub fn list_rules(
     requires { IsRunasDefault policy.now who.now default.now }
     ensures { IfOk result (λ text. IsListingOfUser policy.now who.now text.items) }
 {
-    let places = find_matching_host_groups(alloc, policy, who)?;
+    let places = find_places_of_matching_host_groups(alloc, policy, who)?;
     let groups = collect_host_groups_at(alloc, policy, places.as_slice())?;
-    let names = ListingNames {
+    let names = UserAndRunasDefaultNames {
         user: who.user.name.as_slice(),
         default,
     };

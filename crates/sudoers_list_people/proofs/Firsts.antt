@@ -3,10 +3,10 @@ use Rattle.std.proofs.Common.{◌≡◌, ℕ, ◌+◌, ◌<◌, Bool, true, fals
 use Rattle.std.specs.List.{list_any, cons_option, position_from}
 use Rattle.std.proofs.lemmas.Slice.Eq.{bytes_eq-Decides}
 use Rattle.std.proofs.lemmas.List.{drop_more}
-use Rattle.sudoers_list_people.specs.Rows.{deduplicated_keeping_first, with_item_if_new, parsed_unskipped_rows, parsed_unless_skipped_row, is_malformed_row, is_skipped_row}
+use Rattle.sudoers_list_people.specs.Rows.{deduplicated_keeping_first, with_item_if_new, parsed_rows_without_skipped_or_malformed, parsed_unless_skipped_row, is_malformed_row, is_skipped_row}
 use Rattle.std.proofs.lemmas.Bool.Decides.{nat_tests}
 use Rattle.sudoers_match_member.specs.declared.people_and_commands.Group.{Group}
-use Rattle.sudoers_list_people.specs.declared.account_rows.GroupFileRow.{GroupFileRow}
+use Rattle.sudoers_list_people.specs.declared.account_and_group_row_types.GroupFileRow.{GroupFileRow}
 use Rattle.sudoers_list_people.specs.Person.{group_of_row, has_same_group_number}
 use Rattle.sudoers_text.specs.Fault.{text_limit}
 use Rattle.sudoers_list_people.specs.internal.Slices.{texts_of_view}
@@ -112,14 +112,14 @@ firsts_with_none_kept_are_deduplicated same xs = filter_by_true_keeps_list (dedu
 -- what is kept of the rows before this one, with the names that were seen
 pub record AreRowsReadSoFar {X : Type 0} (same : X → X → Bool) (said : List ℕ → Option X) (name : X → List ℕ) (all rest : List (List ℕ)) (i : ℕ) (kept : List X) (seen : List (List ℕ)) : Type 0 where
   pub names : seen ≡ map name kept
-  pub firsts : kept_with_first_of_others same kept (parsed_unskipped_rows said rest) ≡ deduplicated_keeping_first same (parsed_unskipped_rows said all)
+  pub firsts : kept_with_first_of_others same kept (parsed_rows_without_skipped_or_malformed said rest) ≡ deduplicated_keeping_first same (parsed_rows_without_skipped_or_malformed said all)
   pub bad : position_from (is_malformed_row said) (i + 1) rest ≡ position_from (is_malformed_row said) 1 all
 
 pub no_rows_are_read_at_start : {X : Type 0} (same : X → X → Bool) (said : List ℕ → Option X) (name : X → List ℕ) (all rest : List (List ℕ)) (kept : List X) (seen : List (List ℕ))
     → rest ≡ all → kept ≡ [] → seen ≡ [] → AreRowsReadSoFar same said name all rest 0 kept seen
 no_rows_are_read_at_start same said name all rest kept seen whole none unseen = record {
   names = unseen ∙ sym (ap (map name) none);
-  firsts = ap (λ ys. kept_with_first_of_others same ys (parsed_unskipped_rows said rest)) none ∙ ap (λ rs. kept_with_first_of_others same [] (parsed_unskipped_rows said rs)) whole ∙ firsts_with_none_kept_are_deduplicated same (parsed_unskipped_rows said all);
+  firsts = ap (λ ys. kept_with_first_of_others same ys (parsed_rows_without_skipped_or_malformed said rest)) none ∙ ap (λ rs. kept_with_first_of_others same [] (parsed_rows_without_skipped_or_malformed said rs)) whole ∙ firsts_with_none_kept_are_deduplicated same (parsed_rows_without_skipped_or_malformed said all);
   bad = ap (position_from (is_malformed_row said) 1) whole;
 }
 
@@ -129,7 +129,7 @@ pub reading_good_row_keeps_read_so_far : {X : Type 0} (same : X → X → Bool) 
     → kept' ≡ with_item_if_new same (parsed_unless_skipped_row said row) kept → seen' ≡ map name kept' → AreRowsReadSoFar same said name all rest (i + 1) kept' seen'
 reading_good_row_keeps_read_so_far same k said name all rest i kept kept' seen seen' row s good e n = record {
   names = n;
-  firsts = ap (λ ys. kept_with_first_of_others same ys (parsed_unskipped_rows said rest)) e ∙ adding_next_item_keeps_firsts same k kept (parsed_unless_skipped_row said row) (parsed_unskipped_rows said rest) ∙ s.firsts;
+  firsts = ap (λ ys. kept_with_first_of_others same ys (parsed_rows_without_skipped_or_malformed said rest)) e ∙ adding_next_item_keeps_firsts same k kept (parsed_unless_skipped_row said row) (parsed_rows_without_skipped_or_malformed said rest) ∙ s.firsts;
   bad = sym (ap (λ b. cond b (Some (i + 1)) (position_from (is_malformed_row said) (i + 1 + 1) rest)) good) ∙ s.bad;
 }
 

@@ -10,8 +10,8 @@ use Rattle.sudoers_match_member.specs.declared.people_and_commands.Group.{Group}
 use Rattle.sudoers_match_member.specs.declared.people_and_commands.Person.{Person}
 use Rattle.sudoers_match_member.specs.declared.people_and_commands.Who.{Who}
 use Rattle.sudoers_match_member.specs.declared.network.Interface.{Interface}
-use Rattle.sudoers_list_people.specs.declared.account_rows.PasswdAccount.{PasswdAccount}
-use Rattle.sudoers_list_people.specs.declared.account_rows.GroupFileRow.{GroupFileRow}
+use Rattle.sudoers_list_people.specs.declared.account_and_group_row_types.PasswdAccount.{PasswdAccount}
+use Rattle.sudoers_list_people.specs.declared.account_and_group_row_types.GroupFileRow.{GroupFileRow}
 use Rattle.sudoers_list_people.specs.declared.fault.WhoFault.{WhoFault}
 use Rattle.sudoers_list_people.specs.declared.fault.WhoFault.TheVariants.{NoUser, BadAddress}
 use Rattle.sudoers_list_people.specs.Rows.{pieces_split_at_byte, deduplicated_keeping_first}
@@ -78,12 +78,12 @@ interfaces_of_text (b ∷ text) = all_if_each_is_some (map interface_of_text (pi
 abbrev pub short_name_of_host : List ℕ → List ℕ
 short_name_of_host host = before_first (λ b. b == 46) host
 
-abbrev pub who_from_lookup_results : People → List ℕ → Option PasswdAccount → Option (List Interface) → Result Who WhoFault
-who_from_lookup_results people host None interfaces = Err NoUser
-who_from_lookup_results people host (Some a) None = Err BadAddress
-who_from_lookup_results people host (Some a) (Some interfaces) =
+abbrev pub who_from_account_and_interfaces : People → List ℕ → Option PasswdAccount → Option (List Interface) → Result Who WhoFault
+who_from_account_and_interfaces people host None interfaces = Err NoUser
+who_from_account_and_interfaces people host (Some a) None = Err BadAddress
+who_from_account_and_interfaces people host (Some a) (Some interfaces) =
     Ok (record { user = person_with_groups people a; long_host = host; short_host = short_name_of_host host; interfaces = interfaces })
 
 -- the user with this name on this host
 abbrev pub who_or_who_fault : People → List ℕ → List ℕ → List ℕ → Result Who WhoFault
-who_or_who_fault people user host interfaces = who_from_lookup_results people host (account_named people user) (interfaces_of_text interfaces)
+who_or_who_fault people user host interfaces = who_from_account_and_interfaces people host (account_named people user) (interfaces_of_text interfaces)

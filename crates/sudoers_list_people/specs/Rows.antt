@@ -2,8 +2,8 @@
 use Rattle.std.specs.Prelude.{ℕ, ◌==◌, ◌||◌, ◌&&◌, not, Bool, true, List, [], ◌∷◌, ◌++◌, Option, Some, None, is_none, if◌then◌else◌}
 use Rattle.std.specs.List.{filter, filter_map, list_any, slice_split}
 use Rattle.sudoers_grammar.specs.Number.{is_nonempty_digit_string, number_if_within_limit, id_limit}
-use Rattle.sudoers_list_people.specs.declared.account_rows.PasswdAccount.{PasswdAccount}
-use Rattle.sudoers_list_people.specs.declared.account_rows.GroupFileRow.{GroupFileRow}
+use Rattle.sudoers_list_people.specs.declared.account_and_group_row_types.PasswdAccount.{PasswdAccount}
+use Rattle.sudoers_list_people.specs.declared.account_and_group_row_types.GroupFileRow.{GroupFileRow}
 
 -- the pieces of a text between the bytes b
 abbrev pub pieces_split_at_byte : ℕ → List ℕ → List (List ℕ)
@@ -42,8 +42,8 @@ abbrev pub group_of_fields : List (List ℕ) → Option GroupFileRow
 group_of_fields (name ∷ password ∷ gid ∷ members ∷ []) = group_row_from_name_and_gid name (id_number_of_field gid) members
 group_of_fields fields = None
 
-abbrev pub group_of_group_row : List ℕ → Option GroupFileRow
-group_of_group_row row = group_of_fields (pieces_split_at_byte 58 row)
+abbrev pub group_file_row_of_text : List ℕ → Option GroupFileRow
+group_file_row_of_text row = group_of_fields (pieces_split_at_byte 58 row)
 
 -- ---- all rows of a text; said: what a row says, if it is in the form of a row
 
@@ -52,8 +52,8 @@ abbrev pub parsed_unless_skipped_row : {X : Type 0} → (List ℕ → Option X) 
 parsed_unless_skipped_row said row = if is_skipped_row row then None else said row
 
 -- what rows say
-abbrev pub parsed_unskipped_rows : {X : Type 0} → (List ℕ → Option X) → List (List ℕ) → List X
-parsed_unskipped_rows said rows = filter_map (parsed_unless_skipped_row said) rows
+abbrev pub parsed_rows_without_skipped_or_malformed : {X : Type 0} → (List ℕ → Option X) → List (List ℕ) → List X
+parsed_rows_without_skipped_or_malformed said rows = filter_map (parsed_unless_skipped_row said) rows
 
 -- A row that is not passed over is in the form of no row.
 abbrev pub is_malformed_row : {X : Type 0} → (List ℕ → Option X) → List ℕ → Bool

@@ -4,7 +4,7 @@ ghost use Rattle.std.specs.Prelude.{◌≡◌, ◌⊎◌, Ok, Err, IfOk, IfErr};
 ghost use Rattle.sudoers_list_people.specs.declared.fault.PeopleFault.TheVariants.{NoMemory};
 ghost use Rattle.sudoers_list_people.specs.People.{people_read_result};
 
-use crate::account_rows::{GroupFileRow, PasswdAccount};
+use crate::account_and_group_row_types::{GroupFileRow, PasswdAccount};
 use crate::fault::PeopleFault;
 use crate::reading::{read_group_text, read_passwd_text};
 use std::alloc::Global;

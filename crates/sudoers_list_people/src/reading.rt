@@ -1,17 +1,19 @@
 //! The rows of passwd and of group.
 
 ghost use Rattle.std.specs.Prelude.{◌≡◌, ◌⊎◌, [], not, map, List, Some, None, IfOk, OnOk, IfErr};
-ghost use Rattle.sudoers_list_people.specs.declared.account_rows.PasswdAccount.{PasswdAccount as AccountOf};
-ghost use Rattle.sudoers_list_people.specs.declared.account_rows.GroupFileRow.{GroupFileRow as GroupOf};
+ghost use Rattle.sudoers_list_people.specs.declared.account_and_group_row_types.PasswdAccount.{PasswdAccount as AccountOf};
+ghost use Rattle.sudoers_list_people.specs.declared.account_and_group_row_types.GroupFileRow.{GroupFileRow as GroupOf};
 ghost use Rattle.sudoers_list_people.specs.declared.fault.PeopleFile.TheVariants.{Passwd, Group};
 ghost use Rattle.sudoers_list_people.specs.declared.fault.PeopleFault.TheVariants.{NoMemory};
-ghost use Rattle.sudoers_list_people.specs.Rows.{account_of_passwd_row, group_of_group_row, is_malformed_row, parsed_unless_skipped_row, with_item_if_new};
+ghost use Rattle.sudoers_list_people.specs.Rows.{account_of_passwd_row, group_file_row_of_text, is_malformed_row, parsed_unless_skipped_row, with_item_if_new};
 ghost use Rattle.sudoers_list_people.specs.People.{accounts_of_passwd, groups_of_group_file, first_fault_in_people_file, has_same_user_name, has_same_group_name};
 
-use crate::account_rows::{GroupFileRow, PasswdAccount};
+use crate::account_and_group_row_types::{GroupFileRow, PasswdAccount};
 use crate::fault::{PeopleFault, PeopleFile};
+use crate::passwd_and_group_row_reading::{
+    is_skipped_account_row, read_group_row, read_passwd_row,
+};
 use crate::seen_names::SeenNames;
-use crate::single_rows::{is_skipped_account_row, read_group_row, read_passwd_row};
 use crate::text_pieces::split_text_at_byte;
 use std::alloc::{AllocError, Global};
 use sudoers_text::TEXT_LIMIT;
@@ -73,8 +75,8 @@ fn add_passwd_row(
 /// `TooLarge`, `BadRow` or `NoMemory`.
 pub fn read_group_text(alloc: Global, text: &[u8]) -> Result<Vec<GroupFileRow>, PeopleFault>
     ensures groups { IfOk result (λ groups. groups.items ≡ groups_of_group_file text.now) }
-    ensures good { OnOk result (first_fault_in_people_file Group group_of_group_row text.now ≡ None) }
-    ensures fault { IfErr result (λ fault. (fault ≡ NoMemory) ⊎ (first_fault_in_people_file Group group_of_group_row text.now ≡ Some fault)) }
+    ensures good { OnOk result (first_fault_in_people_file Group group_file_row_of_text text.now ≡ None) }
+    ensures fault { IfErr result (λ fault. (fault ≡ NoMemory) ⊎ (first_fault_in_people_file Group group_file_row_of_text text.now ≡ Some fault)) }
 {
     if text.len() > TEXT_LIMIT {
         return Err(PeopleFault::TooLarge);
@@ -101,8 +103,8 @@ fn add_group_row(
 ) -> Result<bool, AllocError>
     requires { seen.old ≡ map (λ (g : GroupOf). g.name) groups.old.items }
     ensures seen { OnOk result (seen.new ≡ map (λ (g : GroupOf). g.name) groups.new.items) }
-    ensures good { IfOk result (λ good. good ≡ not (is_malformed_row group_of_group_row row.now)) }
-    ensures added { OnOk result (groups.new.items ≡ with_item_if_new has_same_group_name (parsed_unless_skipped_row group_of_group_row row.now) groups.old.items) }
+    ensures good { IfOk result (λ good. good ≡ not (is_malformed_row group_file_row_of_text row.now)) }
+    ensures added { OnOk result (groups.new.items ≡ with_item_if_new has_same_group_name (parsed_unless_skipped_row group_file_row_of_text row.now) groups.old.items) }
 {
     if is_skipped_account_row(row) {
         return Ok(true);

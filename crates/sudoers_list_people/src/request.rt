@@ -3,18 +3,18 @@
 ghost use Rattle.std.specs.Prelude.{◌≡◌, ◌⊎◌, ℕ, List, Ok, Err, IfOk, IfErr};
 ghost use Rattle.std.specs.Option.{option_map};
 ghost use Rattle.std.specs.Borrow.{Bor};
-ghost use Rattle.sudoers_list_people.specs.declared.account_rows.GroupFileRow.{GroupFileRow as RowOf};
+ghost use Rattle.sudoers_list_people.specs.declared.account_and_group_row_types.GroupFileRow.{GroupFileRow as RowOf};
 ghost use Rattle.sudoers_list_people.specs.declared.fault.WhoFault.TheVariants.{NoMemory};
 ghost use Rattle.sudoers_list_people.specs.Person.{group_of_row};
-ghost use Rattle.sudoers_list_people.specs.Asked.{arguments_of_words, command_of_words, requested_group, group_named, moment_of_stamp, request_or_who_fault};
+ghost use Rattle.sudoers_list_people.specs.Asked.{argument_words_after_first, command_of_words, group_requested_by_name, group_named, moment_of_stamp, request_or_who_fault};
 
-use crate::account_rows::GroupFileRow;
+use crate::account_and_group_row_types::GroupFileRow;
 use crate::fault::WhoFault;
+use crate::making_person_with_groups::{find_user_account, make_person_with_groups};
 use crate::people::People;
-use crate::person::{find_user_account, make_person_with_groups};
 use std::alloc::{AllocError, Global};
 use sudoers_grammar::{Items, is_time_stamp};
-use sudoers_match_member::{Group, Person, Request, Who, read_stamp_number};
+use sudoers_match_member::{Group, Person, Request, Who, convert_stamp_to_zero_filled_number};
 
 /// Returns the group with the name `name`.
 fn find_group_named<'a>(people: &'a People, name: &[u8]) -> Option<&'a GroupFileRow>
@@ -29,12 +29,12 @@ fn find_group_named<'a>(people: &'a People, name: &[u8]) -> Option<&'a GroupFile
 }
 
 /// Returns the group that is asked for, if one is; `None` if no group has the name.
-fn find_requested_group(
+fn find_group_requested_by_name(
     alloc: Global,
     people: &People,
     name: Option<&[u8]>,
 ) -> Result<Option<Option<Group>>, AllocError>
-    ensures { IfOk result (λ group. group ≡ requested_group people.now (option_map (λ (n : Bor (List ℕ)). n.now) name.entry)) }
+    ensures { IfOk result (λ group. group ≡ group_requested_by_name people.now (option_map (λ (n : Bor (List ℕ)). n.now) name.entry)) }
 {
     let Some(name) = name else {
         return Ok(Some(None));
@@ -51,7 +51,7 @@ fn read_stamp_moment(stamp: &[u8]) -> Option<u64>
     ensures { result ≡ moment_of_stamp stamp.now }
 {
     if is_time_stamp(stamp) {
-        Some(read_stamp_number(stamp))
+        Some(convert_stamp_to_zero_filled_number(stamp))
     } else {
         None
     }
@@ -69,7 +69,7 @@ fn copy_command_word(alloc: Global, words: &[Items<u8>]) -> Result<Items<u8>, Al
 
 /// Returns the words after the first.
 fn copy_argument_words(alloc: Global, words: &[Items<u8>]) -> Result<Items<Items<u8>>, AllocError>
-    ensures { IfOk result (λ args. args ≡ arguments_of_words words.now) }
+    ensures { IfOk result (λ args. args ≡ argument_words_after_first words.now) }
 {
     let mut args = Vec::new(alloc);
     if let Some((_, rest)) = words.split_first() {
@@ -81,7 +81,7 @@ fn copy_argument_words(alloc: Global, words: &[Items<u8>]) -> Result<Items<Items
 }
 
 /// Returns the request of `who` to run `words` as `target` and as `target_group`, at the moment `moment`.
-fn make_command_request(
+fn make_request_from_parts(
     alloc: Global,
     who: Who,
     target: Person,
@@ -94,7 +94,7 @@ fn make_command_request(
       target = target;
       target_group = target_group;
       command = command_of_words words.now;
-      args = arguments_of_words words.now;
+      args = argument_words_after_first words.now;
       moment = moment;
     }) }
 {
@@ -132,12 +132,12 @@ pub fn request_for(
     let Some(target) = find_user_account(people, target) else {
         return Err(WhoFault::NoUser);
     };
-    let Some(target_group) = find_requested_group(alloc, people, group)? else {
+    let Some(target_group) = find_group_requested_by_name(alloc, people, group)? else {
         return Err(WhoFault::NoGroup);
     };
     let Some(moment) = read_stamp_moment(stamp) else {
         return Err(WhoFault::BadMoment);
     };
     let target = make_person_with_groups(alloc, people, target)?;
-    Ok(make_command_request(alloc, who, target, target_group, words, moment)?)
+    Ok(make_request_from_parts(alloc, who, target, target_group, words, moment)?)
 }

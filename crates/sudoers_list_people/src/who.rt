@@ -6,8 +6,8 @@ ghost use Rattle.sudoers_list_people.specs.Person.{short_name_of_host, who_or_wh
 
 use crate::fault::WhoFault;
 use crate::interfaces::read_interface_list;
+use crate::making_person_with_groups::{find_user_account, make_person_with_groups};
 use crate::people::People;
-use crate::person::{find_user_account, make_person_with_groups};
 use std::alloc::Global;
 use sudoers_grammar::Items;
 use sudoers_match_member::Who;

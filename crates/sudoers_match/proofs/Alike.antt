@@ -1,9 +1,9 @@
 -- What two policies answer whose rows and settings say the same.
-use Rattle.sudoers_match.proofs.Common.{AllByRecursion, Allow, Answer, AreAllRunasDefaultsAlike, AreAnswersSameButNumbers, AreDefaultsScopesAlike, AreRowsAlikeButNumbers, AreRowsAlikeWithNumbers}
+use Rattle.sudoers_match.proofs.Common.{AllByRecursion, Allow, Answer, AreAllRunasDefaultsAlike, AreAnswersSameButNumbers, AreDefaultsScopesAlike, AreTwoRowsAlikeButSpecNumbers, AreTwoRowsAlikeWithSpecNumbers}
 use Rattle.sudoers_match.proofs.Common.{AreRunasDefaultsAlike, AreRunasMemberListsAlike, AreRunasSpecsAlike, AreScopeListsAlike, Atom, Bool, Cmnd, Group, HaveSameFlatListAfterRewrite, Host, IsAnswerOfRows}
-use Rattle.sudoers_match.proofs.Common.{IsConcatenationOfParts, IsLastItemWith, IsListVerdict, IsPointwiseRelated, IsRunasDefault, IsScopeForUserOnHost, IsScopeListFor, KeepsAtomMatches, Kind, Line, List, ListAllows}
+use Rattle.sudoers_match.proofs.Common.{IsConcatenationOfParts, IsLastItemWith, IsListVerdict, IsPointwiseRelated, IsRunasDefault, IsScopeForUserOnHost, IsScopeListForUserOrHost, KeepsAtomMatches, Kind, Line, List, ListAllows}
 use Rattle.sudoers_match.proofs.Common.{Member, None, Option, PrivilegeRow, Request, RowFitsRequest, Runas, RunasGroupsAllow, RunasListsAllow, RunasSpec, RunasSpecAllows, Scope, SignedAtom, Some, User, Verdict, Who}
-use Rattle.sudoers_match.proofs.Common.{[], answer_of_row, ap, ap₂, command_line_of_request, final_tags_of, has_no_digests, is_all_atom, is_host_atom_match, is_in_option_time_bounds, is_request_command_hit}
+use Rattle.sudoers_match.proofs.Common.{[], answer_of_fitting_row, ap, ap₂, command_with_joined_arguments_of_request, final_tags_of, has_no_digests, is_all_atom, is_host_atom_match, is_in_option_time_bounds, is_request_command_hit}
 use Rattle.sudoers_match.proofs.Common.{is_runas_group_atom_match, is_user_atom_match, option_map, refl, runas_defaults_of_lines, runas_name_or_root, subst, suc, sym, tags_with_setenv_by_all, unchanged_atom, ℕ, ◌++◌}
 use Rattle.sudoers_match.proofs.Common.{◌↔◌, ◌∙◌, ◌∷◌, ◌≡◌}
 use Rattle.std.specs.Prelude.{◌&&◌}
@@ -108,7 +108,7 @@ module _ (law : AlikeListsHaveSameVerdict) (write : Atom → Atom) (lines others
 
   -- ---- settings
 
-  counted_alike : (who : Who) (k : Kind) (ms ns : List Member) → AreScopeListsAlike write lines others k ms ns → IsScopeListFor lines who k ms ↔ IsScopeListFor others who k ns
+  counted_alike : (who : Who) (k : Kind) (ms ns : List Member) → AreScopeListsAlike write lines others k ms ns → IsScopeListForUserOrHost lines who k ms ↔ IsScopeListForUserOrHost others who k ns
   counted_alike who User ms ns alike = allows_alike User (is_user_atom_match who.user) (hits.user who.user) ms ns alike
   counted_alike who Host ms ns alike = allows_alike Host (is_host_atom_match who) (hits.host who) ms ns alike
   counted_alike who Runas ms ns alike = type_is_equivalent_to_itself
@@ -119,7 +119,7 @@ module _ (law : AlikeListsHaveSameVerdict) (write : Atom → Atom) (lines others
   scope_alike who None (Some t) alike = absurd alike
   scope_alike who (Some s) None alike = absurd alike
   scope_alike who (Some s) (Some t) alike =
-      subst (λ (k : Kind). IsScopeListFor lines who s.kind s.members ↔ IsScopeListFor others who k t.members) (sym alike.0)
+      subst (λ (k : Kind). IsScopeListForUserOrHost lines who s.kind s.members ↔ IsScopeListForUserOrHost others who k t.members) (sym alike.0)
       (counted_alike who s.kind s.members t.members alike.1)
 
   -- what the settings say is for the same users and hosts
@@ -183,10 +183,10 @@ module _ (law : AlikeListsHaveSameVerdict) (write : Atom → Atom) (lines others
 
     -- ---- rows
 
-    hit_alike : (q : Request) (r s : PrivilegeRow) → AreRowsAlikeButNumbers write lines others r s → is_request_command_hit q s.atom ≡ is_request_command_hit q r.atom
-    hit_alike q r s alike = ap (is_request_command_hit q) alike.atom ∙ ap (λ b. b && has_no_digests r.atom.digests) (hits.command (command_line_of_request q) r.atom.atom)
+    hit_alike : (q : Request) (r s : PrivilegeRow) → AreTwoRowsAlikeButSpecNumbers write lines others r s → is_request_command_hit q s.atom ≡ is_request_command_hit q r.atom
+    hit_alike q r s alike = ap (is_request_command_hit q) alike.atom ∙ ap (λ b. b && has_no_digests r.atom.digests) (hits.command (command_with_joined_arguments_of_request q) r.atom.atom)
 
-    fits_alike : (q : Request) (r s : PrivilegeRow) → AreRowsAlikeButNumbers write lines others r s → RowFitsRequest lines q r ↔ RowFitsRequest others q s
+    fits_alike : (q : Request) (r s : PrivilegeRow) → AreTwoRowsAlikeButSpecNumbers write lines others r s → RowFitsRequest lines q r ↔ RowFitsRequest others q s
     fits_alike q r s alike = (there, back)
       where
         user : ListAllows User lines (is_user_atom_match q.who.user) r.users ↔ ListAllows User others (is_user_atom_match q.who.user) s.users
@@ -216,19 +216,19 @@ module _ (law : AlikeListsHaveSameVerdict) (write : Atom → Atom) (lines others
           command = sym (hit_alike q r s alike) ∙ f.command;
         }
 
-    allow_alike : (r s : PrivilegeRow) → AreRowsAlikeButNumbers write lines others r s → s.atom.allow ≡ r.atom.allow
+    allow_alike : (r s : PrivilegeRow) → AreTwoRowsAlikeButSpecNumbers write lines others r s → s.atom.allow ≡ r.atom.allow
     allow_alike r s alike = ap (λ (x : SignedAtom). x.allow) alike.atom
 
-    tags_alike : (r s : PrivilegeRow) → AreRowsAlikeButNumbers write lines others r s → tags_with_setenv_by_all (is_all_atom s.atom.atom) (final_tags_of s.head.tags) ≡ tags_with_setenv_by_all (is_all_atom r.atom.atom) (final_tags_of r.head.tags)
+    tags_alike : (r s : PrivilegeRow) → AreTwoRowsAlikeButSpecNumbers write lines others r s → tags_with_setenv_by_all (is_all_atom s.atom.atom) (final_tags_of s.head.tags) ≡ tags_with_setenv_by_all (is_all_atom r.atom.atom) (final_tags_of r.head.tags)
     tags_alike r s alike = ap₂ tags_with_setenv_by_all (ap (λ (x : SignedAtom). is_all_atom x.atom) alike.atom ∙ hits.all r.atom.atom) alike.tags
 
-    told_alike : (a b : Option PrivilegeRow) → AreOptionsRelated (AreRowsAlikeButNumbers write lines others) a b → AreAnswersSameButNumbers (option_map answer_of_row a) (option_map answer_of_row b)
+    told_alike : (a b : Option PrivilegeRow) → AreOptionsRelated (AreTwoRowsAlikeButSpecNumbers write lines others) a b → AreAnswersSameButNumbers (option_map answer_of_fitting_row a) (option_map answer_of_fitting_row b)
     told_alike None None alike = tt
     told_alike None (Some s) alike = absurd alike
     told_alike (Some r) None alike = absurd alike
     told_alike (Some r) (Some s) alike = (allow_alike r s alike, tags_alike r s alike, alike.options)
 
-    pub told_equal : (a b : Option PrivilegeRow) → AreOptionsRelated (AreRowsAlikeWithNumbers write lines others) a b → option_map answer_of_row a ≡ option_map answer_of_row b
+    pub told_equal : (a b : Option PrivilegeRow) → AreOptionsRelated (AreTwoRowsAlikeWithSpecNumbers write lines others) a b → option_map answer_of_fitting_row a ≡ option_map answer_of_fitting_row b
     told_equal None None equal = refl
     told_equal None (Some s) equal = absurd equal
     told_equal (Some r) None equal = absurd equal
@@ -241,19 +241,19 @@ module _ (law : AlikeListsHaveSameVerdict) (write : Atom → Atom) (lines others
         let command = equal.command in
         ap Some (cc)
 
-    answers_alike : (q : Request) (rows others_rows : List PrivilegeRow) (answer : Option Answer) → IsPointwiseRelated (AreRowsAlikeButNumbers write lines others) rows others_rows
+    answers_alike : (q : Request) (rows others_rows : List PrivilegeRow) (answer : Option Answer) → IsPointwiseRelated (AreTwoRowsAlikeButSpecNumbers write lines others) rows others_rows
         → IsAnswerOfRows lines q rows answer → (other : Option Answer) × IsAnswerOfRows others q others_rows other × AreAnswersSameButNumbers answer other
     answers_alike q rows others_rows answer all a =
-        let found = last_alike (AreRowsAlikeButNumbers write lines others) (RowFitsRequest lines q) (RowFitsRequest others q) (fits_alike q) rows others_rows a.last all a.is_last in (
-          option_map answer_of_row found.0,
+        let found = last_alike (AreTwoRowsAlikeButSpecNumbers write lines others) (RowFitsRequest lines q) (RowFitsRequest others q) (fits_alike q) rows others_rows a.last all a.is_last in (
+          option_map answer_of_fitting_row found.0,
           record { last = found.0; is_last = found.1; says = refl },
-          subst (λ x. AreAnswersSameButNumbers x (option_map answer_of_row found.0)) (sym a.says) (told_alike a.last found.0 found.2),
+          subst (λ x. AreAnswersSameButNumbers x (option_map answer_of_fitting_row found.0)) (sym a.says) (told_alike a.last found.0 found.2),
         )
 
-    answers_equal : (q : Request) (rows others_rows : List PrivilegeRow) (answer : Option Answer) → IsPointwiseRelated (AreRowsAlikeWithNumbers write lines others) rows others_rows
+    answers_equal : (q : Request) (rows others_rows : List PrivilegeRow) (answer : Option Answer) → IsPointwiseRelated (AreTwoRowsAlikeWithSpecNumbers write lines others) rows others_rows
         → IsAnswerOfRows lines q rows answer → IsAnswerOfRows others q others_rows answer
     answers_equal q rows others_rows answer all a =
-        let found = last_alike (AreRowsAlikeWithNumbers write lines others) (RowFitsRequest lines q) (RowFitsRequest others q) (λ r s equal. fits_alike q r s equal.alike) rows others_rows a.last all a.is_last in
+        let found = last_alike (AreTwoRowsAlikeWithSpecNumbers write lines others) (RowFitsRequest lines q) (RowFitsRequest others q) (λ r s equal. fits_alike q r s equal.alike) rows others_rows a.last all a.is_last in
         record { last = found.0; is_last = found.1; says = a.says ∙ told_equal a.last found.0 found.2 }
 
 -- ---- the laws
@@ -272,13 +272,13 @@ pub alike_settings_give_same_runas_default : AlikeListsHaveSameVerdict → (writ
 alike_settings_give_same_runas_default law write lines others hits defaults who name = default_alike law write lines others hits who name defaults
 
 pub alike_rows_fit_same_requests : AlikeListsHaveSameVerdict → (write : Atom → Atom) (lines others : List Line) → KeepsAtomMatches write → AreAllRunasDefaultsAlike write lines others → (q : Request) (r s : PrivilegeRow)
-    → AreRowsAlikeButNumbers write lines others r s → RowFitsRequest lines q r ↔ RowFitsRequest others q s
+    → AreTwoRowsAlikeButSpecNumbers write lines others r s → RowFitsRequest lines q r ↔ RowFitsRequest others q s
 alike_rows_fit_same_requests law write lines others hits defaults q r s alike = fits_alike law write lines others hits defaults q r s alike
 
 pub alike_rows_have_same_answer_but_numbers : AlikeListsHaveSameVerdict → (write : Atom → Atom) (lines others : List Line) → KeepsAtomMatches write → AreAllRunasDefaultsAlike write lines others → (q : Request) (rows others_rows : List PrivilegeRow) (answer : Option Answer)
-    → IsPointwiseRelated (AreRowsAlikeButNumbers write lines others) rows others_rows → IsAnswerOfRows lines q rows answer → (other : Option Answer) × IsAnswerOfRows others q others_rows other × AreAnswersSameButNumbers answer other
+    → IsPointwiseRelated (AreTwoRowsAlikeButSpecNumbers write lines others) rows others_rows → IsAnswerOfRows lines q rows answer → (other : Option Answer) × IsAnswerOfRows others q others_rows other × AreAnswersSameButNumbers answer other
 alike_rows_have_same_answer_but_numbers law write lines others hits defaults q rows others_rows answer all a = answers_alike law write lines others hits defaults q rows others_rows answer all a
 
 pub alike_numbered_rows_have_same_answer : AlikeListsHaveSameVerdict → (write : Atom → Atom) (lines others : List Line) → KeepsAtomMatches write → AreAllRunasDefaultsAlike write lines others → (q : Request) (rows others_rows : List PrivilegeRow) (answer : Option Answer)
-    → IsPointwiseRelated (AreRowsAlikeWithNumbers write lines others) rows others_rows → IsAnswerOfRows lines q rows answer → IsAnswerOfRows others q others_rows answer
+    → IsPointwiseRelated (AreTwoRowsAlikeWithSpecNumbers write lines others) rows others_rows → IsAnswerOfRows lines q rows answer → IsAnswerOfRows others q others_rows answer
 alike_numbered_rows_have_same_answer law write lines others hits defaults q rows others_rows answer all a = answers_equal law write lines others hits defaults q rows others_rows answer all a

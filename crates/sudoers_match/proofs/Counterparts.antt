@@ -1,8 +1,8 @@
 -- Policies whose lines are counterparts, the definitions of aliases aside: the members of their lists stand for each other.
 use Rattle.sudoers_match.proofs.Common.{AreAllRunasDefaultsAlike, AreCommandsWithSettingsAlike, AreDefaultsScopesAlike, AreHostGroupsAlike, AreRunasDefaultsAlike, AreRunasMemberListsAlike, AreRunasSpecsAlike}
-use Rattle.sudoers_match.proofs.Common.{AreScopeListsAlike, AreUserSpecsAlike, Atom, Bool, CmdSpec, Cmnd, DefinitionMentionsName, HasReachableCycle, HaveSameFlatListAfterRewrite, Host, HostGroup, IsMemberCounterpart}
-use Rattle.sudoers_match.proofs.Common.{IsPointwiseRelated, IsReachable, IsReachedBySteps, KeepsAliasCounterparts, Kind, Line, List, ListHasElement, ListLeadsToCyclicAlias, Member, Node, None, Option, Param, Runas, RunasSpec}
-use Rattle.sudoers_match.proofs.Common.{Scope, SettingsOfCommand, Some, User, UserSpec, [], alias_names_among_members, alias_names_of_atom, ap, ap₂, commands_with_settings, cons_option, counterparts_alike}
+use Rattle.sudoers_match.proofs.Common.{AreScopeListsAlike, AreUserSpecsAlike, Atom, Bool, CmdSpec, Cmnd, DefinitionMentionsName, HasCyclicAliasReachedFromSpecOrDefaults, HaveSameFlatListAfterRewrite, Host, HostGroup, IsMemberCounterpart}
+use Rattle.sudoers_match.proofs.Common.{IsPointwiseRelated, IsReachedFromSpecOrDefaults, IsReachedByChainOfSteps, KeepsAliasCounterparts, Kind, Line, List, ListHasElement, ListLeadsToCyclicAlias, Member, Node, None, Option, Param, Runas, RunasSpec}
+use Rattle.sudoers_match.proofs.Common.{Scope, AccumulatedCommandSettings, Some, User, UserSpec, [], alias_names_among_members, alias_names_of_atom, ap, ap₂, commands_with_settings, cons_option, counterparts_alike}
 use Rattle.sudoers_match.proofs.Common.{empty_command_settings, false, filter_map, final_tags_of, final_values_of_options, flat_map, if◌then◌else◌, map, members_in_host_group, members_in_scope}
 use Rattle.sudoers_match.proofs.Common.{members_of_kind_in_line, members_of_runas, node_unless_alias_line, nodes_without_alias_lines, option_or, refl, root_alias_names, root_names_in_node, runas_defaults_in_node}
 use Rattle.sudoers_match.proofs.Common.{runas_defaults_in_params, runas_defaults_of_lines, kinds_tested_equal_are_equal, setting_with_scope, settings_after_command, subst, sym, true, user_spec_in_node, user_specs_of_lines, ℕ, ◌++◌}
@@ -38,12 +38,12 @@ pub record IsHostGroupCounterpart (S : AtomCounterpartRelation) (g h : HostGroup
   pub commands : IsPointwiseRelated (IsCommandCounterpart S) g.commands h.commands
 
 -- what holds of a command, and the command with it
-pub record IsSettingsCounterpart (S : AtomCounterpartRelation) (h g : SettingsOfCommand) : Type 0 where
+pub record IsSettingsCounterpart (S : AtomCounterpartRelation) (h g : AccumulatedCommandSettings) : Type 0 where
   pub runas : AreRunasCounterparts S h.runas g.runas
   pub options : g.options ≡ h.options
   pub tags : g.tags ≡ h.tags
 
-abbrev pub IsCommandWithSettingsCounterpart : AtomCounterpartRelation → SettingsOfCommand × Member → SettingsOfCommand × Member → Type 0
+abbrev pub IsCommandWithSettingsCounterpart : AtomCounterpartRelation → AccumulatedCommandSettings × Member → AccumulatedCommandSettings × Member → Type 0
 IsCommandWithSettingsCounterpart S c d = IsSettingsCounterpart S c.0 d.0 × IsMemberCounterpart (S Cmnd) c.1 d.1
 
 abbrev pub AreScopeCounterparts : AtomCounterpartRelation → Option Scope → Option Scope → Type 0
@@ -133,24 +133,24 @@ pub root_members_are_those_beside_alias_lines : (k : Kind) (lines : List Line) �
 root_members_are_those_beside_alias_lines k lines = made_beside (root_members_in_node k) (λ j defs. refl) lines
 
 -- A reachable alias is cyclic exactly if these members of some kind lead to a cyclic alias.
-pub reachable_cycle_is_reached_by_root_members : (lines : List Line) → HasReachableCycle lines → (k : Kind) × ListLeadsToCyclicAlias k lines (root_members_of_lines k lines)
+pub reachable_cycle_is_reached_by_root_members : (lines : List Line) → HasCyclicAliasReachedFromSpecOrDefaults lines → (k : Kind) × ListLeadsToCyclicAlias k lines (root_members_of_lines k lines)
 reachable_cycle_is_reached_by_root_members lines h = (
   h.alias.kind,
   record {
     alias = h.alias;
     stands = h.stands;
     of_kind = refl;
-    reached = subst (λ names. IsReachedBySteps (DefinitionMentionsName h.alias.kind (definitions_of_lines lines)) (ListHasElement names) h.alias.def.name) (root_alias_names_are_of_root_members h.alias.kind lines) h.reached;
+    reached = subst (λ names. IsReachedByChainOfSteps (DefinitionMentionsName h.alias.kind (definitions_of_lines lines)) (ListHasElement names) h.alias.def.name) (root_alias_names_are_of_root_members h.alias.kind lines) h.reached;
     cyclic = h.cyclic;
   },
 )
 
-pub cycle_of_root_members_is_reachable : (lines : List Line) (k : Kind) → ListLeadsToCyclicAlias k lines (root_members_of_lines k lines) → HasReachableCycle lines
+pub cycle_of_root_members_is_reachable : (lines : List Line) (k : Kind) → ListLeadsToCyclicAlias k lines (root_members_of_lines k lines) → HasCyclicAliasReachedFromSpecOrDefaults lines
 cycle_of_root_members_is_reachable lines k l = record {
   alias = l.alias;
   stands = l.stands;
-  reached = subst (λ (j : Kind). IsReachable j lines l.alias.def.name) (sym l.of_kind)
-      (subst (λ names. IsReachedBySteps (DefinitionMentionsName k (definitions_of_lines lines)) (ListHasElement names) l.alias.def.name) (sym (root_alias_names_are_of_root_members k lines)) l.reached);
+  reached = subst (λ (j : Kind). IsReachedFromSpecOrDefaults j lines l.alias.def.name) (sym l.of_kind)
+      (subst (λ names. IsReachedByChainOfSteps (DefinitionMentionsName k (definitions_of_lines lines)) (ListHasElement names) l.alias.def.name) (sym (root_alias_names_are_of_root_members k lines)) l.reached);
   cyclic = l.cyclic;
 }
 
@@ -210,14 +210,14 @@ module _ (S : AtomCounterpartRelation) where
   inherited (Some r) None before was same old = absurd same
   inherited (Some r) (Some s) before was same old = same
 
-  inherit_alike : (h g : SettingsOfCommand) (c d : CmdSpec) → IsSettingsCounterpart S h g → IsCommandCounterpart S c d → IsSettingsCounterpart S (settings_after_command h c) (settings_after_command g d)
+  inherit_alike : (h g : AccumulatedCommandSettings) (c d : CmdSpec) → IsSettingsCounterpart S h g → IsCommandCounterpart S c d → IsSettingsCounterpart S (settings_after_command h c) (settings_after_command g d)
   inherit_alike h g c d old same = record {
     runas = inherited c.runas d.runas h.runas g.runas same.runas old.runas;
     options = ap₂ (λ xs ys. xs ++ ys) old.options same.options;
     tags = ap₂ (λ xs ys. xs ++ ys) old.tags same.tags;
   }
 
-  filled_alike : (h g : SettingsOfCommand) → IsSettingsCounterpart S h g → (cs ds : List CmdSpec) → IsPointwiseRelated (IsCommandCounterpart S) cs ds
+  filled_alike : (h g : AccumulatedCommandSettings) → IsSettingsCounterpart S h g → (cs ds : List CmdSpec) → IsPointwiseRelated (IsCommandCounterpart S) cs ds
       → IsPointwiseRelated (IsCommandWithSettingsCounterpart S) (commands_with_settings h cs) (commands_with_settings g ds)
   filled_alike h g old [] [] same = tt
   filled_alike h g old [] (d ∷ ds) same = absurd same
@@ -244,7 +244,7 @@ module _ (S : AtomCounterpartRelation) where
     runas_alike (Some r) None same = absurd same
     runas_alike (Some r) (Some s) same = (runas_lists r.users s.users same.0, runas_lists r.groups s.groups same.1)
 
-    command_alike : (c d : SettingsOfCommand × Member) → IsCommandWithSettingsCounterpart S c d → AreCommandsWithSettingsAlike write lines others c d
+    command_alike : (c d : AccumulatedCommandSettings × Member) → IsCommandWithSettingsCounterpart S c d → AreCommandsWithSettingsAlike write lines others c d
     command_alike c d same = record {
       head =
           record {

@@ -1,5 +1,5 @@
 -- Policies whose lines are counterparts answer the same.
-use Rattle.sudoers_match.proofs.Common.{Answer, AreMatchingHostGroups, Atom, HasReachableCycle, HaveSameFlatListAfterRewrite, HostGroupPlace, IsAnswerToRequest, IsPointwiseRelated, IsRunasDefault, KeepsAliasCounterparts}
+use Rattle.sudoers_match.proofs.Common.{Answer, ArePlacesOfMatchingHostGroups, Atom, HasCyclicAliasReachedFromSpecOrDefaults, HaveSameFlatListAfterRewrite, HostGroupPlace, IsAnswerToRequest, IsPointwiseRelated, IsRunasDefault, KeepsAliasCounterparts}
 use Rattle.sudoers_match.proofs.Common.{KeepsAtomMatches, Kind, Line, List, ListLeadsToCyclicAlias, Member, Option, Request, Who, nodes_without_alias_lines, ℕ, ◌↔◌}
 use Rattle.sudoers_tree.specs.Policy.{AreValidWalkLines}
 use Rattle.sudoers_match.proofs.Alike.{AlikeListsHaveSameVerdict, alike_settings_give_same_runas_default}
@@ -25,18 +25,18 @@ module _ (S : AtomCounterpartRelation) (write : Atom → Atom) (lines others : L
     same_runas_default who name = alike_settings_give_same_runas_default law write lines others hits (defaults_alike S write lines others keeps all) who name
 
     -- A user has rules at the same places.
-    pub same_host_groups : (who : Who) (places : List HostGroupPlace) → AreMatchingHostGroups lines who places ↔ AreMatchingHostGroups others who places
+    pub same_host_groups : (who : Who) (places : List HostGroupPlace) → ArePlacesOfMatchingHostGroups lines who places ↔ ArePlacesOfMatchingHostGroups others who places
     same_host_groups who places = equal_specs_groups law write lines others hits (specs_equal S write lines others keeps all) who places
 
   -- Both have a reachable cyclic alias, or neither does.
-  pub same_cycle : AlikeListsLeadToSameCycle → AreValidWalkLines lines → AreValidWalkLines others → HasReachableCycle lines ↔ HasReachableCycle others
+  pub same_cycle : AlikeListsLeadToSameCycle → AreValidWalkLines lines → AreValidWalkLines others → HasCyclicAliasReachedFromSpecOrDefaults lines ↔ HasCyclicAliasReachedFromSpecOrDefaults others
   same_cycle law here there = (to, from)
     where
       both : (k : Kind) → ListLeadsToCyclicAlias k lines (root_members_of_lines k lines) ↔ ListLeadsToCyclicAlias k others (root_members_of_lines k others)
       both k = law write k lines others (root_members_of_lines k lines) (root_members_of_lines k others) here there (roots_alike S write lines others keeps all k)
 
-      to : HasReachableCycle lines → HasReachableCycle others
+      to : HasCyclicAliasReachedFromSpecOrDefaults lines → HasCyclicAliasReachedFromSpecOrDefaults others
       to h = let l = reachable_cycle_is_reached_by_root_members lines h in cycle_of_root_members_is_reachable others l.0 ((both l.0).0 l.1)
 
-      from : HasReachableCycle others → HasReachableCycle lines
+      from : HasCyclicAliasReachedFromSpecOrDefaults others → HasCyclicAliasReachedFromSpecOrDefaults lines
       from h = let l = reachable_cycle_is_reached_by_root_members others h in cycle_of_root_members_is_reachable lines l.0 ((both l.0).1 l.1)

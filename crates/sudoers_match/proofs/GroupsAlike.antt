@@ -1,5 +1,5 @@
 -- Where a user has rules, in two policies whose user specifications are for the same users and hosts.
-use Rattle.sudoers_match.proofs.Common.{Allow, AreHostListsAlike, AreMatchingHostGroups, ArePlacesOfHostGroup, ArePlacesOfSpec, AreSpecUsersAndHostsAlike, Atom, Host, HostGroup, HostGroupPlace}
+use Rattle.sudoers_match.proofs.Common.{Allow, AreHostListsAlike, ArePlacesOfMatchingHostGroups, HoldsHostGroupPlaceIfHostsMatch, AreMatchingHostGroupPlacesOfSpec, AreSpecUsersAndHostsAlike, Atom, Host, HostGroup, HostGroupPlace}
 use Rattle.sudoers_match.proofs.Common.{IsConcatenationOfParts, IsPointwiseRelated, KeepsAtomMatches, Line, List, ListAllows, User, UserSpec, Who, [], inl, inr, is_host_atom_match, is_user_atom_match, suc}
 use Rattle.sudoers_match.proofs.Common.{user_specs_of_lines, ℕ, ◌↔◌, ◌∷◌}
 use Rattle.sudoers_match.proofs.Alike.{AlikeListsHaveSameVerdict, pointwise_relation_is_weakened, pointwise_relation_is_reversed, equivalence_is_reversed}
@@ -26,17 +26,17 @@ module _ (lines others : List Line) (who : Who) where
   abbrev SameUsers : UserSpec → UserSpec → Type 0
   SameUsers s t = (ListAllows User lines (is_user_atom_match who.user) s.users ↔ ListAllows User others (is_user_atom_match who.user) t.users) × IsPointwiseRelated SameHosts s.groups t.groups
 
-  group_same : (i j : ℕ) (g h : HostGroup) (places : List HostGroupPlace) → SameHosts g h → ArePlacesOfHostGroup lines who i j g places → ArePlacesOfHostGroup others who i j h places
+  group_same : (i j : ℕ) (g h : HostGroup) (places : List HostGroupPlace) → SameHosts g h → HoldsHostGroupPlaceIfHostsMatch lines who i j g places → HoldsHostGroupPlaceIfHostsMatch others who i j h places
   group_same i j g h places same (inl is) = inl (same.0 is.0, is.1)
   group_same i j g h places same (inr is) = inr (λ a. is.0 (same.1 a), is.1)
 
-  spec_same : (i : ℕ) (s t : UserSpec) (places : List HostGroupPlace) → SameUsers s t → ArePlacesOfSpec lines who i s places → ArePlacesOfSpec others who i t places
+  spec_same : (i : ℕ) (s t : UserSpec) (places : List HostGroupPlace) → SameUsers s t → AreMatchingHostGroupPlacesOfSpec lines who i s places → AreMatchingHostGroupPlacesOfSpec others who i t places
   spec_same i s t places same (inl is) =
-      inl (same.0.0 is.0, related_items_have_same_concatenation SameHosts (ArePlacesOfHostGroup lines who i) (ArePlacesOfHostGroup others who i) (group_same i) 0 s.groups t.groups places same.1 is.1)
+      inl (same.0.0 is.0, related_items_have_same_concatenation SameHosts (HoldsHostGroupPlaceIfHostsMatch lines who i) (HoldsHostGroupPlaceIfHostsMatch others who i) (group_same i) 0 s.groups t.groups places same.1 is.1)
   spec_same i s t places same (inr is) = inr (λ a. is.0 (same.0.1 a), is.1)
 
-  pub places_same : IsPointwiseRelated SameUsers (user_specs_of_lines lines) (user_specs_of_lines others) → (places : List HostGroupPlace) → AreMatchingHostGroups lines who places → AreMatchingHostGroups others who places
-  places_same all places are = related_items_have_same_concatenation SameUsers (ArePlacesOfSpec lines who) (ArePlacesOfSpec others who) spec_same 0 (user_specs_of_lines lines) (user_specs_of_lines others) places all are
+  pub places_same : IsPointwiseRelated SameUsers (user_specs_of_lines lines) (user_specs_of_lines others) → (places : List HostGroupPlace) → ArePlacesOfMatchingHostGroups lines who places → ArePlacesOfMatchingHostGroups others who places
+  places_same all places are = related_items_have_same_concatenation SameUsers (AreMatchingHostGroupPlacesOfSpec lines who) (AreMatchingHostGroupPlacesOfSpec others who) spec_same 0 (user_specs_of_lines lines) (user_specs_of_lines others) places all are
 
 same_users_of_specs_is_symmetric : (lines others : List Line) (who : Who) (t s : UserSpec) → SameUsers lines others who s t → SameUsers others lines who t s
 same_users_of_specs_is_symmetric lines others who t s same = (
@@ -56,7 +56,7 @@ module _ (law : AlikeListsHaveSameVerdict) (write : Atom → Atom) (lines others
   )
 
 pub alike_specs_have_same_host_groups : AlikeListsHaveSameVerdict → (write : Atom → Atom) (lines others : List Line) → KeepsAtomMatches write → IsPointwiseRelated (AreSpecUsersAndHostsAlike write lines others) (user_specs_of_lines lines) (user_specs_of_lines others)
-    → (who : Who) (places : List HostGroupPlace) → AreMatchingHostGroups lines who places ↔ AreMatchingHostGroups others who places
+    → (who : Who) (places : List HostGroupPlace) → ArePlacesOfMatchingHostGroups lines who places ↔ ArePlacesOfMatchingHostGroups others who places
 alike_specs_have_same_host_groups law write lines others hits all who places =
     let same = pointwise_relation_is_weakened (AreSpecUsersAndHostsAlike write lines others) (SameUsers lines others who) (spec_alike law write lines others hits who) (user_specs_of_lines lines) (user_specs_of_lines others) all in (
       places_same lines others who same places,

@@ -1,5 +1,5 @@
 -- What is held of a command is a head.
-use Rattle.sudoers_match.proofs.Common.{Bool, HeadHeld, HoldsCommandSettings, List, None, Option, OptionName, OptionValues, SettingsOfCommand, Some, Tag, [], cons_option, false, final_tags_of}
+use Rattle.sudoers_match.proofs.Common.{Bool, HeadHeld, HoldsCommandSettings, List, None, Option, OptionName, OptionValues, AccumulatedCommandSettings, Some, Tag, [], cons_option, false, final_tags_of}
 use Rattle.sudoers_match.proofs.Common.{final_values_of_options, if◌then◌else◌, last_value_named, option_map, option_or, option_values_of_view, refl, runas_of_view, sym, true, ℕ, ◌≡◌}
 use Rattle.sudoers_grammar.specs.declared.node.OptionName.TheVariants as option
 use Rattle.sudoers_grammar.specs.declared.node.Tag.TheVariants as tag
@@ -37,7 +37,7 @@ listed_option_values_are_read_back v = simp (last_value_after_optional_value_is_
 listed_command_tags_are_read_back : (t : CommandTags) → final_tags_of (command_tags_as_list t) ≡ t
 listed_command_tags_are_read_back t = simp (last_value_after_optional_value_is_later, option_or_none_is_option)
 
-pub held_settings_have_command_settings : (held : HeadHeld) → (head : SettingsOfCommand) × HoldsCommandSettings held head
+pub held_settings_have_command_settings : (held : HeadHeld) → (head : AccumulatedCommandSettings) × HoldsCommandSettings held head
 held_settings_have_command_settings held = (
   record { runas = option_map runas_of_view held.runas; options = option_values_as_list (option_values_of_view held.options); tags = command_tags_as_list held.tags },
   record { runas = refl; options = sym (listed_option_values_are_read_back (option_values_of_view held.options)); tags = sym (listed_command_tags_are_read_back held.tags) },

@@ -1,5 +1,5 @@
 -- One line more.
-use Rattle.sudoers_match.proofs.Common.{ArePlacesOfSpec, HostGroupPlace, IsConcatenationOfParts, Line, List, None, Option, Some, Tables, UserSpec, Who, [], ap, append-nil, append_assoc, cons_option, drop, drop_all}
+use Rattle.sudoers_match.proofs.Common.{AreMatchingHostGroupPlacesOfSpec, HostGroupPlace, IsConcatenationOfParts, Line, List, None, Option, Some, Tables, UserSpec, Who, [], ap, append-nil, append_assoc, cons_option, drop, drop_all}
 use Rattle.sudoers_match.proofs.Common.{drop_more, get_or, host_groups_of_view, length, line_of_row, map, members_of_view, node_in_tables, node_of_view, option_map, parameters_of_view, refl, runas_defaults_in_node}
 use Rattle.sudoers_match.proofs.Common.{scope_of_view, slice_get, specs_with_line_numbers, subst, sym, user_spec_in_node, user_specs_of_lines, ℕ, ◌++◌, ◌+◌, ◌<◌, ◌∙◌, ◌∷◌, ◌≡◌, ◌≤◌}
 use Rattle.sudoers_grammar.specs.Node as node
@@ -54,13 +54,13 @@ module _ (t : Tables) (rows : List LineRow) (i : ℕ) (d : LineRow) (within : i 
 
     -- a user specification more
     pub spec_more : (who : Who) (lines : List Line) (Goal : List HostGroupPlace → Type 0) (s : ℕ) (places new more : List HostGroupPlace)
-        → ((rest : List HostGroupPlace) → IsConcatenationOfParts (ArePlacesOfSpec lines who) s (Specs i) rest → Goal (places ++ rest))
-        → new ≡ places ++ more → ArePlacesOfSpec lines who s spec more
-        → (rest : List HostGroupPlace) → IsConcatenationOfParts (ArePlacesOfSpec lines who) (s + 1) (Specs (i + 1)) rest → Goal (new ++ rest)
+        → ((rest : List HostGroupPlace) → IsConcatenationOfParts (AreMatchingHostGroupPlacesOfSpec lines who) s (Specs i) rest → Goal (places ++ rest))
+        → new ≡ places ++ more → AreMatchingHostGroupPlacesOfSpec lines who s spec more
+        → (rest : List HostGroupPlace) → IsConcatenationOfParts (AreMatchingHostGroupPlacesOfSpec lines who) (s + 1) (Specs (i + 1)) rest → Goal (new ++ rest)
     spec_more who lines Goal s places new more so_far e p rest j =
         subst Goal (sym (ap (λ ys. ys ++ rest) e ∙ append_assoc places more rest))
-        (so_far (more ++ rest) (subst (λ xs. IsConcatenationOfParts (ArePlacesOfSpec lines who) s xs (more ++ rest)) (sym left_spec)
-        (joined_more (ArePlacesOfSpec lines who) s spec (Specs (i + 1)) more rest p j)))
+        (so_far (more ++ rest) (subst (λ xs. IsConcatenationOfParts (AreMatchingHostGroupPlacesOfSpec lines who) s xs (more ++ rest)) (sym left_spec)
+        (joined_more (AreMatchingHostGroupPlacesOfSpec lines who) s spec (Specs (i + 1)) more rest p j)))
 
   module _ (scope : Option ScopeView) (params : RowsOfTable ParamRow) (it : n ≡ view.Defaults scope params) where
     pub says_defaults : line.node ≡ node.Defaults (option_map scope_of_view scope) (parameters_of_view params)
@@ -98,10 +98,10 @@ module _ (t : Tables) (rows : List LineRow) (i : ℕ) (d : LineRow) (within : i 
 -- all lines
 pub places_after_all_lines_are_complete : (t : Tables) (rows : List LineRow) (who : Who) (policy lines : List Line) → map (line_of_row t) rows ≡ policy → lines ≡ policy
     → (i s : ℕ) (places : List HostGroupPlace) → length rows ≤ i
-    → ((rest : List HostGroupPlace) → IsConcatenationOfParts (ArePlacesOfSpec lines who) s (user_specs_of_lines (map (line_of_row t) (drop i rows))) rest → IsConcatenationOfParts (ArePlacesOfSpec lines who) 0 (user_specs_of_lines (map (line_of_row t) rows)) (places ++ rest))
-    → IsConcatenationOfParts (ArePlacesOfSpec policy who) 0 (user_specs_of_lines policy) places
+    → ((rest : List HostGroupPlace) → IsConcatenationOfParts (AreMatchingHostGroupPlacesOfSpec lines who) s (user_specs_of_lines (map (line_of_row t) (drop i rows))) rest → IsConcatenationOfParts (AreMatchingHostGroupPlacesOfSpec lines who) 0 (user_specs_of_lines (map (line_of_row t) rows)) (places ++ rest))
+    → IsConcatenationOfParts (AreMatchingHostGroupPlacesOfSpec policy who) 0 (user_specs_of_lines policy) places
 places_after_all_lines_are_complete t rows who policy lines shown same i s places end so_far =
-    subst (λ ls. IsConcatenationOfParts (ArePlacesOfSpec ls who) 0 (user_specs_of_lines policy) places) same
-    (subst (λ ls. IsConcatenationOfParts (ArePlacesOfSpec lines who) 0 (user_specs_of_lines ls) places) shown
-    (subst (IsConcatenationOfParts (ArePlacesOfSpec lines who) 0 (user_specs_of_lines (map (line_of_row t) rows))) (append-nil places)
-    (so_far [] (subst (λ xs. IsConcatenationOfParts (ArePlacesOfSpec lines who) s (user_specs_of_lines (map (line_of_row t) xs)) []) (sym (drop_all i rows end)) refl))))
+    subst (λ ls. IsConcatenationOfParts (AreMatchingHostGroupPlacesOfSpec ls who) 0 (user_specs_of_lines policy) places) same
+    (subst (λ ls. IsConcatenationOfParts (AreMatchingHostGroupPlacesOfSpec lines who) 0 (user_specs_of_lines ls) places) shown
+    (subst (IsConcatenationOfParts (AreMatchingHostGroupPlacesOfSpec lines who) 0 (user_specs_of_lines (map (line_of_row t) rows))) (append-nil places)
+    (so_far [] (subst (λ xs. IsConcatenationOfParts (AreMatchingHostGroupPlacesOfSpec lines who) s (user_specs_of_lines (map (line_of_row t) xs)) []) (sym (drop_all i rows end)) refl))))

@@ -1,5 +1,5 @@
 -- Where no reachable alias is cyclic, no list of a user specification or of a Defaults line leads to a cyclic alias.
-use Rattle.sudoers_match.proofs.Common.{CmdSpec, Cmnd, CommandLeadsToNoCycle, HasReachableCycle, Host, HostGroup, HostGroupLeadsToNoCycle, HostGroupsLeadToNoCycle, Kind, LeadsToNoCyclicAlias, Line, List}
+use Rattle.sudoers_match.proofs.Common.{CmdSpec, Cmnd, CommandLeadsToNoCycle, HasCyclicAliasReachedFromSpecOrDefaults, Host, HostGroup, HostGroupLeadsToNoCycle, HostGroupsLeadToNoCycle, Kind, LeadsToNoCyclicAlias, Line, List}
 use Rattle.sudoers_match.proofs.Common.{ListHasElement, Member, None, Option, Param, Runas, RunasSpec, RunasSpecLeadsToNoCycle, Scope, ScopeLeadsToNoCycle, Some, User, [], alias_names_among_members, ap, flat_map}
 use Rattle.sudoers_match.proofs.Common.{element_of_back_is_in_appended, element_of_part_is_in_flat_map, element_of_front_is_in_appended, if◌then◌else◌, inl, inr, kind_is_equal_to_itself, map, members_in_host_group, members_of_runas, refl, root_names_in_node, subst, sym, ◌∙◌, ◌∷◌, ◌≡◌}
 use Rattle.sudoers_grammar.specs.Node as node
@@ -10,7 +10,7 @@ mapped_list_has_mapped_element f [] x h = absurd h
 mapped_list_has_mapped_element f (z ∷ xs) x (inl e) = inl (ap f e)
 mapped_list_has_mapped_element f (z ∷ xs) x (inr h) = inr (mapped_list_has_mapped_element f xs x h)
 
-module _ (lines : List Line) (straight : HasReachableCycle lines → ⊥) (line : Line) (stands : ListHasElement lines line) where
+module _ (lines : List Line) (straight : HasCyclicAliasReachedFromSpecOrDefaults lines → ⊥) (line : Line) (stands : ListHasElement lines line) where
   -- a list whose members are among those of the line
   among_line : (k : Kind) (ms all : List Member) → root_names_in_node k line.node ≡ alias_names_among_members all → ((m : Member) → ListHasElement ms m → ListHasElement all m) → LeadsToNoCyclicAlias k lines ms
   among_line = list_straight lines straight line stands

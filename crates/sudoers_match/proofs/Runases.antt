@@ -1,7 +1,7 @@
 -- As whom a command may run.
 use Rattle.sudoers_match.proofs.Common.{Bool, DecidesWhetherListAllows, DecidesWhetherRunasGroupsAllow, DecidesWhetherRunasSpecAllows, Err, Group, IfOk, IsLastHitOfList, IsListVerdict, IsRunasDefault, Line, List}
 use Rattle.sudoers_match.proofs.Common.{Member, MemberHit, None, Ok, Option, Result, Runas, Some, Verdict, Who, [], ap, false, is_group_absent_or_among, is_name_equal_ignoring_case, is_runas_group_atom_match}
-use Rattle.sudoers_match.proofs.Common.{is_user_atom_match, length, map, may_use_requested_group, refl, sym, true, verdict_of_hit, ℕ, ◌&&◌, ◌==◌, ◌∙◌, ◌∷◌, ◌≡◌}
+use Rattle.sudoers_match.proofs.Common.{is_user_atom_match, length, map, is_allowed_by_verdict_or_own_group, refl, sym, true, verdict_of_hit, ℕ, ◌&&◌, ◌==◌, ◌∙◌, ◌∷◌, ◌≡◌}
 use Rattle.std.proofs.lemmas.Bool.{false≢true}
 use Rattle.sudoers_match_member.specs.declared.people_and_commands.Person.{Person}
 use Rattle.sudoers_match.proofs.Settings.{runas_default_is_unique}
@@ -18,10 +18,10 @@ module _ (lines : List Line) (target : Person) where
   -- what the verdict of the list of groups comes to
   pub group_permits : ((verdict other : Verdict) (g : Group) (ms : List Member) → IsListVerdict Runas lines (is_runas_group_atom_match g) ms verdict → IsListVerdict Runas lines (is_runas_group_atom_match g) ms other → verdict ≡ other)
       → (g : Group) (ms : List Member) (hit : Option MemberHit) (v : Verdict) → IsLastHitOfList Runas lines (is_runas_group_atom_match g) ms hit → v ≡ verdict_of_hit hit
-      → (allowed : Bool) → allowed ≡ may_use_requested_group v (is_group_absent_or_among target.groups (Some g)) → DecidesWhetherRunasGroupsAllow lines target (Some g) ms allowed
+      → (allowed : Bool) → allowed ≡ is_allowed_by_verdict_or_own_group v (is_group_absent_or_among target.groups (Some g)) → DecidesWhetherRunasGroupsAllow lines target (Some g) ms allowed
   group_permits one g ms hit v l e true is = (v, record { hit = hit; is_latest = l; says = e }, sym is)
   group_permits one g ms hit v l e false is = λ a.
-      false≢true (is ∙ ap (λ x. may_use_requested_group x (is_group_absent_or_among target.groups (Some g))) (one v a.0 g ms (record { hit = hit; is_latest = l; says = e }) a.1) ∙ a.2)
+      false≢true (is ∙ ap (λ x. is_allowed_by_verdict_or_own_group x (is_group_absent_or_among target.groups (Some g))) (one v a.0 g ms (record { hit = hit; is_latest = l; says = e }) a.1) ∙ a.2)
 
   module _ (who : Who) (group : Option Group) where
     both : (a b : Bool) → a && b ≡ true → (a ≡ true) × (b ≡ true)

@@ -1,6 +1,6 @@
 -- Definitions to which no chain of mentions leads change no answer.
-use Rattle.sudoers_match.proofs.Common.{AllByRecursion, AreBothDefinedAlike, Atom, CmdSpec, Cmnd, HaveSameAliasMembers, Host, HostGroup, IsMemberRewritten, IsPointwiseRelated, IsReachable, KeepsAliasCounterparts}
-use Rattle.sudoers_match.proofs.Common.{KeepsReachableAliases, Kind, Line, List, ListHasElement, Member, Node, None, Option, Runas, RunasSpec, Scope, Some, User, [], alias_members_of_atom, alias_names_among_members}
+use Rattle.sudoers_match.proofs.Common.{AllByRecursion, AreBothUndefinedOrCounterparts, Atom, CmdSpec, Cmnd, AreBothUndefinedOrHaveSameMembers, Host, HostGroup, IsMemberWithAtomMapped, IsPointwiseRelated, IsReachedFromSpecOrDefaults, KeepsAliasCounterparts}
+use Rattle.sudoers_match.proofs.Common.{HasSameLinesAndReachableAliases, Kind, Line, List, ListHasElement, Member, Node, None, Option, Runas, RunasSpec, Scope, Some, User, [], alias_members_of_atom, alias_names_among_members}
 use Rattle.sudoers_match.proofs.Common.{alias_names_of_atom, flat_map, here, if◌then◌else◌, kind_is_equal_to_itself, map, members_in_host_group, members_in_scope, members_of_runas, nodes_without_alias_lines, refl, subst, sym}
 use Rattle.sudoers_match.proofs.Common.{unchanged_atom, ◌∷◌, ◌≡◌}
 use Rattle.sudoers_grammar.specs.declared.node.Atom.TheVariants as atom
@@ -10,7 +10,7 @@ use Rattle.sudoers_match.proofs.MetMembers.{left_of, right_of, of_has, IsMet, Ar
 
 -- An atom stands for itself, if chains of mentions lead to the alias that it names.
 abbrev pub IsReachableAtomItself : List Line → AtomCounterpartRelation
-IsReachableAtomItself lines k a b = (b ≡ a) × AllByRecursion (IsReachable k lines) (alias_names_of_atom a)
+IsReachableAtomItself lines k a b = (b ≡ a) × AllByRecursion (IsReachedFromSpecOrDefaults k lines) (alias_names_of_atom a)
 
 module _ (lines : List Line) where
   abbrev Itself : AtomCounterpartRelation
@@ -85,7 +85,7 @@ module _ (lines : List Line) where
 
   roots_met : (k : Kind) → AreMet lines k (root_members_of_lines k lines)
   roots_met k =
-      met_names lines k (root_members_of_lines k lines) (of_has (IsReachable k lines) (alias_names_among_members (root_members_of_lines k lines))
+      met_names lines k (root_members_of_lines k lines) (of_has (IsReachedFromSpecOrDefaults k lines) (alias_names_among_members (root_members_of_lines k lines))
       (λ name h. here name (subst (λ names. ListHasElement names name) (sym (root_alias_names_are_of_root_members k lines)) h)))
 
   -- Each line stands for itself, definitions aside.
@@ -94,23 +94,23 @@ module _ (lines : List Line) where
 
 -- ---- aliases to which chains of mentions lead
 
-module _ (lines others : List Line) (keep : KeepsReachableAliases lines others) where
-  same_alias : (k : Kind) (a : Atom) → AllByRecursion (IsReachable k lines) (alias_names_of_atom a) → HaveSameAliasMembers (alias_members_of_atom k lines a) (alias_members_of_atom k others a)
+module _ (lines others : List Line) (keep : HasSameLinesAndReachableAliases lines others) where
+  same_alias : (k : Kind) (a : Atom) → AllByRecursion (IsReachedFromSpecOrDefaults k lines) (alias_names_of_atom a) → AreBothUndefinedOrHaveSameMembers (alias_members_of_atom k lines a) (alias_members_of_atom k others a)
   same_alias k (atom.Alias name) met = keep.members k name met.0
   same_alias k a met = tt
 
-  members_stand : (k : Kind) (ms ns : List Member) → IsPointwiseRelated (IsMemberRewritten unchanged_atom) ms ns → AreMet lines k ms → AreMemberListCounterparts (IsReachableAtomItself lines) k ms ns
+  members_stand : (k : Kind) (ms ns : List Member) → IsPointwiseRelated (IsMemberWithAtomMapped unchanged_atom) ms ns → AreMet lines k ms → AreMemberListCounterparts (IsReachableAtomItself lines) k ms ns
   members_stand k [] [] same met = tt
   members_stand k [] (n ∷ ns) same met = absurd same
   members_stand k (m ∷ ms) [] same met = absurd same
   members_stand k (m ∷ ms) (n ∷ ns) same met =
       (record { negated = same.0.negated; digests = same.0.digests; atom = (same.0.atom, met.0) }, members_stand k ms ns same.1 met.1)
 
-  alias_stands : (k : Kind) (a : Atom) → AllByRecursion (IsReachable k lines) (alias_names_of_atom a)
-      → AreBothDefinedAlike (IsReachableAtomItself lines k) (alias_members_of_atom k lines a) (alias_members_of_atom k others a)
+  alias_stands : (k : Kind) (a : Atom) → AllByRecursion (IsReachedFromSpecOrDefaults k lines) (alias_names_of_atom a)
+      → AreBothUndefinedOrCounterparts (IsReachableAtomItself lines k) (alias_members_of_atom k lines a) (alias_members_of_atom k others a)
   alias_stands k a met = by (alias_members_of_atom k lines a) (alias_members_of_atom k others a) refl (same_alias k a met)
     where
-      by : (o p : Option (List Member)) → alias_members_of_atom k lines a ≡ o → HaveSameAliasMembers o p → AreBothDefinedAlike (IsReachableAtomItself lines k) o p
+      by : (o p : Option (List Member)) → alias_members_of_atom k lines a ≡ o → AreBothUndefinedOrHaveSameMembers o p → AreBothUndefinedOrCounterparts (IsReachableAtomItself lines k) o p
       by None None e same = tt
       by None (Some ns) e same = absurd same
       by (Some ms) None e same = absurd same
@@ -119,7 +119,7 @@ module _ (lines others : List Line) (keep : KeepsReachableAliases lines others) 
   -- Each alias to which chains of mentions lead keeps its members.
   pub keeps_reachable : (k : Kind) → KeepsAliasCounterparts (IsReachableAtomItself lines k) unchanged_atom k lines others
   keeps_reachable k = record {
-    defined = λ a b is. subst (λ (c : Atom). AreBothDefinedAlike (IsReachableAtomItself lines k) (alias_members_of_atom k lines a) (alias_members_of_atom k others c)) (sym is.0) (alias_stands k a is.1);
+    defined = λ a b is. subst (λ (c : Atom). AreBothUndefinedOrCounterparts (IsReachableAtomItself lines k) (alias_members_of_atom k lines a) (alias_members_of_atom k others c)) (sym is.0) (alias_stands k a is.1);
     written = λ a b is e. is.0;
   }
 

@@ -11,10 +11,10 @@ use Rattle.sudoers_match_member.specs.declared.people_and_commands.Person.{Perso
 use Rattle.sudoers_match_member.specs.declared.people_and_commands.Who.{Who}
 use Rattle.sudoers_match_member.specs.Hits.{is_user_atom_match, is_runas_group_atom_match, is_host_atom_match, is_command_atom_match}
 use Rattle.sudoers_match_list.specs.Flat.{is_all_atom}
-use Rattle.sudoers_match_list.specs.Alike.{IsPointwiseRelated, HaveSameFlatListAfterRewrite, signed_atom_rewritten}
+use Rattle.sudoers_match_list.specs.Alike.{IsPointwiseRelated, HaveSameFlatListAfterRewrite, signed_atom_with_atom_mapped}
 use Rattle.sudoers_match.specs.Answer.{Answer}
 use Rattle.sudoers_match.specs.Default.{runas_defaults_of_lines}
-use Rattle.sudoers_match.specs.Heads.{SettingsOfCommand, empty_command_settings, commands_with_settings, final_tags_of}
+use Rattle.sudoers_match.specs.Heads.{AccumulatedCommandSettings, empty_command_settings, commands_with_settings, final_tags_of}
 use Rattle.sudoers_match.specs.Rows.{PrivilegeRow}
 use Rattle.sudoers_match.specs.Specs.{UserSpec}
 use Rattle.sudoers_match.specs.Values.{final_values_of_options}
@@ -79,13 +79,13 @@ AreRunasSpecsAlike write lines others (Some r) (Some s) =
     AreRunasMemberListsAlike write lines others r.users s.users × AreRunasMemberListsAlike write lines others r.groups s.groups
 
 -- What holds of the commands says the same.
-pub record AreCommandSettingsAlike (write : Atom → Atom) (lines others : List Line) (h g : SettingsOfCommand) : Type 0 where
+pub record AreCommandSettingsAlike (write : Atom → Atom) (lines others : List Line) (h g : AccumulatedCommandSettings) : Type 0 where
   pub runas : AreRunasSpecsAlike write lines others h.runas g.runas
   pub options : final_values_of_options g.options ≡ final_values_of_options h.options
   pub tags : final_tags_of g.tags ≡ final_tags_of h.tags
 
 -- The commands say the same, and so does what holds of them.
-pub record AreCommandsWithSettingsAlike (write : Atom → Atom) (lines others : List Line) (c d : SettingsOfCommand × Member) : Type 0 where
+pub record AreCommandsWithSettingsAlike (write : Atom → Atom) (lines others : List Line) (c d : AccumulatedCommandSettings × Member) : Type 0 where
   pub head : AreCommandSettingsAlike write lines others c.0 d.0
   pub member : HaveSameFlatListAfterRewrite write Cmnd lines others (c.1 ∷ []) (d.1 ∷ [])
 
@@ -102,17 +102,17 @@ pub record AreUserSpecsAlike (write : Atom → Atom) (lines others : List Line) 
 -- ---- rows
 
 -- The rows say the same. They may have other numbers.
-pub record AreRowsAlikeButNumbers (write : Atom → Atom) (lines others : List Line) (r s : PrivilegeRow) : Type 0 where
+pub record AreTwoRowsAlikeButSpecNumbers (write : Atom → Atom) (lines others : List Line) (r s : PrivilegeRow) : Type 0 where
   pub users : HaveSameFlatListAfterRewrite write User lines others r.users s.users
   pub hosts : HaveSameFlatListAfterRewrite write Host lines others r.hosts s.hosts
   pub runas : AreRunasSpecsAlike write lines others r.head.runas s.head.runas
   pub options : final_values_of_options s.head.options ≡ final_values_of_options r.head.options
   pub tags : final_tags_of s.head.tags ≡ final_tags_of r.head.tags
-  pub atom : s.atom ≡ signed_atom_rewritten write r.atom
+  pub atom : s.atom ≡ signed_atom_with_atom_mapped write r.atom
 
 -- They have the same numbers too.
-pub record AreRowsAlikeWithNumbers (write : Atom → Atom) (lines others : List Line) (r s : PrivilegeRow) : Type 0 where
-  pub alike : AreRowsAlikeButNumbers write lines others r s
+pub record AreTwoRowsAlikeWithSpecNumbers (write : Atom → Atom) (lines others : List Line) (r s : PrivilegeRow) : Type 0 where
+  pub alike : AreTwoRowsAlikeButSpecNumbers write lines others r s
   pub spec : s.spec ≡ r.spec
   pub host_group : s.host_group ≡ r.host_group
   pub command : s.command ≡ r.command

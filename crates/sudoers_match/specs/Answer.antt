@@ -13,7 +13,7 @@ use Rattle.sudoers_match.specs.Allows.{ListAllows}
 use Rattle.sudoers_match.specs.Heads.{final_tags_of}
 use Rattle.sudoers_match.specs.Last.{IsLastItemWith}
 use Rattle.sudoers_match.specs.Moment.{is_in_option_time_bounds}
-use Rattle.sudoers_match.specs.Rows.{PrivilegeRow, AreRowsOfPolicy}
+use Rattle.sudoers_match.specs.Rows.{PrivilegeRow, AreRowsPerFlatAtomOfPolicy}
 use Rattle.sudoers_match.specs.Runas.{RunasSpecAllows}
 use Rattle.sudoers_match.specs.Values.{OptionValues, final_values_of_options, option_values_of_view}
 
@@ -30,12 +30,12 @@ words_joined_with_spaces (word ∷ words) = word ++ words_each_after_space words
 abbrev pub joined_arguments_limit : ℕ
 joined_arguments_limit = 65536
 
-abbrev pub command_line_of_request : Request → CommandLine
-command_line_of_request r = record { path = r.command; args = words_joined_with_spaces r.args }
+abbrev pub command_with_joined_arguments_of_request : Request → CommandLine
+command_with_joined_arguments_of_request r = record { path = r.command; args = words_joined_with_spaces r.args }
 
 -- The atom matches the command that is asked for. With a digest it matches nothing, since no file is read.
 abbrev pub is_request_command_hit : Request → SignedAtom → Bool
-is_request_command_hit r s = is_command_atom_match (command_line_of_request r) s.atom && has_no_digests s.digests
+is_request_command_hit r s = is_command_atom_match (command_with_joined_arguments_of_request r) s.atom && has_no_digests s.digests
 
 -- The row's users, hosts, Runas_Spec, moment and command match the request.
 pub record RowFitsRequest (lines : List Line) (r : Request) (row : PrivilegeRow) : Type 0 where
@@ -68,8 +68,8 @@ tags_with_setenv_by_all by_all tags = record {
 }
 
 -- the answer that a row gives
-abbrev pub answer_of_row : PrivilegeRow → Answer
-answer_of_row row = record {
+abbrev pub answer_of_fitting_row : PrivilegeRow → Answer
+answer_of_fitting_row row = record {
   allow = row.atom.allow;
   spec = row.spec;
   host_group = row.host_group;
@@ -82,12 +82,12 @@ answer_of_row row = record {
 pub record IsAnswerOfRows (lines : List Line) (r : Request) (rows : List PrivilegeRow) (answer : Option Answer) : Type 0 where
   pub last : Option PrivilegeRow
   pub is_last : IsLastItemWith (RowFitsRequest lines r) rows last
-  pub says : answer ≡ option_map answer_of_row last
+  pub says : answer ≡ option_map answer_of_fitting_row last
 
 -- Of all rows the last that fits gives the answer; there is none where no row fits.
 pub record IsAnswerToRequest (lines : List Line) (r : Request) (answer : Option Answer) : Type 0 where
   pub rows : List PrivilegeRow
-  pub are_rows : AreRowsOfPolicy lines rows
+  pub are_rows : AreRowsPerFlatAtomOfPolicy lines rows
   pub answers : IsAnswerOfRows lines r rows answer
 
 -- the value of an answer

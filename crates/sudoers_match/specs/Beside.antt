@@ -6,8 +6,8 @@ use Rattle.sudoers_grammar.specs.Node.{Node}
 use Rattle.sudoers_grammar.specs.Node as node
 use Rattle.sudoers_tree.specs.Line.{Line}
 use Rattle.sudoers_tree.specs.Definition.{members_of_alias_definition}
-use Rattle.sudoers_check.specs.Chains.{IsReachable}
-use Rattle.sudoers_match_list.specs.Alike.{HaveSameAliasMembers}
+use Rattle.sudoers_check.specs.Chains.{IsReachedFromSpecOrDefaults}
+use Rattle.sudoers_match_list.specs.Alike.{AreBothUndefinedOrHaveSameMembers}
 
 -- what a line says, if it defines no alias
 abbrev pub node_unless_alias_line : Node → Option Node
@@ -24,6 +24,6 @@ nodes_without_alias_lines lines = filter_map (λ (line : Line). node_unless_alia
 
 -- The second policy has the lines of the first, definitions aside. An alias has its members there, if a chain of mentions leads to it from
 -- a user specification or a Defaults line.
-pub record KeepsReachableAliases (lines others : List Line) : Type 0 where
+pub record HasSameLinesAndReachableAliases (lines others : List Line) : Type 0 where
   pub beside : nodes_without_alias_lines others ≡ nodes_without_alias_lines lines
-  pub members : (k : Kind) (name : List ℕ) → IsReachable k lines name → HaveSameAliasMembers (members_of_alias_definition k name lines) (members_of_alias_definition k name others)
+  pub members : (k : Kind) (name : List ℕ) → IsReachedFromSpecOrDefaults k lines name → AreBothUndefinedOrHaveSameMembers (members_of_alias_definition k name lines) (members_of_alias_definition k name others)

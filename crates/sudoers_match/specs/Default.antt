@@ -20,13 +20,13 @@ value_assigned_by_operator operator.Add value = None
 value_assigned_by_operator operator.Remove value = None
 
 -- what a parameter sets it to: `=` sets it to the value, an odd number of `!` to root; every other form sets nothing
-abbrev pub runas_default_set_to : Bool → Option Setting → Option (List ℕ)
-runas_default_set_to true setting = Some (codes "root")
-runas_default_set_to false None = None
-runas_default_set_to false (Some s) = value_assigned_by_operator s.operator s.value
+abbrev pub runas_default_by_negation_or_setting : Bool → Option Setting → Option (List ℕ)
+runas_default_by_negation_or_setting true setting = Some (codes "root")
+runas_default_by_negation_or_setting false None = None
+runas_default_by_negation_or_setting false (Some s) = value_assigned_by_operator s.operator s.value
 
 abbrev pub runas_default_in_param : Param → Option (List ℕ)
-runas_default_in_param p = if bytes_eq p.name (codes "runas_default") then runas_default_set_to p.negated p.setting else None
+runas_default_in_param p = if bytes_eq p.name (codes "runas_default") then runas_default_by_negation_or_setting p.negated p.setting else None
 
 -- the settings of a list of parameters
 abbrev pub runas_defaults_in_params : List Param → List (List ℕ)
@@ -47,16 +47,16 @@ runas_defaults_in_node (node.Include dir path) = []
 abbrev pub runas_defaults_of_lines : List Line → List (Option Scope × List ℕ)
 runas_defaults_of_lines lines = flat_map (λ (line : Line). runas_defaults_in_node line.node) lines
 
-abbrev pub IsScopeListFor : List Line → Who → Kind → List Member → Type 0
-IsScopeListFor lines who User ms = ListAllows User lines (is_user_atom_match who.user) ms
-IsScopeListFor lines who Host ms = ListAllows Host lines (is_host_atom_match who) ms
-IsScopeListFor lines who Runas ms = ⊥
-IsScopeListFor lines who Cmnd ms = ⊥
+abbrev pub IsScopeListForUserOrHost : List Line → Who → Kind → List Member → Type 0
+IsScopeListForUserOrHost lines who User ms = ListAllows User lines (is_user_atom_match who.user) ms
+IsScopeListForUserOrHost lines who Host ms = ListAllows Host lines (is_host_atom_match who) ms
+IsScopeListForUserOrHost lines who Runas ms = ⊥
+IsScopeListForUserOrHost lines who Cmnd ms = ⊥
 
 -- The setting is for this user on this host: one without scope is for all; those for runas users and for commands never count.
 abbrev pub IsScopeForUserOnHost : List Line → Who → Option Scope → Type 0
 IsScopeForUserOnHost lines who None = Unit {0}
-IsScopeForUserOnHost lines who (Some scope) = IsScopeListFor lines who scope.kind scope.members
+IsScopeForUserOnHost lines who (Some scope) = IsScopeListForUserOrHost lines who scope.kind scope.members
 
 abbrev pub runas_name_or_root : Option (Option Scope × List ℕ) → List ℕ
 runas_name_or_root None = codes "root"

@@ -9,21 +9,21 @@ use Rattle.sudoers_match.specs.declared.matching_host_groups.HostGroupPlace.{Hos
 use Rattle.sudoers_match.specs.Specs.{UserSpec, user_specs_of_lines, IsConcatenationOfParts}
 use Rattle.sudoers_match.specs.Allows.{ListAllows}
 
-abbrev pub host_group_place : ℕ → ℕ → HostGroupPlace
-host_group_place spec group = record { spec = spec; host_group = group }
+abbrev pub host_group_place_from_spec_number : ℕ → ℕ → HostGroupPlace
+host_group_place_from_spec_number spec group = record { spec = spec; host_group = group }
 
 -- The place of a host group, if its hosts match.
-abbrev pub ArePlacesOfHostGroup : List Line → Who → ℕ → ℕ → HostGroup → List HostGroupPlace → Type 0
-ArePlacesOfHostGroup lines who i j g places =
-    (ListAllows Host lines (is_host_atom_match who) g.hosts × (places ≡ host_group_place i j ∷ []))
+abbrev pub HoldsHostGroupPlaceIfHostsMatch : List Line → Who → ℕ → ℕ → HostGroup → List HostGroupPlace → Type 0
+HoldsHostGroupPlaceIfHostsMatch lines who i j g places =
+    (ListAllows Host lines (is_host_atom_match who) g.hosts × (places ≡ host_group_place_from_spec_number i j ∷ []))
     ⊎ ((ListAllows Host lines (is_host_atom_match who) g.hosts → ⊥) × (places ≡ []))
 
 -- The places of the host groups of a user specification whose hosts match, if its users match.
-abbrev pub ArePlacesOfSpec : List Line → Who → ℕ → UserSpec → List HostGroupPlace → Type 0
-ArePlacesOfSpec lines who i s places =
-    (ListAllows User lines (is_user_atom_match who.user) s.users × IsConcatenationOfParts (ArePlacesOfHostGroup lines who i) 0 s.groups places)
+abbrev pub AreMatchingHostGroupPlacesOfSpec : List Line → Who → ℕ → UserSpec → List HostGroupPlace → Type 0
+AreMatchingHostGroupPlacesOfSpec lines who i s places =
+    (ListAllows User lines (is_user_atom_match who.user) s.users × IsConcatenationOfParts (HoldsHostGroupPlaceIfHostsMatch lines who i) 0 s.groups places)
     ⊎ ((ListAllows User lines (is_user_atom_match who.user) s.users → ⊥) × (places ≡ []))
 
 -- All of them, in file order.
-abbrev pub AreMatchingHostGroups : List Line → Who → List HostGroupPlace → Type 0
-AreMatchingHostGroups lines who places = IsConcatenationOfParts (ArePlacesOfSpec lines who) 0 (user_specs_of_lines lines) places
+abbrev pub ArePlacesOfMatchingHostGroups : List Line → Who → List HostGroupPlace → Type 0
+ArePlacesOfMatchingHostGroups lines who places = IsConcatenationOfParts (AreMatchingHostGroupPlacesOfSpec lines who) 0 (user_specs_of_lines lines) places

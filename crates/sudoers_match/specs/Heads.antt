@@ -10,20 +10,20 @@ use Rattle.sudoers_grammar.specs.declared.node.Tag.TheVariants as tag
 use Rattle.sudoers_match.specs.declared.tags.CommandTags.{CommandTags}
 
 -- The Runas_Spec of a command, and the options and tags of the commands before it and of itself, in this order.
-pub record SettingsOfCommand : Type 0 where
+pub record AccumulatedCommandSettings : Type 0 where
   pub runas : Option RunasSpec
   pub options : List (OptionName × List ℕ)
   pub tags : List (Tag × Bool)
 
-abbrev pub empty_command_settings : SettingsOfCommand
+abbrev pub empty_command_settings : AccumulatedCommandSettings
 empty_command_settings = record { runas = None; options = []; tags = [] }
 
 -- A command inherits what the commands before it in its list leave, until it is overridden.
-abbrev pub settings_after_command : SettingsOfCommand → CmdSpec → SettingsOfCommand
+abbrev pub settings_after_command : AccumulatedCommandSettings → CmdSpec → AccumulatedCommandSettings
 settings_after_command h c = record { runas = option_or c.runas h.runas; options = h.options ++ c.options; tags = h.tags ++ c.tags }
 
 -- the commands of a list, each with all that holds of it
-abbrev pub commands_with_settings : SettingsOfCommand → List CmdSpec → List (SettingsOfCommand × Member)
+abbrev pub commands_with_settings : AccumulatedCommandSettings → List CmdSpec → List (AccumulatedCommandSettings × Member)
 commands_with_settings h [] = []
 commands_with_settings h (c ∷ cs) = (settings_after_command h c, c.member) ∷ commands_with_settings (settings_after_command h c) cs
 

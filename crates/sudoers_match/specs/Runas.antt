@@ -6,7 +6,7 @@ use Rattle.sudoers_tree.specs.Line.{Line}
 use Rattle.sudoers_match_member.specs.declared.people_and_commands.Group.{Group}
 use Rattle.sudoers_match_member.specs.declared.people_and_commands.Person.{Person}
 use Rattle.sudoers_match_member.specs.declared.people_and_commands.Who.{Who}
-use Rattle.sudoers_match_member.specs.Hits.{is_in_numbered_group, is_user_atom_match, is_runas_group_atom_match, is_name_equal_ignoring_case}
+use Rattle.sudoers_match_member.specs.Hits.{is_number_among_groups, is_user_atom_match, is_runas_group_atom_match, is_name_equal_ignoring_case}
 use Rattle.sudoers_match_list.specs.declared.verdict.Verdict.{Verdict}
 use Rattle.sudoers_match_list.specs.declared.verdict.Verdict.TheVariants.{Allow, Deny, Unsaid}
 use Rattle.sudoers_match_list.specs.Flat.{IsListVerdict}
@@ -16,19 +16,19 @@ use Rattle.sudoers_match.specs.Default.{IsRunasDefault}
 -- No group is asked for, or it is one of these.
 abbrev pub is_group_absent_or_among : List Group → Option Group → Bool
 is_group_absent_or_among groups None = true
-is_group_absent_or_among groups (Some g) = is_in_numbered_group groups g.gid
+is_group_absent_or_among groups (Some g) = is_number_among_groups groups g.gid
 
 -- what a list of groups says decides; where it says nothing, a group of the target's own is as good
-abbrev pub may_use_requested_group : Verdict → Bool → Bool
-may_use_requested_group Allow own = true
-may_use_requested_group Unsaid own = own
-may_use_requested_group Deny own = false
+abbrev pub is_allowed_by_verdict_or_own_group : Verdict → Bool → Bool
+is_allowed_by_verdict_or_own_group Allow own = true
+is_allowed_by_verdict_or_own_group Unsaid own = own
+is_allowed_by_verdict_or_own_group Deny own = false
 
 -- No group is asked for, or the list allows it, or says nothing of it and it is one of the target's.
 abbrev pub RunasGroupsAllow : List Line → Person → Option Group → List Member → Type 0
 RunasGroupsAllow lines target None groups = Unit {0}
 RunasGroupsAllow lines target (Some g) groups =
-    (verdict : Verdict) × IsListVerdict Runas lines (is_runas_group_atom_match g) groups verdict × (may_use_requested_group verdict (is_group_absent_or_among target.groups (Some g)) ≡ true)
+    (verdict : Verdict) × IsListVerdict Runas lines (is_runas_group_atom_match g) groups verdict × (is_allowed_by_verdict_or_own_group verdict (is_group_absent_or_among target.groups (Some g)) ≡ true)
 
 -- `()`: as the user himself, with one of his groups. `(:G)`: as the user himself, with a group of the list. `(U)`: as a user of the
 -- list, with one of the target's groups. `(U:G)`: as a user of the one list, with a group of the other.

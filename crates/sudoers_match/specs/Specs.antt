@@ -9,12 +9,12 @@ pub record UserSpec : Type 0 where
   pub users : List Member
   pub groups : List HostGroup
 
-abbrev pub user_spec_of : List Member → List HostGroup → UserSpec
-user_spec_of users groups = record { users = users; groups = groups }
+abbrev pub user_spec_of_users_and_groups : List Member → List HostGroup → UserSpec
+user_spec_of_users_and_groups users groups = record { users = users; groups = groups }
 
 -- the user specification that a line is
 abbrev pub user_spec_in_node : Node → Option UserSpec
-user_spec_in_node (node.Spec users groups) = Some (user_spec_of users groups)
+user_spec_in_node (node.Spec users groups) = Some (user_spec_of_users_and_groups users groups)
 user_spec_in_node (node.Defaults scope params) = None
 user_spec_in_node (node.Alias k defs) = None
 user_spec_in_node node.Blank = None

@@ -9,7 +9,7 @@ ghost use Rattle.sudoers_match.specs.internal.Straight.{LeadsToNoCyclicAlias};
 
 use std::alloc::AllocError;
 use sudoers_match_list::{
-    AcyclicWalk, AliasVerdictCache, ListDecision, MemberHit, MemberKind, Verdict,
+    AcyclicWalk, AliasVerdictCache, LastHitOrCycle, MemberHit, MemberKind, Verdict,
 };
 use sudoers_tree::{Kind, MemberRow, RowsOfTable};
 
@@ -31,8 +31,8 @@ pub fn find_last_hit_in_list<'a, K: MemberKind>(
     ensures hit { IfOk result (λ hit. IsLastHitOfList kind policy.now (K.test asked.now) (members_of_view members.now) hit) }
 {
     match verdicts.find_last_hit::<K>(policy.definition_numbers(), kind, members, asked)? {
-        ListDecision::Latest(hit) => Ok(hit),
-        ListDecision::Cyclic => unreachable!(),
+        LastHitOrCycle::Latest(hit) => Ok(hit),
+        LastHitOrCycle::Cyclic => unreachable!(),
     }
 }
 

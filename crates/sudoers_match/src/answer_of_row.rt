@@ -3,10 +3,10 @@
 ghost use Rattle.std.specs.Prelude.{◌≡◌};
 ghost use Rattle.std.specs.Option.{option_map};
 ghost use Rattle.sudoers_match.specs.Answer.{answer_of_view};
-ghost use Rattle.sudoers_match.specs.Heads.{SettingsOfCommand as HeadOf};
+ghost use Rattle.sudoers_match.specs.Heads.{AccumulatedCommandSettings as HeadOf};
 ghost use Rattle.sudoers_match.specs.IsHead.{HoldsCommandSettings};
-ghost use Rattle.sudoers_match.specs.Found.{answer_of_found};
-ghost use Rattle.sudoers_match.specs.internal.Question.{found_answer_with_command, place_of_answer, answer_of_command_hit};
+ghost use Rattle.sudoers_match.specs.Found.{answer_without_member_and_settings};
+ghost use Rattle.sudoers_match.specs.internal.Question.{answer_with_member_and_settings, spec_group_command_numbers_of_answer, answer_of_command_hit};
 
 use crate::command_settings::CommandSettings;
 use crate::options::CommandOptions;
@@ -33,7 +33,7 @@ pub struct Answer<'a> {
 
 /// The row that answers a request, and its command.
 #[derive(Clone, Copy)]
-pub struct AnswerWithCommand<'a> {
+pub struct AnswerWithMemberAndSettings<'a> {
     pub answer: Answer<'a>,
     /// The number of the line of its user specification, from 0.
     pub line: usize,
@@ -44,7 +44,7 @@ pub struct AnswerWithCommand<'a> {
 
 /// Where a command stands.
 #[derive(Clone, Copy)]
-pub struct CommandPlace {
+pub struct SpecGroupCommandNumbers {
     pub spec: usize,
     pub host_group: usize,
     pub command: usize,
@@ -52,12 +52,12 @@ pub struct CommandPlace {
 
 /// Returns the answer of a row whose atom says `hit`.
 pub fn make_row_answer<'a>(
-    place: CommandPlace,
+    place: SpecGroupCommandNumbers,
     head: &CommandSettings<'a>,
     hit: MemberHit,
 ) -> Answer<'a>
     ensures told { (h : HeadOf) → HoldsCommandSettings head.now h → answer_of_view result ≡ answer_of_command_hit place h hit }
-    ensures place { place_of_answer result ≡ place }
+    ensures place { spec_group_command_numbers_of_answer result ≡ place }
 {
     let mut tags = head.tags;
     if hit.by_all {
@@ -75,16 +75,16 @@ pub fn make_row_answer<'a>(
 
 /// Returns what is found where a command gives `answer`: the command has the head `head` and the member `member`, and stands on the
 /// line with the number `line`.
-pub fn add_command_to_answer<'a>(
+pub fn add_member_and_settings_to_answer<'a>(
     answer: Option<Answer<'a>>,
     line: usize,
     head: &CommandSettings<'a>,
     member: Member<'a>,
-) -> Option<AnswerWithCommand<'a>>
-    ensures { result ≡ option_map (found_answer_with_command line head.now member.entry) answer.entry }
+) -> Option<AnswerWithMemberAndSettings<'a>>
+    ensures { result ≡ option_map (answer_with_member_and_settings line head.now member.entry) answer.entry }
 {
     match answer {
-        Some(answer) => Some(AnswerWithCommand {
+        Some(answer) => Some(AnswerWithMemberAndSettings {
             answer,
             line,
             head: *head,
@@ -95,8 +95,10 @@ pub fn add_command_to_answer<'a>(
 }
 
 /// Returns the answer of what is found.
-pub fn take_found_answer<'a>(found: Option<AnswerWithCommand<'a>>) -> Option<Answer<'a>>
-    ensures { option_map answer_of_view result ≡ option_map answer_of_found found.entry }
+pub fn take_answer_without_member_and_settings<'a>(
+    found: Option<AnswerWithMemberAndSettings<'a>>,
+) -> Option<Answer<'a>>
+    ensures { option_map answer_of_view result ≡ option_map answer_without_member_and_settings found.entry }
 {
     match found {
         Some(found) => Some(found.answer),

@@ -6,28 +6,28 @@ ghost use Rattle.sudoers_grammar.specs.declared.node.Kind.TheVariants.{User as O
 ghost use Rattle.sudoers_grammar.specs.Node.{Member as MemberOf};
 ghost use Rattle.sudoers_line_rows.specs.View.{host_group_of_view, host_groups_of_view, members_of_view, runas_of_view};
 ghost use Rattle.sudoers_match_member.specs.Hits.{is_user_atom_match, is_host_atom_match};
-ghost use Rattle.sudoers_check.specs.Chains.{HasReachableCycle};
+ghost use Rattle.sudoers_check.specs.Chains.{HasCyclicAliasReachedFromSpecOrDefaults};
 ghost use Rattle.sudoers_match_list.specs.declared.verdict.AskFault.TheVariants.{Cycle, TooLong, NoMemory};
 ghost use Rattle.sudoers_match.specs.Allows.{ListAllows};
 ghost use Rattle.sudoers_match.specs.Default.{IsRunasDefault};
 ghost use Rattle.sudoers_match.specs.Answer.{IsAnswerOfRows, IsAnswerToRequest, answer_of_view, joined_arguments_limit, words_joined_with_spaces};
-ghost use Rattle.sudoers_match.specs.Found.{IsFoundInLines, answer_of_found};
-ghost use Rattle.sudoers_match.specs.Heads.{SettingsOfCommand as HeadOf, empty_command_settings};
+ghost use Rattle.sudoers_match.specs.Found.{HasMemberAndSettingsFromLines, answer_without_member_and_settings};
+ghost use Rattle.sudoers_match.specs.Heads.{AccumulatedCommandSettings as HeadOf, empty_command_settings};
 ghost use Rattle.sudoers_match.specs.IsHead.{HoldsCommandSettings};
-ghost use Rattle.sudoers_match.specs.internal.Question.{IsFoundInGroupAtPlace, IsFoundInSpecAtNumber, IsValidRequestCache, IsKnownRunasDecision, DecidesWhetherRunasSpecAllows, place_of_answer};
-ghost use Rattle.sudoers_match.specs.Rows.{PrivilegeRow, AreRowsOfCommand, AreRowsOfHostGroup, AreRowsOfSpec};
-ghost use Rattle.sudoers_match.specs.Specs.{user_spec_of};
+ghost use Rattle.sudoers_match.specs.internal.Question.{HasMemberAndSettingsFromGroupAtPlace, HasMemberAndSettingsFromSpecAtNumber, IsValidRequestCache, IsKnownRunasDecision, DecidesWhetherRunasSpecAllows, spec_group_command_numbers_of_answer};
+ghost use Rattle.sudoers_match.specs.Rows.{PrivilegeRow, AreRowsPerFlatAtomOfCommand, AreRowsPerFlatAtomOfHostGroup, AreRowsPerFlatAtomOfSpec};
+ghost use Rattle.sudoers_match.specs.Specs.{user_spec_of_users_and_groups};
 ghost use Rattle.sudoers_match.specs.internal.Straight.{LeadsToNoCyclicAlias, RunasSpecLeadsToNoCycle, HostGroupLeadsToNoCycle, HostGroupsLeadToNoCycle};
 
 use crate::allowing::{find_last_hit_in_list, is_allowed_by_list};
 use crate::answer_of_row::{
-    Answer, AnswerWithCommand, CommandPlace, add_command_to_answer, make_row_answer,
-    take_found_answer,
+    Answer, AnswerWithMemberAndSettings, SpecGroupCommandNumbers,
+    add_member_and_settings_to_answer, make_row_answer, take_answer_without_member_and_settings,
 };
 use crate::command_settings::CommandSettings;
 use crate::matching_host_groups::HostGroupPlace;
 use crate::request_verdicts::{RequestContext, RequestVerdictCache};
-use crate::request_words::{join_words, make_joined_command_line};
+use crate::request_words::{join_words, make_command_with_joined_arguments};
 use crate::runas_default_user::find_runas_default_for;
 use crate::time_bounds::is_within_time_bounds;
 use std::alloc::{AllocError, Global};
@@ -52,15 +52,15 @@ pub fn answer<'a>(
     request: &Request,
 ) -> Result<Option<Answer<'a>>, AskFault>
     ensures answer { IfOk result (λ answer. IsAnswerToRequest policy.now.walk.lines request.now (option_map answer_of_view answer)) }
-    ensures straight { IfOk result (λ _. HasReachableCycle policy.now.walk.lines → ⊥) }
+    ensures straight { IfOk result (λ _. HasCyclicAliasReachedFromSpecOrDefaults policy.now.walk.lines → ⊥) }
     ensures short { IfOk result (λ _. length (words_joined_with_spaces request.now.args) ≤ joined_arguments_limit) }
-    ensures fault { IfErr result (λ fault. (fault ≡ NoMemory) ⊎ (((fault ≡ Cycle) × HasReachableCycle policy.now.walk.lines)
-        ⊎ ((fault ≡ TooLong) × (HasReachableCycle policy.now.walk.lines → ⊥) × (joined_arguments_limit < length (words_joined_with_spaces request.now.args))))) }
+    ensures fault { IfErr result (λ fault. (fault ≡ NoMemory) ⊎ (((fault ≡ Cycle) × HasCyclicAliasReachedFromSpecOrDefaults policy.now.walk.lines)
+        ⊎ ((fault ≡ TooLong) × (HasCyclicAliasReachedFromSpecOrDefaults policy.now.walk.lines → ⊥) × (joined_arguments_limit < length (words_joined_with_spaces request.now.args))))) }
 {
     let policy = AcyclicWalk::new(alloc, policy.walk())?;
     let default = find_runas_default_for(alloc, &policy, &request.who)?;
     let found = find_answer(alloc, &policy, request, default)?;
-    Ok(take_found_answer(found))
+    Ok(take_answer_without_member_and_settings(found))
 }
 
 /// Returns the last row of `policy` that fits `request`, with its answer and its command, if a row fits. `default` is the user as whom a
@@ -74,10 +74,10 @@ pub fn find_answer<'a>(
     policy: &AcyclicWalk<'a>,
     request: &Request,
     default: &'a [u8],
-) -> Result<Option<AnswerWithCommand<'a>>, AskFault>
+) -> Result<Option<AnswerWithMemberAndSettings<'a>>, AskFault>
     requires { IsRunasDefault policy.now request.now.who default.now }
-    ensures answer { IfOk result (λ found. IsAnswerToRequest policy.now request.now (option_map answer_of_found found)) }
-    ensures found { IfOk result (λ found. IfSome found (IsFoundInLines policy.now)) }
+    ensures answer { IfOk result (λ found. IsAnswerToRequest policy.now request.now (option_map answer_without_member_and_settings found)) }
+    ensures found { IfOk result (λ found. IfSome found (HasMemberAndSettingsFromLines policy.now)) }
     ensures short { IfOk result (λ _. length (words_joined_with_spaces request.now.args) ≤ joined_arguments_limit) }
     ensures fault { IfErr result (λ fault. (fault ≡ NoMemory) ⊎ ((fault ≡ TooLong) × (joined_arguments_limit < length (words_joined_with_spaces request.now.args)))) }
 {
@@ -98,12 +98,12 @@ pub fn find_answer_without_args_limit<'a>(
     policy: &AcyclicWalk<'a>,
     request: &Request,
     default: &'a [u8],
-) -> Result<Option<AnswerWithCommand<'a>>, AllocError>
+) -> Result<Option<AnswerWithMemberAndSettings<'a>>, AllocError>
     requires { IsRunasDefault policy.now request.now.who default.now }
-    ensures answer { IfOk result (λ found. IsAnswerToRequest policy.now request.now (option_map answer_of_found found)) }
-    ensures found { IfOk result (λ found. IfSome found (IsFoundInLines policy.now)) }
+    ensures answer { IfOk result (λ found. IsAnswerToRequest policy.now request.now (option_map answer_without_member_and_settings found)) }
+    ensures found { IfOk result (λ found. IfSome found (HasMemberAndSettingsFromLines policy.now)) }
 {
-    let command = make_joined_command_line(alloc, request)?;
+    let command = make_command_with_joined_arguments(alloc, request)?;
     let mut question = RequestVerdictCache::new(alloc, policy, request, default)?;
     let asked = RequestContext {
         policy,
@@ -117,10 +117,10 @@ pub fn find_answer_without_args_limit<'a>(
 fn find_last_fitting_row<'a>(
     question: &mut RequestVerdictCache<'a>,
     asked: &RequestContext<'a, '_>,
-) -> Result<Option<AnswerWithCommand<'a>>, AllocError>
+) -> Result<Option<AnswerWithMemberAndSettings<'a>>, AllocError>
     requires { IsValidRequestCache asked.now.policy.now asked.now.request.now question.old }
-    ensures answer { IfOk result (λ found. IsAnswerToRequest asked.now.policy.now asked.now.request.now (option_map answer_of_found found)) }
-    ensures found { IfOk result (λ found. IfSome found (IsFoundInLines asked.now.policy.now)) }
+    ensures answer { IfOk result (λ found. IsAnswerToRequest asked.now.policy.now asked.now.request.now (option_map answer_without_member_and_settings found)) }
+    ensures found { IfOk result (λ found. IfSome found (HasMemberAndSettingsFromLines asked.now.policy.now)) }
 {
     // laws
     asked.policy.is_acyclic();
@@ -145,15 +145,15 @@ fn find_last_fit_in_spec<'a>(
     spec: usize,
     users: &RowsOfTable<'_, MemberRow>,
     groups: &RowsOfTable<'a, HostGroupRow>,
-) -> Result<Option<AnswerWithCommand<'a>>, AllocError>
+) -> Result<Option<AnswerWithMemberAndSettings<'a>>, AllocError>
     requires question { IsValidRequestCache asked.now.policy.now asked.now.request.now question.old }
     requires users { LeadsToNoCyclicAlias OfUsers asked.now.policy.now (members_of_view users.now) }
     requires groups { HostGroupsLeadToNoCycle asked.now.policy.now (host_groups_of_view groups.now) }
     ensures kept { IfOk result (λ _. IsValidRequestCache asked.now.policy.now asked.now.request.now question.new) }
     ensures answer { IfOk result (λ found. (rows : List PrivilegeRow)
-        → AreRowsOfSpec asked.now.policy.now spec (user_spec_of (members_of_view users.now) (host_groups_of_view groups.now)) rows
-        → IsAnswerOfRows asked.now.policy.now asked.now.request.now rows (option_map answer_of_found found)) }
-    ensures found { IfOk result (λ found. IfSome found (IsFoundInSpecAtNumber line spec (host_groups_of_view groups.now))) }
+        → AreRowsPerFlatAtomOfSpec asked.now.policy.now spec (user_spec_of_users_and_groups (members_of_view users.now) (host_groups_of_view groups.now)) rows
+        → IsAnswerOfRows asked.now.policy.now asked.now.request.now rows (option_map answer_without_member_and_settings found)) }
+    ensures found { IfOk result (λ found. IfSome found (HasMemberAndSettingsFromSpecAtNumber line spec (host_groups_of_view groups.now))) }
 {
     let user = &asked.request.who.user;
     if !is_allowed_by_list::<UserListKind>(
@@ -186,16 +186,16 @@ fn find_last_fit_in_host_group<'a>(
     at: HostGroupPlace,
     group: &HostGroup<'a>,
     head: &mut CommandSettings<'a>,
-) -> Result<Option<AnswerWithCommand<'a>>, AllocError>
+) -> Result<Option<AnswerWithMemberAndSettings<'a>>, AllocError>
     requires question { IsValidRequestCache asked.now.policy.now asked.now.request.now question.old }
     requires straight { HostGroupLeadsToNoCycle asked.now.policy.now (host_group_of_view group.now) }
     requires head { HoldsCommandSettings head.old empty_command_settings }
     ensures kept { IfOk result (λ _. IsValidRequestCache asked.now.policy.now asked.now.request.now question.new) }
     ensures answer { IfOk result (λ found. (users : List MemberOf)
         → ListAllows OfUsers asked.now.policy.now (is_user_atom_match asked.now.request.now.who.user) users
-        → (rows : List PrivilegeRow) → AreRowsOfHostGroup asked.now.policy.now at.spec users at.host_group (host_group_of_view group.now) rows
-        → IsAnswerOfRows asked.now.policy.now asked.now.request.now rows (option_map answer_of_found found)) }
-    ensures found { IfOk result (λ found. IfSome found (IsFoundInGroupAtPlace line at (host_group_of_view group.now))) }
+        → (rows : List PrivilegeRow) → AreRowsPerFlatAtomOfHostGroup asked.now.policy.now at.spec users at.host_group (host_group_of_view group.now) rows
+        → IsAnswerOfRows asked.now.policy.now asked.now.request.now rows (option_map answer_without_member_and_settings found)) }
+    ensures found { IfOk result (λ found. IfSome found (HasMemberAndSettingsFromGroupAtPlace line at (host_group_of_view group.now))) }
 {
     let who = &asked.request.who;
     if !is_allowed_by_list::<HostListKind>(
@@ -215,17 +215,17 @@ fn find_last_fit_in_host_group<'a>(
         if written.runas.is_some() {
             permitted = None;
         }
-        head.inherit_settings(&written);
+        head.apply_settings_of_command(&written);
         let member = RowsOfTable {
             tables,
             rows: std::slice::from_ref(&row.member),
         };
-        let place = CommandPlace {
+        let place = SpecGroupCommandNumbers {
             spec: at.spec,
             host_group: at.host_group,
             command,
         };
-        let answer = answer_of_last_fitting_row(
+        let answer = find_answer_of_command_if_it_fits(
             question,
             asked,
             place,
@@ -233,7 +233,7 @@ fn find_last_fit_in_host_group<'a>(
             &mut permitted,
             &member,
         )?;
-        latest = add_command_to_answer(answer, line, head, written.member).or(latest);
+        latest = add_member_and_settings_to_answer(answer, line, head, written.member).or(latest);
     }
     Ok(latest)
 }
@@ -263,10 +263,10 @@ fn permits_runas_cached<'a>(
 
 /// Returns the answer of the last row of a command that fits, where the users and the hosts allow. `member` is the command alone.
 /// `permitted` is what is known of the Runas_Spec of `head`.
-fn answer_of_last_fitting_row<'a>(
+fn find_answer_of_command_if_it_fits<'a>(
     question: &mut RequestVerdictCache<'a>,
     asked: &RequestContext<'a, '_>,
-    place: CommandPlace,
+    place: SpecGroupCommandNumbers,
     head: &CommandSettings<'a>,
     permitted: &mut Option<bool>,
     member: &RowsOfTable<'_, MemberRow>,
@@ -281,9 +281,9 @@ fn answer_of_last_fitting_row<'a>(
         → ListAllows OfUsers asked.now.policy.now (is_user_atom_match asked.now.request.now.who.user) users
         → ListAllows OfHosts asked.now.policy.now (is_host_atom_match asked.now.request.now.who) hosts
         → (h : HeadOf) → HoldsCommandSettings head.now h → (m : MemberOf) → members_of_view member.now ≡ m ∷ []
-        → (rows : List PrivilegeRow) → AreRowsOfCommand asked.now.policy.now place.spec place.host_group users hosts place.command (h, m) rows
+        → (rows : List PrivilegeRow) → AreRowsPerFlatAtomOfCommand asked.now.policy.now place.spec place.host_group users hosts place.command (h, m) rows
         → IsAnswerOfRows asked.now.policy.now asked.now.request.now rows (option_map answer_of_view answer)) }
-    ensures place { IfOk result (λ answer. IfSome answer (λ a. place_of_answer a ≡ place)) }
+    ensures place { IfOk result (λ answer. IfSome answer (λ a. spec_group_command_numbers_of_answer a ≡ place)) }
 {
     if !is_within_time_bounds(asked.request.moment, &head.options) {
         return Ok(None);

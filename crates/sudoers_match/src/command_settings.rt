@@ -1,7 +1,7 @@
 //! What stands before a command: as whom it runs, its options and its tags.
 
 ghost use Rattle.sudoers_line_rows.specs.View.{command_of_view};
-ghost use Rattle.sudoers_match.specs.Heads.{SettingsOfCommand as HeadOf, empty_command_settings, settings_after_command};
+ghost use Rattle.sudoers_match.specs.Heads.{AccumulatedCommandSettings as HeadOf, empty_command_settings, settings_after_command};
 ghost use Rattle.sudoers_match.specs.IsHead.{HoldsCommandSettings};
 
 use crate::options::CommandOptions;
@@ -29,7 +29,7 @@ impl<'a> CommandSettings<'a> {
     }
 
     /// Adds what stands before a later command of the same list.
-    pub fn inherit_settings(&mut self, command: &CmdSpec<'a>)
+    pub fn apply_settings_of_command(&mut self, command: &CmdSpec<'a>)
         ensures { (before : HeadOf) → HoldsCommandSettings self.old before → HoldsCommandSettings self.new (settings_after_command before (command_of_view command.now)) }
     {
         self.runas = command.runas.or(self.runas);

@@ -1,20 +1,20 @@
 //! Laws of rows, answers, defaults and listings. Each is the contract of a function that does nothing.
 
 ghost use Rattle.std.specs.Prelude.{◌≡◌, ◌↔◌, ℕ, List, Option};
-ghost use Rattle.sudoers_check.specs.Chains.{HasReachableCycle};
+ghost use Rattle.sudoers_check.specs.Chains.{HasCyclicAliasReachedFromSpecOrDefaults};
 ghost use Rattle.sudoers_grammar.specs.declared.node.Atom.{Atom as AtomOf};
 ghost use Rattle.sudoers_tree.specs.Line.{Line as LineOf};
 ghost use Rattle.sudoers_tree.specs.Policy.{AreValidWalkLines};
 ghost use Rattle.sudoers_match_member.specs.declared.people_and_commands.Who.{Who as WhoOf};
 ghost use Rattle.sudoers_match_list.specs.Alike.{IsPointwiseRelated};
 ghost use Rattle.sudoers_match_member.specs.declared.request.Request.{Request as RequestOf};
-ghost use Rattle.sudoers_match.specs.Alike.{AreAllRunasDefaultsAlike, AreRowsAlikeButNumbers, AreRowsAlikeWithNumbers, AreSpecUsersAndHostsAlike, AreUserSpecsAlike, KeepsAtomMatches, AreAnswersSameButNumbers};
+ghost use Rattle.sudoers_match.specs.Alike.{AreAllRunasDefaultsAlike, AreTwoRowsAlikeButSpecNumbers, AreTwoRowsAlikeWithSpecNumbers, AreSpecUsersAndHostsAlike, AreUserSpecsAlike, KeepsAtomMatches, AreAnswersSameButNumbers};
 ghost use Rattle.sudoers_match.specs.Answer.{Answer as AnswerOf, IsAnswerOfRows, RowFitsRequest, IsAnswerToRequest};
-ghost use Rattle.sudoers_match.specs.Beside.{KeepsReachableAliases};
+ghost use Rattle.sudoers_match.specs.Beside.{HasSameLinesAndReachableAliases};
 ghost use Rattle.sudoers_match.specs.Default.{IsRunasDefault};
-ghost use Rattle.sudoers_match.specs.Groups.{AreMatchingHostGroups};
-ghost use Rattle.sudoers_match.specs.Heads.{SettingsOfCommand as HeadOf};
-ghost use Rattle.sudoers_match.specs.IsHead.{AreCommandSettingsSame, HoldsCommandSettings};
+ghost use Rattle.sudoers_match.specs.Groups.{ArePlacesOfMatchingHostGroups};
+ghost use Rattle.sudoers_match.specs.Heads.{AccumulatedCommandSettings as HeadOf};
+ghost use Rattle.sudoers_match.specs.IsHead.{HaveSameRunasAndFinalOptionsAndTags, HoldsCommandSettings};
 ghost use Rattle.sudoers_match.specs.Rows.{PrivilegeRow};
 ghost use Rattle.sudoers_match.specs.Specs.{user_specs_of_lines};
 ghost use Rattle.sudoers_match.specs.declared.command_settings.CommandSettings.{CommandSettings as HeadHeld};
@@ -30,8 +30,8 @@ pub fn one_answer()
 
 /// The places of the host groups for a user on a host are one list.
 pub fn one_list_of_host_groups()
-    ensures { (lines : List LineOf) (who : WhoOf) (places others : List GroupPlaceOf) → AreMatchingHostGroups lines who places
-        → AreMatchingHostGroups lines who others → places ≡ others }
+    ensures { (lines : List LineOf) (who : WhoOf) (places others : List GroupPlaceOf) → ArePlacesOfMatchingHostGroups lines who places
+        → ArePlacesOfMatchingHostGroups lines who others → places ≡ others }
 {}
 
 /// A user on a host has one runas_default.
@@ -43,7 +43,7 @@ pub fn one_runas_default()
 /// What is held of a command is a head. Heads of which the same is held say the same.
 pub fn one_head()
     ensures some { (held : HeadHeld) → (head : HeadOf) × HoldsCommandSettings held head }
-    ensures same { (held : HeadHeld) (head other : HeadOf) → HoldsCommandSettings held head → HoldsCommandSettings held other → AreCommandSettingsSame head other }
+    ensures same { (held : HeadHeld) (head other : HeadOf) → HoldsCommandSettings held head → HoldsCommandSettings held other → HaveSameRunasAndFinalOptionsAndTags head other }
 {}
 
 /// Two policies with the same settings have the same runas_default, whoever asks. The second policy may write an atom otherwise, if that
@@ -59,7 +59,7 @@ pub fn alike_defaults_are_same()
 pub fn alike_specs_have_same_groups()
     ensures { (write : AtomOf → AtomOf) (lines others : List LineOf) → KeepsAtomMatches write
         → IsPointwiseRelated (AreSpecUsersAndHostsAlike write lines others) (user_specs_of_lines lines) (user_specs_of_lines others) → (who : WhoOf) (places : List GroupPlaceOf)
-        → AreMatchingHostGroups lines who places ↔ AreMatchingHostGroups others who places }
+        → ArePlacesOfMatchingHostGroups lines who places ↔ ArePlacesOfMatchingHostGroups others who places }
 {
     alike_lists_say_same();
 }
@@ -67,7 +67,7 @@ pub fn alike_specs_have_same_groups()
 /// Of two rows that say the same both match a request, or neither does.
 pub fn alike_rows_fit()
     ensures { (write : AtomOf → AtomOf) (lines others : List LineOf) → KeepsAtomMatches write → AreAllRunasDefaultsAlike write lines others
-        → (request : RequestOf) (row other : PrivilegeRow) → AreRowsAlikeButNumbers write lines others row other → RowFitsRequest lines request row ↔ RowFitsRequest others request other }
+        → (request : RequestOf) (row other : PrivilegeRow) → AreTwoRowsAlikeButSpecNumbers write lines others row other → RowFitsRequest lines request row ↔ RowFitsRequest others request other }
 {
     alike_lists_say_same();
 }
@@ -75,10 +75,10 @@ pub fn alike_rows_fit()
 /// Policies whose rows say the same answer the same, numbers aside. Where the rows have the same numbers, so have the answers.
 pub fn alike_rows_answer()
     ensures alike { (write : AtomOf → AtomOf) (lines others : List LineOf) → KeepsAtomMatches write → AreAllRunasDefaultsAlike write lines others
-        → (request : RequestOf) (rows others_rows : List PrivilegeRow) (answer : Option AnswerOf) → IsPointwiseRelated (AreRowsAlikeButNumbers write lines others) rows others_rows
+        → (request : RequestOf) (rows others_rows : List PrivilegeRow) (answer : Option AnswerOf) → IsPointwiseRelated (AreTwoRowsAlikeButSpecNumbers write lines others) rows others_rows
         → IsAnswerOfRows lines request rows answer → (other : Option AnswerOf) × IsAnswerOfRows others request others_rows other × AreAnswersSameButNumbers answer other }
     ensures equal { (write : AtomOf → AtomOf) (lines others : List LineOf) → KeepsAtomMatches write → AreAllRunasDefaultsAlike write lines others
-        → (request : RequestOf) (rows others_rows : List PrivilegeRow) (answer : Option AnswerOf) → IsPointwiseRelated (AreRowsAlikeWithNumbers write lines others) rows others_rows
+        → (request : RequestOf) (rows others_rows : List PrivilegeRow) (answer : Option AnswerOf) → IsPointwiseRelated (AreTwoRowsAlikeWithSpecNumbers write lines others) rows others_rows
         → IsAnswerOfRows lines request rows answer → IsAnswerOfRows others request others_rows answer }
 {
     alike_lists_say_same();
@@ -96,14 +96,14 @@ pub fn equal_specs_answer_same()
 /// Definitions to which no chain of mentions leads change no answer, so a policy answers the same without them. A user has the same
 /// runas_default, and rules at the same places. A reachable alias is cyclic in both policies, or in neither.
 pub fn unreachable_definitions_change_no_answer()
-    ensures answer { (lines others : List LineOf) → KeepsReachableAliases lines others → (request : RequestOf) (answer : Option AnswerOf)
+    ensures answer { (lines others : List LineOf) → HasSameLinesAndReachableAliases lines others → (request : RequestOf) (answer : Option AnswerOf)
         → IsAnswerToRequest lines request answer ↔ IsAnswerToRequest others request answer }
-    ensures default { (lines others : List LineOf) → KeepsReachableAliases lines others → (who : WhoOf) (name : List ℕ)
+    ensures default { (lines others : List LineOf) → HasSameLinesAndReachableAliases lines others → (who : WhoOf) (name : List ℕ)
         → IsRunasDefault lines who name ↔ IsRunasDefault others who name }
-    ensures groups { (lines others : List LineOf) → KeepsReachableAliases lines others → (who : WhoOf) (places : List GroupPlaceOf)
-        → AreMatchingHostGroups lines who places ↔ AreMatchingHostGroups others who places }
-    ensures cycle { (lines others : List LineOf) → KeepsReachableAliases lines others → AreValidWalkLines lines → AreValidWalkLines others
-        → HasReachableCycle lines ↔ HasReachableCycle others }
+    ensures groups { (lines others : List LineOf) → HasSameLinesAndReachableAliases lines others → (who : WhoOf) (places : List GroupPlaceOf)
+        → ArePlacesOfMatchingHostGroups lines who places ↔ ArePlacesOfMatchingHostGroups others who places }
+    ensures cycle { (lines others : List LineOf) → HasSameLinesAndReachableAliases lines others → AreValidWalkLines lines → AreValidWalkLines others
+        → HasCyclicAliasReachedFromSpecOrDefaults lines ↔ HasCyclicAliasReachedFromSpecOrDefaults others }
 {
     alike_lists_say_same();
     alike_lists_lead_to_cycle();

@@ -14,15 +14,15 @@ mod runas_default_user;
 mod tags;
 mod time_bounds;
 
-pub use answer_of_row::{Answer, AnswerWithCommand};
+pub use answer_of_row::{Answer, AnswerWithMemberAndSettings};
 pub use answering::{answer, find_answer, find_answer_without_args_limit};
 pub use command_settings::CommandSettings;
-pub use matching_host_groups::{HostGroupPlace, find_matching_host_groups, host_groups};
+pub use matching_host_groups::{HostGroupPlace, find_places_of_matching_host_groups, host_groups};
 pub use options::CommandOptions;
-pub use request_words::{join_words, make_joined_command_line};
+pub use request_words::{join_words, make_command_with_joined_arguments};
 pub use runas_default_user::{find_runas_default_for, runas_default};
 pub use sudoers_match_list::{
-    AskFault, CommandListKind, HostListKind, ListDecision, MemberHit, MemberKind,
+    AskFault, CommandListKind, HostListKind, LastHitOrCycle, MemberHit, MemberKind,
     RunasGroupListKind, UserListKind, Verdict, decide,
 };
 pub use sudoers_match_member::{

@@ -4,10 +4,10 @@ ghost use Rattle.std.specs.Prelude.{◌≡◌, ◌⊎◌, ◌++◌, ◌∷◌, [
 ghost use Rattle.sudoers_grammar.specs.declared.node.Kind.TheVariants.{Host as OfHosts};
 ghost use Rattle.sudoers_line_rows.specs.View.{host_groups_of_view};
 ghost use Rattle.sudoers_match_member.specs.Hits.{is_host_atom_match};
-ghost use Rattle.sudoers_check.specs.Chains.{HasReachableCycle};
+ghost use Rattle.sudoers_check.specs.Chains.{HasCyclicAliasReachedFromSpecOrDefaults};
 ghost use Rattle.sudoers_match_list.specs.declared.verdict.AskFault.TheVariants.{Cycle, NoMemory};
 ghost use Rattle.sudoers_match_list.specs.Search.{IsValidVerdictCache};
-ghost use Rattle.sudoers_match.specs.Groups.{AreMatchingHostGroups, ArePlacesOfHostGroup};
+ghost use Rattle.sudoers_match.specs.Groups.{ArePlacesOfMatchingHostGroups, HoldsHostGroupPlaceIfHostsMatch};
 ghost use Rattle.sudoers_match.specs.internal.Asked.{AddsAllParts};
 ghost use Rattle.sudoers_match.specs.internal.Straight.{HostGroupsLeadToNoCycle};
 
@@ -36,12 +36,12 @@ pub fn host_groups(
     policy: &Policy,
     who: &Who,
 ) -> Result<Vec<HostGroupPlace>, AskFault>
-    ensures groups { IfOk result (λ places. AreMatchingHostGroups policy.now.walk.lines who.now places.items) }
-    ensures straight { IfOk result (λ _. HasReachableCycle policy.now.walk.lines → ⊥) }
-    ensures fault { IfErr result (λ fault. (fault ≡ NoMemory) ⊎ ((fault ≡ Cycle) × HasReachableCycle policy.now.walk.lines)) }
+    ensures groups { IfOk result (λ places. ArePlacesOfMatchingHostGroups policy.now.walk.lines who.now places.items) }
+    ensures straight { IfOk result (λ _. HasCyclicAliasReachedFromSpecOrDefaults policy.now.walk.lines → ⊥) }
+    ensures fault { IfErr result (λ fault. (fault ≡ NoMemory) ⊎ ((fault ≡ Cycle) × HasCyclicAliasReachedFromSpecOrDefaults policy.now.walk.lines)) }
 {
     let policy = AcyclicWalk::new(alloc, policy.walk())?;
-    Ok(find_matching_host_groups(alloc, &policy, who)?)
+    Ok(find_places_of_matching_host_groups(alloc, &policy, who)?)
 }
 
 /// Returns the places of the host groups whose users and whose hosts match `who`, as [`host_groups`] does.
@@ -49,12 +49,12 @@ pub fn host_groups(
 /// # Errors
 ///
 /// Memory ran out.
-pub fn find_matching_host_groups(
+pub fn find_places_of_matching_host_groups(
     alloc: Global,
     policy: &AcyclicWalk<'_>,
     who: &Who,
 ) -> Result<Vec<HostGroupPlace>, AllocError>
-    ensures { IfOk result (λ places. AreMatchingHostGroups policy.now who.now places.items) }
+    ensures { IfOk result (λ places. ArePlacesOfMatchingHostGroups policy.now who.now places.items) }
 {
     // laws
     policy.is_acyclic();
@@ -72,7 +72,14 @@ pub fn find_matching_host_groups(
                 &users,
                 &who.user,
             )? {
-                add_matching_host_groups(&mut places, &mut hosts_said, policy, who, spec, &groups)?;
+                add_places_of_host_groups_with_matching_hosts(
+                    &mut places,
+                    &mut hosts_said,
+                    policy,
+                    who,
+                    spec,
+                    &groups,
+                )?;
             }
             spec += 1;
         }
@@ -81,7 +88,7 @@ pub fn find_matching_host_groups(
 }
 
 /// Adds the places of the host groups of a user specification whose hosts match.
-fn add_matching_host_groups<'a>(
+fn add_places_of_host_groups_with_matching_hosts<'a>(
     places: &mut Vec<HostGroupPlace>,
     verdicts: &mut AliasVerdictCache<'a>,
     policy: &AcyclicWalk<'a>,
@@ -92,7 +99,7 @@ fn add_matching_host_groups<'a>(
     requires verdicts { IsValidVerdictCache OfHosts policy.now (is_host_atom_match who.now) verdicts.old }
     requires straight { HostGroupsLeadToNoCycle policy.now (host_groups_of_view groups.now) }
     ensures kept { IfOk result (λ _. IsValidVerdictCache OfHosts policy.now (is_host_atom_match who.now) verdicts.new) }
-    ensures added { IfOk result (λ _. AddsAllParts (ArePlacesOfHostGroup policy.now who.now spec) (host_groups_of_view groups.now) places.old.items places.new.items) }
+    ensures added { IfOk result (λ _. AddsAllParts (HoldsHostGroupPlaceIfHostsMatch policy.now who.now spec) (host_groups_of_view groups.now) places.old.items places.new.items) }
 {
     let tables = groups.tables;
     for (host_group, row) in groups.rows.iter().enumerate() {

@@ -6,7 +6,7 @@ ghost use Rattle.sudoers_line_rows.specs.View.{members_of_view, runas_of_view};
 ghost use Rattle.std.specs.Option.{option_map};
 ghost use Rattle.sudoers_match_member.specs.Hits.{is_user_atom_match};
 ghost use Rattle.sudoers_match.specs.Allows.{DecidesWhetherListAllows};
-ghost use Rattle.sudoers_match.specs.Answer.{command_line_of_request};
+ghost use Rattle.sudoers_match.specs.Answer.{command_with_joined_arguments_of_request};
 ghost use Rattle.sudoers_match.specs.Default.{IsRunasDefault};
 ghost use Rattle.sudoers_match.specs.internal.Question.{IsValidRequestCache, DecidesWhetherRunasGroupsAllow, DecidesWhetherRunasSpecAllows};
 ghost use Rattle.sudoers_match.specs.Runas.{is_group_absent_or_among};
@@ -19,7 +19,7 @@ use sudoers_match_list::{
     AcyclicWalk, AliasVerdictCache, RunasGroupListKind, UserListKind, Verdict,
 };
 use sudoers_match_member::{
-    CommandLine, Group, Request, belongs_to_group_number, is_same_name_ignoring_case,
+    CommandLine, Group, Request, has_group_of_number, is_same_name_ignoring_case,
 };
 use sudoers_tree::{Kind, MemberRow, RowsOfTable};
 
@@ -30,7 +30,7 @@ pub struct RequestContext<'a, 'b> {
     pub request: &'b Request,
     /// The command with its arguments, joined.
     pub command: &'b CommandLine,
-    ghost command_is: { command.now ≡ command_line_of_request request.now },
+    ghost command_is: { command.now ≡ command_with_joined_arguments_of_request request.now },
 }
 
 /// What is known for one request: the verdicts on its user, on its host, on the user and the group as whom the command is to run, and
@@ -63,7 +63,10 @@ impl<'a> RequestVerdictCache<'a> {
         requires { IsRunasDefault policy.now request.now.who default.now }
         ensures { IfOk result (λ question. IsValidRequestCache policy.now request.now question) }
     {
-        let own = is_requested_group_among(request.target.groups.as_slice(), &request.target_group);
+        let own = is_requested_group_absent_or_among(
+            request.target.groups.as_slice(),
+            &request.target_group,
+        );
         let users = policy.make_verdict_cache(alloc)?;
         let hosts = policy.make_verdict_cache(alloc)?;
         let targets = policy.make_verdict_cache(alloc)?;
@@ -107,7 +110,10 @@ impl<'a> RequestVerdictCache<'a> {
             if request.target.uid != user.uid {
                 Ok(false)
             } else if runas.groups.rows.is_empty() {
-                Ok(is_requested_group_among(user.groups.as_slice(), &request.target_group))
+                Ok(is_requested_group_absent_or_among(
+                    user.groups.as_slice(),
+                    &request.target_group,
+                ))
             } else {
                 self.allows_requested_group(asked, &runas.groups)
             }
@@ -172,11 +178,11 @@ impl<'a> RequestVerdictCache<'a> {
 }
 
 /// Returns whether no group is asked for, or it is one of `groups`.
-fn is_requested_group_among(groups: &[Group], group: &Option<Group>) -> bool
+fn is_requested_group_absent_or_among(groups: &[Group], group: &Option<Group>) -> bool
     ensures { result ≡ is_group_absent_or_among groups.now group.now }
 {
     match group {
-        Some(group) => belongs_to_group_number(groups, group.gid),
+        Some(group) => has_group_of_number(groups, group.gid),
         None => true,
     }
 }

@@ -1,7 +1,7 @@
 //! The words of a request.
 
 ghost use Rattle.std.specs.Prelude.{◌≡◌, IfOk};
-ghost use Rattle.sudoers_match.specs.Answer.{command_line_of_request, words_joined_with_spaces};
+ghost use Rattle.sudoers_match.specs.Answer.{command_with_joined_arguments_of_request, words_joined_with_spaces};
 
 use std::alloc::{AllocError, Global};
 use sudoers_grammar::Items;
@@ -31,8 +31,11 @@ pub fn join_words(alloc: Global, words: &[Items<u8>]) -> Result<Vec<u8>, AllocEr
 /// # Errors
 ///
 /// Memory ran out.
-pub fn make_joined_command_line(alloc: Global, request: &Request) -> Result<CommandLine, AllocError>
-    ensures { IfOk result (λ command. command ≡ command_line_of_request request.now) }
+pub fn make_command_with_joined_arguments(
+    alloc: Global,
+    request: &Request,
+) -> Result<CommandLine, AllocError>
+    ensures { IfOk result (λ command. command ≡ command_with_joined_arguments_of_request request.now) }
 {
     let path = Items::from_slice(alloc, request.command.as_slice())?;
     let args = join_words(alloc, request.args.as_slice())?;

@@ -6,7 +6,7 @@ ghost use Rattle.std.specs.Borrow.{Bor};
 ghost use Rattle.sudoers_grammar.specs.declared.node.Kind.TheVariants.{User as OfUsers, Host as OfHosts};
 ghost use Rattle.sudoers_line_rows.specs.View.{parameter_of_view, parameters_of_view, scope_of_view};
 ghost use Rattle.sudoers_match_member.specs.Hits.{is_user_atom_match, is_host_atom_match};
-ghost use Rattle.sudoers_check.specs.Chains.{HasReachableCycle};
+ghost use Rattle.sudoers_check.specs.Chains.{HasCyclicAliasReachedFromSpecOrDefaults};
 ghost use Rattle.sudoers_match_list.specs.declared.verdict.AskFault.TheVariants.{Cycle, NoMemory};
 ghost use Rattle.sudoers_match_list.specs.Search.{IsValidVerdictCache};
 ghost use Rattle.sudoers_match.specs.Last.{last_item_of};
@@ -42,7 +42,7 @@ fn read_runas_default_param<'a>(param: &Param<'a>) -> Option<&'a [u8]>
 }
 
 /// Returns the value of the last setting of runas_default.
-fn find_last_runas_default<'a>(params: &RowsOfTable<'a, ParamRow>) -> Option<&'a [u8]>
+fn find_last_runas_default_in_params<'a>(params: &RowsOfTable<'a, ParamRow>) -> Option<&'a [u8]>
     ensures { option_map (λ (name : Bor (List ℕ)). name.now) result ≡ last_item_of (runas_defaults_in_params (parameters_of_view params.now)) }
 {
     let mut latest = None;
@@ -61,8 +61,8 @@ fn find_last_runas_default<'a>(params: &RowsOfTable<'a, ParamRow>) -> Option<&'a
 /// `Cycle`: a reachable alias is cyclic. `NoMemory`: memory ran out.
 pub fn runas_default<'a>(alloc: Global, policy: &'a Policy, who: &Who) -> Result<&'a [u8], AskFault>
     ensures name { IfOk result (λ name. IsRunasDefault policy.now.walk.lines who.now name.now) }
-    ensures straight { IfOk result (λ _. HasReachableCycle policy.now.walk.lines → ⊥) }
-    ensures fault { IfErr result (λ fault. (fault ≡ NoMemory) ⊎ ((fault ≡ Cycle) × HasReachableCycle policy.now.walk.lines)) }
+    ensures straight { IfOk result (λ _. HasCyclicAliasReachedFromSpecOrDefaults policy.now.walk.lines → ⊥) }
+    ensures fault { IfErr result (λ fault. (fault ≡ NoMemory) ⊎ ((fault ≡ Cycle) × HasCyclicAliasReachedFromSpecOrDefaults policy.now.walk.lines)) }
 {
     let policy = AcyclicWalk::new(alloc, policy.walk())?;
     Ok(find_runas_default_for(alloc, &policy, who)?)
@@ -113,7 +113,7 @@ fn find_line_runas_default<'a>(
     ensures hosts { IfOk result (λ _. IsValidVerdictCache OfHosts policy.now (is_host_atom_match who.now) hosts.new) }
     ensures latest { IfOk result (λ latest. IsLastRunasDefaultOfLine policy.now who.now (option_map scope_of_view scope.now) (parameters_of_view params.now) (option_map (λ (name : Bor (List ℕ)). name.now) latest)) }
 {
-    let Some(name) = find_last_runas_default(params) else {
+    let Some(name) = find_last_runas_default_in_params(params) else {
         return Ok(None);
     };
     if is_defaults_scope_for_user(users, hosts, policy, who, scope)? {

@@ -1,5 +1,5 @@
 -- Chains of aliases, and that there is no flat list of a list that leads to a cyclic one.
-use Rattle.sudoers_match_list.proofs.Common.{Atom, HasAliasAsMember, IsAliasCyclic, IsFlatListOf, IsReachedBySteps, Kind, LeadsToAliasInSteps, Line, List, ListHasElement, ListLeadsToAliasCycle, Member, None}
+use Rattle.sudoers_match_list.proofs.Common.{Atom, HasAliasAsMember, IsAliasCyclic, IsFlatListOf, IsReachedByChainOfSteps, Kind, LeadsToAliasInAnySteps, Line, List, ListHasElement, ListLeadsToAliasCycle, Member, None}
 use Rattle.sudoers_match_list.proofs.Common.{SignedAtom, Some, [], alias_names_among_members, alias_names_of_atom, alias_number_of_atom, alias_numbers_in_list, ap, cons_option, definitions_of_lines, here, inl, inr}
 use Rattle.sudoers_match_list.proofs.Common.{many, none, numbers_of_defined_names, one, onward, refl, subst, sym, ℕ, ◌++◌, ◌∷◌, ◌≡◌, ◌⊎◌}
 use Rattle.sudoers_grammar.specs.declared.node.Atom.TheVariants as atom
@@ -46,10 +46,10 @@ module _ (kd : Kind) (lines : List Line) where
       by (atom.Sudoedit a) e = absurd cc
 
   abbrev From : List ℕ → ℕ → Type 0
-  From ks = IsReachedBySteps (HasAliasAsMember kd lines) (ListHasElement ks)
+  From ks = IsReachedByChainOfSteps (HasAliasAsMember kd lines) (ListHasElement ks)
 
   -- a chain from several comes from the first or from the others
-  first_or_others : (k : ℕ) (ks : List ℕ) (x : ℕ) → From (k ∷ ks) x → (k ≡ x) ⊎ (IsReachedBySteps (HasAliasAsMember kd lines) (HasAliasAsMember kd lines k) x ⊎ From ks x)
+  first_or_others : (k : ℕ) (ks : List ℕ) (x : ℕ) → From (k ∷ ks) x → (k ≡ x) ⊎ (IsReachedByChainOfSteps (HasAliasAsMember kd lines) (HasAliasAsMember kd lines k) x ⊎ From ks x)
   first_or_others k ks x (here y (inl e)) = inl e
   first_or_others k ks x (here y (inr h)) = inr (inr (here y h))
   first_or_others k ks x (onward y z c s) = elim (first_or_others k ks y c) [
@@ -70,7 +70,7 @@ module _ (kd : Kind) (lines : List Line) where
       let number = some_number kd lines m.atom members e in
       let k = number.0 in
       elim (first_or_others k (alias_numbers_in_list kd lines rest) x (subst (λ ks. From ks x) (front_some m rest k number.1) c)) [
-        | inl same ↦ none_cyclic members inner i x (subst (λ xs. From (alias_numbers_in_list kd lines xs) x) (sym number.2) (subst (λ u. IsReachedBySteps (HasAliasAsMember kd lines) (HasAliasAsMember kd lines u) x) (sym same) cyclic)) cyclic
+        | inl same ↦ none_cyclic members inner i x (subst (λ xs. From (alias_numbers_in_list kd lines xs) x) (sym number.2) (subst (λ u. IsReachedByChainOfSteps (HasAliasAsMember kd lines) (HasAliasAsMember kd lines u) x) (sym same) cyclic)) cyclic
         | inr h ↦ elim h [
           | inl d ↦ none_cyclic members inner i x (subst (λ xs. From (alias_numbers_in_list kd lines xs) x) (sym number.2) d) cyclic
           | inr d ↦ none_cyclic rest more f x d cyclic
@@ -82,16 +82,16 @@ module _ (kd : Kind) (lines : List Line) where
 
   -- ---- ways
 
-  pub path_on : (P : ℕ → Type 0) (v w : ℕ) → IsReachedBySteps (HasAliasAsMember kd lines) P v → LeadsToAliasInSteps kd lines v w → IsReachedBySteps (HasAliasAsMember kd lines) P w
-  path_on P v w c (here x e) = subst (IsReachedBySteps (HasAliasAsMember kd lines) P) e c
+  pub path_on : (P : ℕ → Type 0) (v w : ℕ) → IsReachedByChainOfSteps (HasAliasAsMember kd lines) P v → LeadsToAliasInAnySteps kd lines v w → IsReachedByChainOfSteps (HasAliasAsMember kd lines) P w
+  path_on P v w c (here x e) = subst (IsReachedByChainOfSteps (HasAliasAsMember kd lines) P) e c
   path_on P v w c (onward x y p s) = onward x y (path_on P v x c p) s
 
-  pub from_path : (P : ℕ → Type 0) (v w : ℕ) → P v → LeadsToAliasInSteps kd lines v w → IsReachedBySteps (HasAliasAsMember kd lines) P w
+  pub from_path : (P : ℕ → Type 0) (v w : ℕ) → P v → LeadsToAliasInAnySteps kd lines v w → IsReachedByChainOfSteps (HasAliasAsMember kd lines) P w
   from_path P v w p c = path_on P v w (here v p) c
 
-  pub same_path : (v : ℕ) → LeadsToAliasInSteps kd lines v v
+  pub same_path : (v : ℕ) → LeadsToAliasInAnySteps kd lines v v
   same_path v = here v refl
 
   -- a way to an alias that leads back closes a cycle
-  pub closes : (v w : ℕ) → LeadsToAliasInSteps kd lines v w → HasAliasAsMember kd lines w v → IsAliasCyclic kd lines w
+  pub closes : (v w : ℕ) → LeadsToAliasInAnySteps kd lines v w → HasAliasAsMember kd lines w v → IsAliasCyclic kd lines w
   closes v w p s = from_path (HasAliasAsMember kd lines w) v w s p

@@ -1,5 +1,5 @@
 -- Definitions by the lines that have them.
-use Rattle.sudoers_match_list.proofs.Common.{Def, Kind, Line, List, Member, Node, Some, [], alias_line_if_any, alias_lines_from}
+use Rattle.sudoers_match_list.proofs.Common.{Def, Kind, Line, List, Member, Node, Some, [], alias_line_if_any, alias_lines_of_lines_numbered_from}
 use Rattle.sudoers_match_list.proofs.Common.{ap, append-nil, ap₂, arith, definition_count_in_node, definitions_from_line_number, definitions_from_place, definitions_in_line, definitions_of_lines, drop}
 use Rattle.sudoers_match_list.proofs.Common.{kind_and_members_of_def, kind_and_members_of_definition, kinds_and_members_in_line}
 use Rattle.sudoers_match_list.proofs.Common.{kinds_and_members_in_node, map, map-append, refl, slice_get, suc, sym}
@@ -40,13 +40,13 @@ module _ (all : List Line) where
   at_first n number line (node.Spec users groups) e at = refl
 
   at_firsts : (n number : ℕ) (lines : List Line) → drop n all ≡ lines
-      → flat_map (kinds_and_members_at_alias_line all) (alias_lines_from n number lines) ≡ map kind_and_members_of_definition (definitions_from_line_number n lines)
+      → flat_map (kinds_and_members_at_alias_line all) (alias_lines_of_lines_numbered_from n number lines) ≡ map kind_and_members_of_definition (definitions_from_line_number n lines)
   at_firsts n number [] e = refl
   at_firsts n number (line ∷ lines) e =
       let at = first_of_rest_is_element_at_index n all line lines e in
-      flat_map-append (kinds_and_members_at_alias_line all) (alias_line_if_any n number (definition_count_in_node line.node)) (alias_lines_from (n + 1) (number + definition_count_in_node line.node) lines)
+      flat_map-append (kinds_and_members_at_alias_line all) (alias_line_if_any n number (definition_count_in_node line.node)) (alias_lines_of_lines_numbered_from (n + 1) (number + definition_count_in_node line.node) lines)
       ∙ ap₂ (λ xs ys. xs ++ ys) (at_first n number line line.node refl at.0) (at_firsts (n + 1) (number + definition_count_in_node line.node) lines (ap (λ i. drop i all) (number_plus_one_is_successor n) ∙ at.1))
       ∙ sym (map-append kind_and_members_of_definition (definitions_in_line n line.node) (definitions_from_line_number (n + 1) lines))
 
-pub alias_lines_give_all_definitions : (lines : List Line) → flat_map (kinds_and_members_at_alias_line lines) (alias_lines_from 0 0 lines) ≡ map kind_and_members_of_definition (definitions_of_lines lines)
+pub alias_lines_give_all_definitions : (lines : List Line) → flat_map (kinds_and_members_at_alias_line lines) (alias_lines_of_lines_numbered_from 0 0 lines) ≡ map kind_and_members_of_definition (definitions_of_lines lines)
 alias_lines_give_all_definitions lines = at_firsts lines 0 0 lines refl

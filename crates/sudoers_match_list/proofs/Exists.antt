@@ -1,5 +1,5 @@
 -- A list that leads to no cyclic alias has a flat list.
-use Rattle.sudoers_match_list.proofs.Common.{Bool, HasAliasAsMember, IsFlatListOf, IsReachedBySteps, Kind, Line, List, ListHasElement, ListLeadsToAliasCycle, ListLeadsToCyclicAlias, Member, None, SignedAtom, Some}
+use Rattle.sudoers_match_list.proofs.Common.{Bool, HasAliasAsMember, IsFlatListOf, IsReachedByChainOfSteps, Kind, Line, List, ListHasElement, ListLeadsToAliasCycle, ListLeadsToCyclicAlias, Member, None, SignedAtom, Some}
 use Rattle.sudoers_match_list.proofs.Common.{[], alias_number_of_atom, alias_numbers_in_list, ap, arith, definitions_of_lines, false, chain_from_some_is_chain_from_superset, get-set, here, inl, inr, length, length-replicate, length-set, map}
 use Rattle.sudoers_match_list.proofs.Common.{members_of_definition_number, onward, refl, replicate, set, signed_atom_of_member, signed_atom_under_negation, slice_get, subst, suc, sym, true, zero, ℕ, ◌++◌, ◌<◌, ◌∙◌}
 use Rattle.sudoers_match_list.proofs.Common.{◌∷◌, ◌≡◌, ◌≤◌, ◌⊎◌}
@@ -33,7 +33,7 @@ module _ (kd : Kind) (lines : List Line) where
 
   -- Whatever is marked leads to the aliases of the list, by one or more steps.
   abbrev Context : List Bool → List Member → Type 0
-  Context marks ms = (v j : ℕ) → slice_get marks v ≡ Some true → ListHasElement (alias_numbers_in_list kd lines ms) j → IsReachedBySteps (HasAliasAsMember kd lines) (HasAliasAsMember kd lines v) j
+  Context marks ms = (v j : ℕ) → slice_get marks v ≡ Some true → ListHasElement (alias_numbers_in_list kd lines ms) j → IsReachedByChainOfSteps (HasAliasAsMember kd lines) (HasAliasAsMember kd lines v) j
 
   abbrev Deeper : ℕ → Type 0
   Deeper n = (marks : List Bool) → length marks ≡ length (definitions_of_lines lines) → unmarked_count marks ≤ n → (ms : List Member) → Context marks ms → Found n ms
@@ -51,7 +51,7 @@ module _ (kd : Kind) (lines : List Line) where
   cycle_behind m ms l = record { alias = l.alias; reached = chain_from_some_is_chain_from_superset (ListHasElement (alias_numbers_in_list kd lines ms)) (ListHasElement (alias_numbers_in_list kd lines (m ∷ ms))) (behind_front m ms) l.alias l.reached; cyclic = l.cyclic }
 
   -- a chain that goes on from where another ends
-  joined : (P : ℕ → Type 0) (k : ℕ) → IsReachedBySteps (HasAliasAsMember kd lines) P k → (x : ℕ) → IsReachedBySteps (HasAliasAsMember kd lines) (HasAliasAsMember kd lines k) x → IsReachedBySteps (HasAliasAsMember kd lines) P x
+  joined : (P : ℕ → Type 0) (k : ℕ) → IsReachedByChainOfSteps (HasAliasAsMember kd lines) P k → (x : ℕ) → IsReachedByChainOfSteps (HasAliasAsMember kd lines) (HasAliasAsMember kd lines k) x → IsReachedByChainOfSteps (HasAliasAsMember kd lines) P x
   joined P k c x (here y s) = onward k y c s
   joined P k c x (onward y z d s) = onward y z (joined P k c y d) s
 

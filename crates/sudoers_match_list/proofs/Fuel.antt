@@ -1,9 +1,9 @@
 -- How many steps of the walk are left.
-use Rattle.sudoers_match_list.proofs.Common.{AliasDecisionState, AliasSearchStep, Decided, Line, List, MemberHit, New, Open, Option, PlacedDefinition, Some, [], arith, length, members_of_definition}
+use Rattle.sudoers_match_list.proofs.Common.{AliasDecisionState, AliasSearchStep, Decided, Line, List, MemberHit, New, Open, Option, PlacedDefinition, Some, [], arith, length, members_of_optional_definition}
 use Rattle.sudoers_match_list.proofs.Common.{members_of_definition_number, refl, set, slice_get, steps_left_for_new_aliases, steps_left_on_stack, suc, zero, ℕ, ◌++◌, ◌+◌, ◌-◌, ◌∷◌, ◌≡◌}
 
 pub entering_alias_uses_its_search_steps : (standings : List AliasDecisionState) (ds : List PlacedDefinition) (k : ℕ) → slice_get standings k ≡ Some New → length standings ≡ length ds
-    → steps_left_for_new_aliases (set standings k Open) ds + (2 + length (members_of_definition (slice_get ds k))) ≡ steps_left_for_new_aliases standings ds
+    → steps_left_for_new_aliases (set standings k Open) ds + (2 + length (members_of_optional_definition (slice_get ds k))) ≡ steps_left_for_new_aliases standings ds
 entering_alias_uses_its_search_steps [] ds k is size = absurd cc
 entering_alias_uses_its_search_steps (s ∷ ss) [] k is size = absurd (omega arith)
 entering_alias_uses_its_search_steps (New ∷ ss) (d ∷ ds) zero is size = omega arith

@@ -1,6 +1,6 @@
 -- Chains of numbers are those of mentions.
-use Rattle.sudoers_match_list.proofs.Common.{DefinitionMentionsName, HasAliasAsMember, IsReachedBySteps, Kind, Line, List, ListHasElement, ListLeadsToAliasCycle, ListLeadsToCyclicAlias, Member, None, Option}
-use Rattle.sudoers_match_list.proofs.Common.{PlacedDefinition, Some, [], alias_names_among_members, ap, cons_option, definitions_of_lines, here, inl, inr, members_of_definition, members_of_definition_number}
+use Rattle.sudoers_match_list.proofs.Common.{DefinitionMentionsName, HasAliasAsMember, IsReachedByChainOfSteps, Kind, Line, List, ListHasElement, ListLeadsToAliasCycle, ListLeadsToCyclicAlias, Member, None, Option}
+use Rattle.sudoers_match_list.proofs.Common.{PlacedDefinition, Some, [], alias_names_among_members, ap, cons_option, definitions_of_lines, here, inl, inr, members_of_optional_definition, members_of_definition_number}
 use Rattle.sudoers_match_list.proofs.Common.{number_of_definition, numbers_of_defined_names, onward, refl, slice_get, subst, sym, ℕ, ◌∙◌, ◌∷◌, ◌≡◌, ◌⊎◌}
 use Rattle.sudoers_match_list.proofs.Numbered.{number_of_definition_is_of_its_definition, definition_of_name_has_kind_and_name}
 
@@ -35,10 +35,10 @@ module _ (kd : Kind) (lines : List Line) where
       cons_option_keeps_element_of_list (number_of_definition kd n (definitions_of_lines lines)) (numbers_of_defined_names kd names (definitions_of_lines lines)) i (has_number names name i h e)
 
   abbrev Joined : List (List ℕ) → List ℕ → Type 0
-  Joined names = IsReachedBySteps (DefinitionMentionsName kd (definitions_of_lines lines)) (ListHasElement names)
+  Joined names = IsReachedByChainOfSteps (DefinitionMentionsName kd (definitions_of_lines lines)) (ListHasElement names)
 
   -- a chain of numbers is one of names
-  pub to_names : (names : List (List ℕ)) (i : ℕ) → IsReachedBySteps (HasAliasAsMember kd lines) (ListHasElement (numbers_of_defined_names kd names (definitions_of_lines lines))) i
+  pub to_names : (names : List (List ℕ)) (i : ℕ) → IsReachedByChainOfSteps (HasAliasAsMember kd lines) (ListHasElement (numbers_of_defined_names kd names (definitions_of_lines lines))) i
       → (name : List ℕ) × (number_of_definition kd name (definitions_of_lines lines) ≡ Some i) × Joined names name
   to_names names i (here x h) = let found = name_of names x h in (found.0, found.2, here found.0 found.1)
   to_names names i (onward x y chain leads) =
@@ -53,7 +53,7 @@ module _ (kd : Kind) (lines : List Line) where
           stands = d.stands;
           of_kind = is.0;
           of_name = is.1;
-          mentions = subst (λ o. ListHasElement (alias_names_among_members (members_of_definition o)) found.0) d.at found.1;
+          mentions = subst (λ o. ListHasElement (alias_names_among_members (members_of_optional_definition o)) found.0) d.at found.1;
         }),
       )
 
@@ -71,8 +71,8 @@ module _ (kd : Kind) (lines : List Line) where
         stands = d.stands;
         of_kind = is.0;
         reached = subst (Joined (alias_names_among_members ms)) (sym is.1) to.2;
-        cyclic = subst (λ k. IsReachedBySteps (DefinitionMentionsName k (definitions_of_lines lines)) (ListHasElement (alias_names_among_members d.definition.def.members)) d.definition.def.name) (sym is.0)
-            (subst (λ o. IsReachedBySteps (DefinitionMentionsName kd (definitions_of_lines lines)) (ListHasElement (alias_names_among_members (members_of_definition o))) d.definition.def.name) d.at (subst (Joined (alias_names_among_members (members_of_definition_number lines l.alias))) called round.2));
+        cyclic = subst (λ k. IsReachedByChainOfSteps (DefinitionMentionsName k (definitions_of_lines lines)) (ListHasElement (alias_names_among_members d.definition.def.members)) d.definition.def.name) (sym is.0)
+            (subst (λ o. IsReachedByChainOfSteps (DefinitionMentionsName kd (definitions_of_lines lines)) (ListHasElement (alias_names_among_members (members_of_optional_definition o))) d.definition.def.name) d.at (subst (Joined (alias_names_among_members (members_of_definition_number lines l.alias))) called round.2));
       }
 
   -- ---- and the other way, where each definition has the number of its name
@@ -80,14 +80,14 @@ module _ (kd : Kind) (lines : List Line) where
   module _ (own : (d : PlacedDefinition) → ListHasElement (definitions_of_lines lines) d
       → (n : ℕ) × (number_of_definition d.kind d.def.name (definitions_of_lines lines) ≡ Some n) × (slice_get (definitions_of_lines lines) n ≡ Some d)) where
     to_numbers : (names : List (List ℕ)) (name : List ℕ) → Joined names name → (n : ℕ) → number_of_definition kd name (definitions_of_lines lines) ≡ Some n
-        → IsReachedBySteps (HasAliasAsMember kd lines) (ListHasElement (numbers_of_defined_names kd names (definitions_of_lines lines))) n
+        → IsReachedByChainOfSteps (HasAliasAsMember kd lines) (ListHasElement (numbers_of_defined_names kd names (definitions_of_lines lines))) n
     to_numbers names name (here x h) n e = here n (has_number names x n h e)
     to_numbers names name (onward x y chain joins) n e =
         let at = own joins.by joins.stands in
         let number : number_of_definition kd x (definitions_of_lines lines) ≡ Some at.0 =
         ap (λ k. number_of_definition k x (definitions_of_lines lines)) (sym joins.of_kind) ∙ ap (λ m. number_of_definition joins.by.kind m (definitions_of_lines lines)) (sym joins.of_name) ∙ at.1 in
         onward at.0 n (to_numbers names x chain at.0 number)
-        (has_number (alias_names_among_members (members_of_definition_number lines at.0)) y n (subst (λ o. ListHasElement (alias_names_among_members (members_of_definition o)) y) (sym at.2) joins.mentions) e)
+        (has_number (alias_names_among_members (members_of_definition_number lines at.0)) y n (subst (λ o. ListHasElement (alias_names_among_members (members_of_optional_definition o)) y) (sym at.2) joins.mentions) e)
 
     pub is_round : (ms : List Member) → ListLeadsToCyclicAlias kd lines ms → ListLeadsToAliasCycle kd lines ms
     is_round ms l =
@@ -97,5 +97,5 @@ module _ (kd : Kind) (lines : List Line) where
           alias = at.0;
           reached = to_numbers (alias_names_among_members ms) l.alias.def.name l.reached at.0 number;
           cyclic = to_numbers (alias_names_among_members (members_of_definition_number lines at.0)) l.alias.def.name
-              (subst (λ o. Joined (alias_names_among_members (members_of_definition o)) l.alias.def.name) (sym at.2) (subst (λ k. IsReachedBySteps (DefinitionMentionsName k (definitions_of_lines lines)) (ListHasElement (alias_names_among_members l.alias.def.members)) l.alias.def.name) l.of_kind l.cyclic)) at.0 number;
+              (subst (λ o. Joined (alias_names_among_members (members_of_optional_definition o)) l.alias.def.name) (sym at.2) (subst (λ k. IsReachedByChainOfSteps (DefinitionMentionsName k (definitions_of_lines lines)) (ListHasElement (alias_names_among_members l.alias.def.members)) l.alias.def.name) l.of_kind l.cyclic)) at.0 number;
         }

@@ -1,7 +1,7 @@
 -- Aliases by their numbers.
-use Rattle.sudoers_match_list.proofs.Common.{Atom, Bool, IsNumberedAlias, Kind, Line, List, ListHasElement, Member, None, Option, PlacedDefinition, Some, [], alias_members_of_atom, alias_number_of_atom, ap, bytes_eq}
+use Rattle.sudoers_match_list.proofs.Common.{Atom, Bool, AreNumberAndMembersOfAlias, Kind, Line, List, ListHasElement, Member, None, Option, PlacedDefinition, Some, [], alias_members_of_atom, alias_number_of_atom, ap, bytes_eq}
 use Rattle.sudoers_match_list.proofs.Common.{definitions_of_lines, false, false≢true, first_definition_of, if◌then◌else◌, inl, inr, is_definition_of_name, is_equal_kind, length, members_of_alias_definition}
-use Rattle.sudoers_match_list.proofs.Common.{members_of_definition, members_of_definition_number, number_of_definition, refl, slice_get, slice_get_within, suc, sym, true, zero, ℕ, ◌&&◌, ◌<◌, ◌∙◌, ◌∷◌, ◌≡◌}
+use Rattle.sudoers_match_list.proofs.Common.{members_of_optional_definition, members_of_definition_number, number_of_definition, refl, slice_get, slice_get_within, suc, sym, true, zero, ℕ, ◌&&◌, ◌<◌, ◌∙◌, ◌∷◌, ◌≡◌}
 use Rattle.std.proofs.Common.{option_map}
 use Rattle.std.proofs.lemmas.Slice.Eq.{bytes_eq-Decides}
 use Rattle.sudoers_grammar.specs.declared.node.Kind.TheVariants.{User, Runas, Host, Cmnd}
@@ -86,7 +86,7 @@ module _ (kd : Kind) (lines : List Line) where
   pub alias_some : (a : Atom) (n : ℕ) → alias_number_of_atom kd lines a ≡ Some n → alias_members_of_atom kd lines a ≡ Some (members_of_definition_number lines n)
   alias_some (atom.Alias name) n e =
       let d = number_of_definition_is_of_its_definition kd name (definitions_of_lines lines) n e in
-      ap (option_map (λ (x : PlacedDefinition). x.def.members)) d.first ∙ sym (ap (λ o. Some (members_of_definition o)) d.at)
+      ap (option_map (λ (x : PlacedDefinition). x.def.members)) d.first ∙ sym (ap (λ o. Some (members_of_optional_definition o)) d.at)
   alias_some atom.All n e = absurd cc
   alias_some (atom.Name name) n e = absurd cc
   alias_some (atom.Id i) n e = absurd cc
@@ -151,7 +151,7 @@ module _ (kd : Kind) (lines : List Line) where
 
   -- what the code finds of an alias
   pub alias_is : (name : List ℕ) (n : ℕ) (members : List Member) → number_of_definition kd name (definitions_of_lines lines) ≡ Some n → Some members ≡ members_of_alias_definition kd name lines
-      → IsNumberedAlias lines n members
+      → AreNumberAndMembersOfAlias lines n members
   alias_is name n members e is =
       let d = number_of_definition_is_of_its_definition kd name (definitions_of_lines lines) n e in
       record {

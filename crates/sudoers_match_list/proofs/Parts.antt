@@ -1,7 +1,7 @@
 -- Lists that are left to be written, and how many steps it takes.
-use Rattle.sudoers_match_list.proofs.Common.{Bool, IsAliasReplacement, Kind, Line, List, Member, MemberRow, None, Option, PendingMembers, Some, Tables, [], alias_members_of_atom, ap, append-nil, append_assoc, arith}
+use Rattle.sudoers_match_list.proofs.Common.{Bool, IsPendingPartInPlaceOfAliasMember, Kind, Line, List, Member, MemberRow, None, Option, PendingListPart, Some, Tables, [], alias_members_of_atom, ap, append-nil, append_assoc, arith}
 use Rattle.sudoers_match_list.proofs.Common.{expansion_steps, expansion_steps_left, expansion_steps_of_member, expansion_steps_of_part, false, list_expanded_n_times, list_with_aliases_expanded_once, map}
-use Rattle.sudoers_match_list.proofs.Common.{member_in_tables, member_or_alias_members, member_under_negation, members_left_to_write, members_written_of_part, refl, suc, sym, zero, ℕ, ◌++◌, ◌+◌, ◌<◌, ◌∙◌, ◌∷◌, ◌≡◌}
+use Rattle.sudoers_match_list.proofs.Common.{member_in_tables, member_or_alias_members, member_under_negation, members_left_to_write, expanded_members_of_part, refl, suc, sym, zero, ℕ, ◌++◌, ◌+◌, ◌<◌, ◌∙◌, ◌∷◌, ◌≡◌}
 use Rattle.sudoers_match_list.proofs.Common.{◌≤◌}
 use Rattle.std.proofs.lemmas.Grind.{flat_map-append}
 
@@ -58,23 +58,23 @@ module _ (k : Kind) (lines : List Line) where
   module _ (t : Tables) where
     -- ---- the last part comes first
 
-    pub left_push : (ps : List PendingMembers) (p : PendingMembers) → members_left_to_write k lines t (ps ++ p ∷ []) ≡ members_written_of_part k lines t p ++ members_left_to_write k lines t ps
-    left_push [] p = sym (append-nil (members_written_of_part k lines t p))
+    pub left_push : (ps : List PendingListPart) (p : PendingListPart) → members_left_to_write k lines t (ps ++ p ∷ []) ≡ expanded_members_of_part k lines t p ++ members_left_to_write k lines t ps
+    left_push [] p = sym (append-nil (expanded_members_of_part k lines t p))
     left_push (q ∷ ps) p =
-        ap (λ ms. ms ++ members_written_of_part k lines t q) (left_push ps p) ∙ append_assoc (members_written_of_part k lines t p) (members_left_to_write k lines t ps) (members_written_of_part k lines t q)
+        ap (λ ms. ms ++ expanded_members_of_part k lines t q) (left_push ps p) ∙ append_assoc (expanded_members_of_part k lines t p) (members_left_to_write k lines t ps) (expanded_members_of_part k lines t q)
 
-    pub steps_push : (ps : List PendingMembers) (p : PendingMembers) → expansion_steps_left k lines t (ps ++ p ∷ []) ≡ expansion_steps_of_part k lines t p + expansion_steps_left k lines t ps
+    pub steps_push : (ps : List PendingListPart) (p : PendingListPart) → expansion_steps_left k lines t (ps ++ p ∷ []) ≡ expansion_steps_of_part k lines t p + expansion_steps_left k lines t ps
     steps_push [] p = refl
     steps_push (q ∷ ps) p = let rest = steps_push ps p in omega (arith, rest)
 
     -- ---- an empty part
 
-    pub none_written : (ps : List PendingMembers) (p : PendingMembers) → p.rows.now ≡ [] → members_left_to_write k lines t ps ≡ members_left_to_write k lines t (ps ++ p ∷ [])
+    pub none_written : (ps : List PendingListPart) (p : PendingListPart) → p.rows.now ≡ [] → members_left_to_write k lines t ps ≡ members_left_to_write k lines t (ps ++ p ∷ [])
     none_written ps p e =
         let empty = ap (λ rs. list_expanded_n_times p.times k lines (map (member_under_negation p.negated) (map (member_in_tables t) rs))) e ∙ times_empty p.times in
         sym (left_push ps p ∙ ap (λ ms. ms ++ members_left_to_write k lines t ps) empty)
 
-    pub none_stepped : (ps : List PendingMembers) (p : PendingMembers) → p.rows.now ≡ [] → expansion_steps_left k lines t ps < expansion_steps_left k lines t (ps ++ p ∷ [])
+    pub none_stepped : (ps : List PendingListPart) (p : PendingListPart) → p.rows.now ≡ [] → expansion_steps_left k lines t ps < expansion_steps_left k lines t (ps ++ p ∷ [])
     none_stepped ps p e =
         let one = ap (λ rs. expansion_steps p.times k lines (map (member_in_tables t) rs)) e ∙ steps_none p.times in
         let all = steps_push ps p in
@@ -82,12 +82,12 @@ module _ (k : Kind) (lines : List Line) where
 
     -- ---- a part with a member in front, and the same part without it
 
-    module _ (ps : List PendingMembers) (p q : PendingMembers) (row : MemberRow) (rest : List MemberRow) (is : p.rows.now ≡ row ∷ rest) (others : q.rows.now ≡ rest)
+    module _ (ps : List PendingListPart) (p q : PendingListPart) (row : MemberRow) (rest : List MemberRow) (is : p.rows.now ≡ row ∷ rest) (others : q.rows.now ≡ rest)
         (negated : q.negated ≡ p.negated) (times : q.times ≡ p.times) where
       abbrev first : Member
       first = member_under_negation p.negated (member_in_tables t row)
 
-      part_split : members_written_of_part k lines t p ≡ list_expanded_n_times p.times k lines (first ∷ []) ++ members_written_of_part k lines t q
+      part_split : expanded_members_of_part k lines t p ≡ list_expanded_n_times p.times k lines (first ∷ []) ++ expanded_members_of_part k lines t q
       part_split =
           ap (λ rs. list_expanded_n_times p.times k lines (map (member_under_negation p.negated) (map (member_in_tables t) rs))) is
           ∙ times_append p.times (first ∷ []) (map (member_under_negation p.negated) (map (member_in_tables t) rest))
@@ -98,7 +98,7 @@ module _ (k : Kind) (lines : List Line) where
       pub left_split : members_left_to_write k lines t (ps ++ p ∷ []) ≡ list_expanded_n_times p.times k lines (first ∷ []) ++ members_left_to_write k lines t (ps ++ q ∷ [])
       left_split =
           left_push ps p ∙ ap (λ ms. ms ++ members_left_to_write k lines t ps) part_split
-          ∙ append_assoc (list_expanded_n_times p.times k lines (first ∷ [])) (members_written_of_part k lines t q) (members_left_to_write k lines t ps)
+          ∙ append_assoc (list_expanded_n_times p.times k lines (first ∷ [])) (expanded_members_of_part k lines t q) (members_left_to_write k lines t ps)
           ∙ ap (λ ms. list_expanded_n_times p.times k lines (first ∷ []) ++ ms) (sym (left_push ps q))
 
       pub steps_split : expansion_steps_left k lines t (ps ++ p ∷ []) + 1 ≡ expansion_steps p.times k lines (first ∷ []) + expansion_steps_left k lines t (ps ++ q ∷ [])
@@ -115,10 +115,10 @@ module _ (k : Kind) (lines : List Line) where
       plain_stepped = let split = steps_split in let one = steps_one p.times first in omega (arith, split, one)
 
       -- the members of an alias in place of the member
-      pub alias_written : (a : PendingMembers) → IsAliasReplacement k lines t p.times first a → members_left_to_write k lines t ((ps ++ q ∷ []) ++ a ∷ []) ≡ members_left_to_write k lines t (ps ++ p ∷ [])
+      pub alias_written : (a : PendingListPart) → IsPendingPartInPlaceOfAliasMember k lines t p.times first a → members_left_to_write k lines t ((ps ++ q ∷ []) ++ a ∷ []) ≡ members_left_to_write k lines t (ps ++ p ∷ [])
       alias_written a replaces = left_push (ps ++ q ∷ []) a ∙ ap (λ ms. ms ++ members_left_to_write k lines t (ps ++ q ∷ [])) replaces.same ∙ sym left_split
 
-      pub alias_stepped : (a : PendingMembers) → IsAliasReplacement k lines t p.times first a → expansion_steps_left k lines t ((ps ++ q ∷ []) ++ a ∷ []) < expansion_steps_left k lines t (ps ++ p ∷ [])
+      pub alias_stepped : (a : PendingListPart) → IsPendingPartInPlaceOfAliasMember k lines t p.times first a → expansion_steps_left k lines t ((ps ++ q ∷ []) ++ a ∷ []) < expansion_steps_left k lines t (ps ++ p ∷ [])
       alias_stepped a replaces =
           let split = steps_split in
           let push = steps_push (ps ++ q ∷ []) a in

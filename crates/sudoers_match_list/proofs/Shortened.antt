@@ -1,27 +1,27 @@
 -- Shortcuts through chains of aliases.
-use Rattle.sudoers_match_list.proofs.Common.{AreDefinitionShortcuts, Bool, IsAliasReplacement, IsChainOfAlias, IsDefinitionShortcut, IsListShortcut, Kind, Line, List, Member, None, Option, PendingMembers}
+use Rattle.sudoers_match_list.proofs.Common.{AreDefinitionShortcuts, Bool, IsPendingPartInPlaceOfAliasMember, AreEndsOfAliasChainOfAtom, IsDefinitionShortcut, IsListReachedByExpansions, Kind, Line, List, Member, None, Option, PendingListPart}
 use Rattle.sudoers_match_list.proofs.Common.{PlacedDefinition, Some, Tables, [], alias_members_of_atom, ap, arith, definitions_of_lines, expansion_steps, false, flipped_if_negated, get-set, get_or, get_push, inl}
-use Rattle.sudoers_match_list.proofs.Common.{inr, kind_and_members_of_definition, kind_and_members_of_row, kind_of_definition_at, kind_of_optional_definition, length, length-append, length-map}
-use Rattle.sudoers_match_list.proofs.Common.{list_expanded_n_times, list_with_aliases_expanded_once, map, map-append, member_in_tables, member_or_alias_members, member_under_negation, members_of_definition}
+use Rattle.sudoers_match_list.proofs.Common.{inr, kind_and_members_of_definition, kind_and_members_of_row, kind_of_definition_at, kind_of_definition_or_user, length, length-append, length-map}
+use Rattle.sudoers_match_list.proofs.Common.{list_expanded_n_times, list_with_aliases_expanded_once, map, map-append, member_in_tables, member_or_alias_members, member_under_negation, members_of_optional_definition}
 use Rattle.sudoers_match_list.proofs.Common.{members_of_definition_number, number_of_definition, option_map, refl, slice_get, slice_get-map, subst, suc, sym, true, zero, zero-add, ℕ, ◌++◌, ◌+◌, ◌<◌, ◌∙◌, ◌∷◌, ◌≡◌}
 use Rattle.sudoers_match_list.proofs.Common.{◌≤◌}
 use Rattle.std.proofs.Math.ListN.{set, length-set}
 use Rattle.sudoers_grammar.specs.declared.node.Atom.TheVariants as atom
 use Rattle.sudoers_match_list.proofs.Numbered.{alias_some, number_within, number_of_definition_is_of_its_definition, definition_of_name_has_kind_and_name}
-use Rattle.sudoers_match_list.specs.declared.expansion_source.AliasChain.{AliasChain}
-use Rattle.sudoers_match_list.specs.declared.definition_rows.DefinitionRow.{DefinitionRow}
+use Rattle.sudoers_match_list.specs.declared.expansion_source.AliasChainEnds.{AliasChainEnds}
+use Rattle.sudoers_match_list.specs.declared.definition_rows.DefinitionKindAndMembers.{DefinitionKindAndMembers}
 use Rattle.sudoers_match_list.specs.declared.alias_shortcuts.AliasShortcut.{AliasShortcut}
 use Rattle.sudoers_match_list.proofs.Parts.{members_not_negated_are_unchanged, times_alias, steps_alias}
 
 -- ---- definitions
 
 -- what a row says of the definition with its number
-pub definition_row_is_of_numbered_definition : (t : Tables) (rows : List DefinitionRow) (lines : List Line) (n : ℕ) (r : DefinitionRow) → map (kind_and_members_of_row t) rows ≡ map kind_and_members_of_definition (definitions_of_lines lines) → slice_get rows n ≡ Some r
+pub definition_row_is_of_numbered_definition : (t : Tables) (rows : List DefinitionKindAndMembers) (lines : List Line) (n : ℕ) (r : DefinitionKindAndMembers) → map (kind_and_members_of_row t) rows ≡ map kind_and_members_of_definition (definitions_of_lines lines) → slice_get rows n ≡ Some r
     → (r.kind ≡ kind_of_definition_at lines n) × (map (member_in_tables t) r.members.now ≡ members_of_definition_number lines n)
 definition_row_is_of_numbered_definition t rows lines n r same is = by (slice_get (definitions_of_lines lines) n)
     (sym (slice_get-map kind_and_members_of_definition (definitions_of_lines lines) n) ∙ ap (λ xs. slice_get xs n) (sym same) ∙ slice_get-map (kind_and_members_of_row t) rows n ∙ ap (option_map (kind_and_members_of_row t)) is)
   where
-    by : (o : Option PlacedDefinition) → option_map kind_and_members_of_definition o ≡ Some (kind_and_members_of_row t r) → (r.kind ≡ kind_of_optional_definition o) × (map (member_in_tables t) r.members.now ≡ members_of_definition o)
+    by : (o : Option PlacedDefinition) → option_map kind_and_members_of_definition o ≡ Some (kind_and_members_of_row t r) → (r.kind ≡ kind_of_definition_or_user o) × (map (member_in_tables t) r.members.now ≡ members_of_optional_definition o)
     by None e = absurd cc
     by (Some d) e =
         let two : kind_and_members_of_definition d ≡ kind_and_members_of_row t r = cc in
@@ -70,20 +70,20 @@ one_plus_number_is_successor : (j : ℕ) → 1 + j ≡ suc j
 one_plus_number_is_successor j = omega arith
 
 module _ (k : Kind) (lines : List Line) where
-  stays_there : (ms : List Member) → IsListShortcut k lines 0 false ms ms
+  stays_there : (ms : List Member) → IsListReachedByExpansions k lines 0 false ms ms
   stays_there ms = record {
     same = λ j. ap (λ i. list_expanded_n_times i k lines ms) (zero-add j) ∙ sym (members_not_negated_are_unchanged (list_expanded_n_times j k lines ms));
     fewer = λ j. let e = ap (λ i. expansion_steps i k lines ms) (zero-add j) in omega (arith, e);
   }
 
-  alias_leads : (m : Member) (ms : List Member) → alias_members_of_atom k lines m.atom ≡ Some ms → IsListShortcut k lines 1 m.negated (m ∷ []) ms
+  alias_leads : (m : Member) (ms : List Member) → alias_members_of_atom k lines m.atom ≡ Some ms → IsListReachedByExpansions k lines 1 m.negated (m ∷ []) ms
   alias_leads m ms e = record {
     same = λ j. ap (λ i. list_expanded_n_times i k lines (m ∷ [])) (one_plus_number_is_successor j) ∙ times_alias k lines j m ms e ∙ times_turned k lines j m.negated ms;
     fewer = λ j. let all = ap (λ i. expansion_steps i k lines (m ∷ [])) (one_plus_number_is_successor j) ∙ steps_alias k lines j m ms e in omega (arith, all);
   }
 
-  leads_on : (times more all : ℕ) (negated turned sign : Bool) (ms ns os : List Member) → IsListShortcut k lines times negated ms ns → IsListShortcut k lines more turned ns os
-      → all ≡ times + more → sign ≡ flipped_if_negated negated turned → IsListShortcut k lines all sign ms os
+  leads_on : (times more all : ℕ) (negated turned sign : Bool) (ms ns os : List Member) → IsListReachedByExpansions k lines times negated ms ns → IsListReachedByExpansions k lines more turned ns os
+      → all ≡ times + more → sign ≡ flipped_if_negated negated turned → IsListReachedByExpansions k lines all sign ms os
   leads_on times more all negated turned sign ms ns os first next is signs =
       let sum : (j : ℕ) → all + j ≡ times + (more + j) = λ j. omega (arith, is) in
       record {
@@ -114,8 +114,8 @@ module _ (lines : List Line) where
       let found : alias_members_of_atom k lines m.atom ≡ Some (members_of_definition_number lines e) = ap (alias_members_of_atom k lines) is ∙ alias_some k lines (atom.Alias name) e number in
       record {
         within = number_within k lines (atom.Alias name) e number;
-        of_kind = ap kind_of_optional_definition d.at ∙ (definition_of_name_has_kind_and_name k name d.definition d.is).0;
-        leads = subst (λ ms. IsListShortcut k lines 1 m.negated ms (members_of_definition_number lines e)) one (alias_leads k lines m (members_of_definition_number lines e) found);
+        of_kind = ap kind_of_definition_or_user d.at ∙ (definition_of_name_has_kind_and_name k name d.definition d.is).0;
+        leads = subst (λ ms. IsListReachedByExpansions k lines 1 m.negated ms (members_of_definition_number lines e)) one (alias_leads k lines m (members_of_definition_number lines e) found);
       }
 
   -- a shortcut with the one behind it
@@ -125,7 +125,7 @@ module _ (lines : List Line) where
     within = next.within;
     of_kind = next.of_kind ∙ first.of_kind;
     leads = leads_on (kind_of_definition_at lines n) lines s.times r.times times s.negated r.negated negated (members_of_definition_number lines n) (members_of_definition_number lines s.to) (members_of_definition_number lines r.to) first.leads
-        (subst (λ k. IsListShortcut k lines r.times r.negated (members_of_definition_number lines s.to) (members_of_definition_number lines r.to)) first.of_kind next.leads) is turned;
+        (subst (λ k. IsListReachedByExpansions k lines r.times r.negated (members_of_definition_number lines s.to) (members_of_definition_number lines r.to)) first.of_kind next.leads) is turned;
   }
 
 -- one shortcut is replaced
@@ -153,30 +153,30 @@ pushed_shortcut_extends_first_shortcuts lines n ss new s e is are = subst (AreFi
 
 -- ---- chains
 
-pub definition_rows_are_as_many_as_definitions : (t : Tables) (rows : List DefinitionRow) (lines : List Line) → map (kind_and_members_of_row t) rows ≡ map kind_and_members_of_definition (definitions_of_lines lines) → length rows ≡ length (definitions_of_lines lines)
+pub definition_rows_are_as_many_as_definitions : (t : Tables) (rows : List DefinitionKindAndMembers) (lines : List Line) → map (kind_and_members_of_row t) rows ≡ map kind_and_members_of_definition (definitions_of_lines lines) → length rows ≡ length (definitions_of_lines lines)
 definition_rows_are_as_many_as_definitions t rows lines same = sym (length-map rows (kind_and_members_of_row t)) ∙ ap length same ∙ length-map (definitions_of_lines lines) kind_and_members_of_definition
 
 -- what the code finds of a name
-pub shortcut_of_definition_is_chain_of_alias : (t : Tables) (rows : List DefinitionRow) (lines : List Line) (ss : List AliasShortcut) (k : Kind) (name : List ℕ) (n : ℕ) (s : AliasShortcut) (r q : DefinitionRow)
+pub shortcut_of_definition_is_chain_of_alias : (t : Tables) (rows : List DefinitionKindAndMembers) (lines : List Line) (ss : List AliasShortcut) (k : Kind) (name : List ℕ) (n : ℕ) (s : AliasShortcut) (r q : DefinitionKindAndMembers)
     → map (kind_and_members_of_row t) rows ≡ map kind_and_members_of_definition (definitions_of_lines lines) → AreDefinitionShortcuts lines ss → number_of_definition k name (definitions_of_lines lines) ≡ Some n
     → slice_get ss n ≡ Some s → slice_get rows n ≡ Some r → slice_get rows s.to ≡ Some q
-    → IsChainOfAlias k lines t (atom.Alias name) (record { first = r.members; last = q.members; times = s.times; negated = s.negated })
+    → AreEndsOfAliasChainOfAtom k lines t (atom.Alias name) (record { first = r.members; last = q.members; times = s.times; negated = s.negated })
 shortcut_of_definition_is_chain_of_alias t rows lines ss k name n s r q same are number at at_first at_last =
     let d = number_of_definition_is_of_its_definition k name (definitions_of_lines lines) n number in
-    let kind : kind_of_definition_at lines n ≡ k = ap kind_of_optional_definition d.at ∙ (definition_of_name_has_kind_and_name k name d.definition d.is).0 in
+    let kind : kind_of_definition_at lines n ≡ k = ap kind_of_definition_or_user d.at ∙ (definition_of_name_has_kind_and_name k name d.definition d.is).0 in
     let first = (definition_row_is_of_numbered_definition t rows lines n r same at_first).1 in
     let last = (definition_row_is_of_numbered_definition t rows lines s.to q same at_last).1 in
-    let leads : IsListShortcut k lines s.times s.negated (members_of_definition_number lines n) (members_of_definition_number lines s.to) =
-    subst (λ j. IsListShortcut j lines s.times s.negated (members_of_definition_number lines n) (members_of_definition_number lines s.to)) kind (are.each n s at).leads in
+    let leads : IsListReachedByExpansions k lines s.times s.negated (members_of_definition_number lines n) (members_of_definition_number lines s.to) =
+    subst (λ j. IsListReachedByExpansions j lines s.times s.negated (members_of_definition_number lines n) (members_of_definition_number lines s.to)) kind (are.each n s at).leads in
     record {
       found = alias_some k lines (atom.Alias name) n number ∙ ap Some (sym first);
-      leads = subst (λ ms. IsListShortcut k lines s.times s.negated ms (map (member_in_tables t) q.members.now)) (sym first)
-          (subst (IsListShortcut k lines s.times s.negated (members_of_definition_number lines n)) (sym last) leads);
+      leads = subst (λ ms. IsListReachedByExpansions k lines s.times s.negated ms (map (member_in_tables t) q.members.now)) (sym first)
+          (subst (IsListReachedByExpansions k lines s.times s.negated (members_of_definition_number lines n)) (sym last) leads);
     }
 
-module _ (k : Kind) (lines : List Line) (t : Tables) (m : Member) (c : AliasChain) (is : IsChainOfAlias k lines t m.atom c) (times left : ℕ) (less : times ≡ suc left) (p : PendingMembers) where
+module _ (k : Kind) (lines : List Line) (t : Tables) (m : Member) (c : AliasChainEnds) (is : AreEndsOfAliasChainOfAtom k lines t m.atom c) (times left : ℕ) (less : times ≡ suc left) (p : PendingListPart) where
   -- the first members of the chain in place of its alias
-  pub first_replaces : p.rows.now ≡ c.first.now → p.negated ≡ m.negated → p.times ≡ left → IsAliasReplacement k lines t times m p
+  pub first_replaces : p.rows.now ≡ c.first.now → p.negated ≡ m.negated → p.times ≡ left → IsPendingPartInPlaceOfAliasMember k lines t times m p
   first_replaces rows negated so_many =
       let ms = map (member_in_tables t) c.first.now in
       let all = ap (λ n. expansion_steps n k lines (m ∷ [])) less ∙ steps_alias k lines left m ms is.found in
@@ -191,7 +191,7 @@ module _ (k : Kind) (lines : List Line) (t : Tables) (m : Member) (c : AliasChai
       }
 
   -- the last members in place of the alias, where so many replacements are left
-  pub last_replaces : (j : ℕ) → left ≡ c.times + j → p.rows.now ≡ c.last.now → p.negated ≡ flipped_if_negated m.negated c.negated → p.times ≡ j → IsAliasReplacement k lines t times m p
+  pub last_replaces : (j : ℕ) → left ≡ c.times + j → p.rows.now ≡ c.last.now → p.negated ≡ flipped_if_negated m.negated c.negated → p.times ≡ j → IsPendingPartInPlaceOfAliasMember k lines t times m p
   last_replaces j sum rows negated so_many =
       let ms = map (member_in_tables t) c.first.now in
       let ns = map (member_in_tables t) c.last.now in

@@ -1,6 +1,6 @@
 -- What each step of the walk keeps, and that it is shorter than what was left.
-use Rattle.sudoers_match_list.proofs.Common.{AliasDecisionState, AliasSearchStep, Atom, Bool, Decided, HasAliasAsMember, IsAliasCyclic, IsConsistentAliasSearch, IsCorrectSearchStep, IsLastHitOfList, IsNumberedAlias}
-use Rattle.sudoers_match_list.proofs.Common.{IsSearchStepProgress, Kind, LeadsToAliasInSteps, Line, List, ListHasElement, Member, MemberHit, New, None, NumberedAlias, Open, Option, Some, [], alias_number_of_atom}
+use Rattle.sudoers_match_list.proofs.Common.{AliasDecisionState, AliasSearchStep, Atom, Bool, Decided, HasAliasAsMember, IsAliasCyclic, IsConsistentAliasSearch, HoldsHitOfMembersBeforeNext, IsLastHitOfList, AreNumberAndMembersOfAlias}
+use Rattle.sudoers_match_list.proofs.Common.{IsSearchStepProgress, Kind, LeadsToAliasInAnySteps, Line, List, ListHasElement, Member, MemberHit, New, None, AliasNumberAndMembers, Open, Option, Some, [], alias_number_of_atom}
 use Rattle.sudoers_match_list.proofs.Common.{alias_numbers_in_list, ap, arith, definitions_of_lines, first_step_of_alias, get-set, get_front, get_or_from_slice_get, get_push, get_pushed, hit_of_signed_atom}
 use Rattle.sudoers_match_list.proofs.Common.{hit_under_negation, inl, inr, later_hit_if_any, length, members_of_definition_number, members_of_view, onward, refl, set, signed_atom_of_member, slice_get}
 use Rattle.sudoers_match_list.proofs.Common.{slice_get_within, step_after_member, subst, suc, sym, take, take_more, zero, ℕ, ◌++◌, ◌+◌, ◌<◌, ◌∙◌, ◌∷◌, ◌≡◌, ◌≤◌}
@@ -50,7 +50,7 @@ module _ (kd : Kind) (lines : List Line) (test : Atom → Bool) (standings : Lis
         → IsSearchStepProgress kd lines test standings (way ++ s ∷ []) standings_new way_new
     step_on hit good standings_new way_new e d =
         let n = step_after_member s hit in
-        let on_way : IsCorrectSearchStep kd lines test n = record {
+        let on_way : HoldsHitOfMembersBeforeNext kd lines test n = record {
           members_are = (f.steps (length way) s (get_pushed way s)).members_are;
           within = let h = within in omega arith;
           latest = subst (λ ms. IsLastHitOfList kd lines test ms (later_hit_if_any s.latest hit)) (sym taken) good;
@@ -75,11 +75,11 @@ module _ (kd : Kind) (lines : List Line) (test : Atom → Bool) (standings : Lis
         → standings_new ≡ standings → way_new ≡ way ++ step_after_member s (hit_under_negation m.negated hit) ∷ [] → IsSearchStepProgress kd lines test standings (way ++ s ∷ []) standings_new way_new
     step_decided k hit e is = step_on (hit_under_negation m.negated hit) (alias_member_extends_last_hit kd lines test (take s.next (members_of_definition_number lines s.alias)) m k s.latest hit so_far e (f.decided k hit is))
 
-    module _ (a : NumberedAlias) (e : alias_number_of_atom kd lines m.atom ≡ Some a.number) where
+    module _ (a : AliasNumberAndMembers) (e : alias_number_of_atom kd lines m.atom ≡ Some a.number) where
       leads : HasAliasAsMember kd lines s.alias a.number
       leads = alias_member_at_index_has_listed_number kd lines (members_of_definition_number lines s.alias) s.next m a.number at e
 
-      pub step_entered : IsNumberedAlias lines a.number (members_of_view a.members) → slice_get standings a.number ≡ Some New → (way_mid : List AliasSearchStep) (standings_new : List AliasDecisionState) (way_new : List AliasSearchStep) → way_mid ≡ way ++ s ∷ []
+      pub step_entered : AreNumberAndMembersOfAlias lines a.number (members_of_view a.members) → slice_get standings a.number ≡ Some New → (way_mid : List AliasSearchStep) (standings_new : List AliasDecisionState) (way_new : List AliasSearchStep) → way_mid ≡ way ++ s ∷ []
           → standings_new ≡ set standings a.number Open → way_new ≡ way_mid ++ first_step_of_alias a ∷ []
           → IsSearchStepProgress kd lines test standings (way ++ s ∷ []) standings_new way_new
       step_entered good is way_mid standings_new way_new is_mid is_standings is_way =
@@ -98,7 +98,7 @@ module _ (kd : Kind) (lines : List Line) (test : Atom → Bool) (standings : Lis
             less = omega (arith, entering_alias_uses_its_search_steps standings (definitions_of_lines lines) k is f.size, pushed_step_adds_its_steps_left lines old n);
             rooted = λ root r p t to. elim (get_push old n p t to) [
               | inl front ↦ r p t front
-              | inr end ↦ subst (LeadsToAliasInSteps kd lines root) (ap (λ (x : AliasSearchStep). x.alias) end.1) (onward s.alias k (r (length way) s last) leads)
+              | inr end ↦ subst (LeadsToAliasInAnySteps kd lines root) (ap (λ (x : AliasSearchStep). x.alias) end.1) (onward s.alias k (r (length way) s last) leads)
             ];
           } in
           subst (λ ss. IsSearchStepProgress kd lines test standings old ss way_new) (sym is_standings)
@@ -109,6 +109,6 @@ module _ (kd : Kind) (lines : List Line) (test : Atom → Bool) (standings : Lis
       step_cycle is =
           let found = f.on_way a.number is in
           let last = get_pushed way s in
-          let path : LeadsToAliasInSteps kd lines found.1.alias s.alias = f.paths found.0 (length way) found.1 s found.2 last
+          let path : LeadsToAliasInAnySteps kd lines found.1.alias s.alias = f.paths found.0 (length way) found.1 s found.2 last
           (elim (get_push way s found.0 found.1 found.2) [ inl front ↦ let h = slice_get_within way found.0 found.1 front in omega arith | inr end ↦ omega (arith, end.0) ]) in
-          closes kd lines a.number s.alias (subst (λ j. LeadsToAliasInSteps kd lines j s.alias) found.3 path) leads
+          closes kd lines a.number s.alias (subst (λ j. LeadsToAliasInAnySteps kd lines j s.alias) found.3 path) leads

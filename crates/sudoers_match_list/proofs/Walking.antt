@@ -1,6 +1,6 @@
 -- The steps of the walk.
-use Rattle.sudoers_match_list.proofs.Common.{AliasDecisionState, AliasSearchStep, AreStepsReachedFromRoot, Atom, Bool, Decided, IsConsistentAliasSearch, IsCorrectSearchStep, IsLastHitOfList, IsNumberedAlias, Kind}
-use Rattle.sudoers_match_list.proofs.Common.{LeadsToAliasInSteps, Line, List, New, NumberedAlias, Open, Some, [], ap, arith, definitions_of_lines, first_step_of_alias, get-set, get-set_other, get-set_same, get_front}
+use Rattle.sudoers_match_list.proofs.Common.{AliasDecisionState, AliasSearchStep, AreStepsReachedFromRoot, Atom, Bool, Decided, IsConsistentAliasSearch, HoldsHitOfMembersBeforeNext, IsLastHitOfList, AreNumberAndMembersOfAlias, Kind}
+use Rattle.sudoers_match_list.proofs.Common.{LeadsToAliasInAnySteps, Line, List, New, AliasNumberAndMembers, Open, Some, [], ap, arith, definitions_of_lines, first_step_of_alias, get-set, get-set_other, get-set_same, get_front}
 use Rattle.sudoers_match_list.proofs.Common.{get_push, get_pushed, here, inl, inr, length, length-set, members_of_definition_number, members_of_view, refl, set, slice_get, slice_get_within, subst, sym, take}
 use Rattle.sudoers_match_list.proofs.Common.{take_all, ℕ, ◌++◌, ◌<◌, ◌∙◌, ◌∷◌, ◌≡◌, ◌≢◌, ◌≤◌}
 use Rattle.sudoers_match_list.proofs.Flats.{empty_list_has_no_last_hit}
@@ -16,24 +16,24 @@ module _ (kd : Kind) (lines : List Line) (test : Atom → Bool) where
     | inr new ↦ (s, subst (λ i. slice_get (way ++ s ∷ []) i ≡ Some s) (sym new.0) (get_pushed way s), same ∙ ap (λ (x : AliasSearchStep). x.alias) new.1)
   ]
 
-  pub changed : (standings : List AliasDecisionState) (way : List AliasSearchStep) (s n : AliasSearchStep) → IsConsistentAliasSearch kd lines test standings (way ++ s ∷ []) → s.alias ≡ n.alias → IsCorrectSearchStep kd lines test n
+  pub changed : (standings : List AliasDecisionState) (way : List AliasSearchStep) (s n : AliasSearchStep) → IsConsistentAliasSearch kd lines test standings (way ++ s ∷ []) → s.alias ≡ n.alias → HoldsHitOfMembersBeforeNext kd lines test n
       → IsConsistentAliasSearch kd lines test standings (way ++ n ∷ [])
   changed standings way s n f same good = record {
     size = f.size;
     decided = f.decided;
     steps = λ p t at. elim (get_push way n p t at) [
       | inl old ↦ f.steps p t (get_front way (s ∷ []) p t old)
-      | inr new ↦ subst (IsCorrectSearchStep kd lines test) new.1 good
+      | inr new ↦ subst (HoldsHitOfMembersBeforeNext kd lines test) new.1 good
     ];
     opened = λ p t at. let u = alike way s n same p t at in subst (λ k. slice_get standings k ≡ Some Open) u.2 (f.opened p u.0 u.1);
     on_way = λ k is. let found = f.on_way k is in let u = alike way n s (sym same) found.0 found.1 found.2 in (found.0, u.0, u.1, u.2 ∙ found.3);
     apart = λ p q t u at to e. let x = alike way s n same p t at in let y = alike way s n same q u to in f.apart p q x.0 y.0 x.1 y.1 (x.2 ∙ e ∙ sym y.2);
     paths = λ p q t u at to le. let x = alike way s n same p t at in let y = alike way s n same q u to in
-        subst (λ k. LeadsToAliasInSteps kd lines k u.alias) x.2 (subst (LeadsToAliasInSteps kd lines x.0.alias) y.2 (f.paths p q x.0 y.0 x.1 y.1 le));
+        subst (λ k. LeadsToAliasInAnySteps kd lines k u.alias) x.2 (subst (LeadsToAliasInAnySteps kd lines x.0.alias) y.2 (f.paths p q x.0 y.0 x.1 y.1 le));
   }
 
   pub changed_root : (way : List AliasSearchStep) (s n : AliasSearchStep) → s.alias ≡ n.alias → (root : ℕ) → AreStepsReachedFromRoot kd lines root (way ++ s ∷ []) → AreStepsReachedFromRoot kd lines root (way ++ n ∷ [])
-  changed_root way s n same root r p t at = let u = alike way s n same p t at in subst (LeadsToAliasInSteps kd lines root) u.2 (r p u.0 u.1)
+  changed_root way s n same root r p t at = let u = alike way s n same p t at in subst (LeadsToAliasInAnySteps kd lines root) u.2 (r p u.0 u.1)
 
   -- ---- the last alias of the way is decided
 
@@ -74,8 +74,8 @@ module _ (kd : Kind) (lines : List Line) (test : Atom → Bool) where
 
   -- ---- an alias is entered
 
-  pub entered : (standings : List AliasDecisionState) (way : List AliasSearchStep) (a : NumberedAlias) → IsConsistentAliasSearch kd lines test standings way → IsNumberedAlias lines a.number (members_of_view a.members)
-      → slice_get standings a.number ≡ Some New → ((p : ℕ) (t : AliasSearchStep) → slice_get way p ≡ Some t → LeadsToAliasInSteps kd lines t.alias a.number)
+  pub entered : (standings : List AliasDecisionState) (way : List AliasSearchStep) (a : AliasNumberAndMembers) → IsConsistentAliasSearch kd lines test standings way → AreNumberAndMembersOfAlias lines a.number (members_of_view a.members)
+      → slice_get standings a.number ≡ Some New → ((p : ℕ) (t : AliasSearchStep) → slice_get way p ≡ Some t → LeadsToAliasInAnySteps kd lines t.alias a.number)
       → IsConsistentAliasSearch kd lines test (set standings a.number Open) (way ++ first_step_of_alias a ∷ [])
   entered standings way a f good is reach =
       let k = a.number in
@@ -91,7 +91,7 @@ module _ (kd : Kind) (lines : List Line) (test : Atom → Bool) where
         ];
         steps = λ p t at. elim (get_push way n p t at) [
           | inl old ↦ f.steps p t old
-          | inr new ↦ subst (IsCorrectSearchStep kd lines test) new.1 (record { members_are = good.members_are; within = omega arith; latest = empty_list_has_no_last_hit kd lines test })
+          | inr new ↦ subst (HoldsHitOfMembersBeforeNext kd lines test) new.1 (record { members_are = good.members_are; within = omega arith; latest = empty_list_has_no_last_hit kd lines test })
         ];
         opened = λ p t at. elim (get_push way n p t at) [
           | inl old ↦ get-set_other standings k t.alias Open (other p t old) ∙ f.opened p t old
@@ -116,7 +116,7 @@ module _ (kd : Kind) (lines : List Line) (test : Atom → Bool) where
             | inl old ↦ f.paths p q t u old older le
             | inr new ↦ absurd (omega (arith, slice_get_within way q u older, new.0))
           ]
-          | inr newer ↦ subst (LeadsToAliasInSteps kd lines t.alias) (ap (λ (x : AliasSearchStep). x.alias) newer.1) (elim (get_push way n p t at) [
+          | inr newer ↦ subst (LeadsToAliasInAnySteps kd lines t.alias) (ap (λ (x : AliasSearchStep). x.alias) newer.1) (elim (get_push way n p t at) [
             | inl old ↦ reach p t old
             | inr new ↦ here k (ap (λ (x : AliasSearchStep). x.alias) (sym new.1))
           ])

@@ -1,7 +1,7 @@
 -- What holds when the walk is over.
-use Rattle.sudoers_match_list.proofs.Common.{AliasDecisionState, AliasLeadsToCycle, AliasSearchStep, Atom, Bool, Decided, IsAliasCyclic, IsAliasEntered, IsAliasMet, IsConsistentAliasSearch, IsLastHitOfList}
-use Rattle.sudoers_match_list.proofs.Common.{IsNumberedAlias, IsSearchFromAlias, IsValidVerdictCache, Kind, LeadsToAliasInSteps, Line, List, ListHasElement, ListLeadsToCyclicAlias, Member, MemberHit, New, None}
-use Rattle.sudoers_match_list.proofs.Common.{NumberedAlias, Open, Option, Some, [], alias_number_of_atom, alias_numbers_in_list, ap, first_step_of_alias, get-set, get_or, get_push, get_pushed, here}
+use Rattle.sudoers_match_list.proofs.Common.{AliasDecisionState, AliasLeadsToCycle, AliasSearchStep, Atom, Bool, Decided, IsAliasCyclic, EntersAliasOntoStack, IsAliasMet, IsConsistentAliasSearch, IsLastHitOfList}
+use Rattle.sudoers_match_list.proofs.Common.{AreNumberAndMembersOfAlias, IsSearchFromAlias, IsValidVerdictCache, Kind, LeadsToAliasInAnySteps, Line, List, ListHasElement, ListLeadsToCyclicAlias, Member, MemberHit, New, None}
+use Rattle.sudoers_match_list.proofs.Common.{AliasNumberAndMembers, Open, Option, Some, [], alias_number_of_atom, alias_numbers_in_list, ap, first_step_of_alias, get-set, get_or, get_push, get_pushed, here}
 use Rattle.sudoers_match_list.proofs.Common.{hit_of_signed_atom, hit_under_negation, inl, inr, later_hit_if_any, length, members_of_definition_number, members_of_view, refl, signed_atom_of_member, slice_get}
 use Rattle.sudoers_match_list.proofs.Common.{slice_get-get_or, slice_get_within, subst, sym, take, take_more, ℕ, ◌++◌, ◌+◌, ◌∙◌, ◌∷◌, ◌≡◌}
 use Rattle.sudoers_match_list.specs.declared.alias_verdicts.AliasVerdictCache.{AliasVerdictCache}
@@ -13,11 +13,11 @@ use Rattle.sudoers_match_list.proofs.Walking.{entered}
 
 module _ (kd : Kind) (lines : List Line) (test : Atom → Bool) where
   -- the walk begins with an alias that was not met
-  pub begun : (old new : AliasVerdictCache) (a : NumberedAlias) → IsValidVerdictCache kd lines test old → IsNumberedAlias lines a.number (members_of_view a.members)
-      → slice_get old.standings.items a.number ≡ Some New → IsAliasEntered a old new → IsSearchFromAlias kd lines test a.number new
+  pub begun : (old new : AliasVerdictCache) (a : AliasNumberAndMembers) → IsValidVerdictCache kd lines test old → AreNumberAndMembersOfAlias lines a.number (members_of_view a.members)
+      → slice_get old.standings.items a.number ≡ Some New → EntersAliasOntoStack a old new → IsSearchFromAlias kd lines test a.number new
   begun old new a m good is e =
       let k = a.number in
-      let no_one : (p : ℕ) (t : AliasSearchStep) → slice_get [] p ≡ Some t → LeadsToAliasInSteps kd lines t.alias k = λ p t at. absurd cc in
+      let no_one : (p : ℕ) (t : AliasSearchStep) → slice_get [] p ≡ Some t → LeadsToAliasInAnySteps kd lines t.alias k = λ p t at. absurd cc in
       let made = entered kd lines test old.standings.items [] a m.1 good is no_one in
       let way_is : new.way.items ≡ first_step_of_alias a ∷ [] = e.way ∙ ap (λ w. w ++ first_step_of_alias a ∷ []) m.0 in
       record {

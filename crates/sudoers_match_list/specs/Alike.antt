@@ -14,8 +14,8 @@ IsPointwiseRelated R (x ∷ xs) [] = ⊥
 IsPointwiseRelated R (x ∷ xs) (y ∷ ys) = R x y × IsPointwiseRelated R xs ys
 
 -- the signed atom, with its atom as it is written in the second policy
-abbrev pub signed_atom_rewritten : (Atom → Atom) → SignedAtom → SignedAtom
-signed_atom_rewritten write s = record { allow = s.allow; digests = s.digests; atom = write s.atom }
+abbrev pub signed_atom_with_atom_mapped : (Atom → Atom) → SignedAtom → SignedAtom
+signed_atom_with_atom_mapped write s = record { allow = s.allow; digests = s.digests; atom = write s.atom }
 
 -- each atom is written in the second policy as in the first
 abbrev pub unchanged_atom : Atom → Atom
@@ -28,29 +28,29 @@ pub record IsMemberCounterpart (Stands : Atom → Atom → Type 0) (m n : Member
   pub atom : Stands m.atom n.atom
 
 -- Both are defined, and each member of the second is a counterpart of one of the first; or neither is defined.
-abbrev pub AreBothDefinedAlike : (Atom → Atom → Type 0) → Option (List Member) → Option (List Member) → Type 0
-AreBothDefinedAlike Stands None None = Unit {0}
-AreBothDefinedAlike Stands None (Some ns) = ⊥
-AreBothDefinedAlike Stands (Some ms) None = ⊥
-AreBothDefinedAlike Stands (Some ms) (Some ns) = IsPointwiseRelated (IsMemberCounterpart Stands) ms ns
+abbrev pub AreBothUndefinedOrCounterparts : (Atom → Atom → Type 0) → Option (List Member) → Option (List Member) → Type 0
+AreBothUndefinedOrCounterparts Stands None None = Unit {0}
+AreBothUndefinedOrCounterparts Stands None (Some ns) = ⊥
+AreBothUndefinedOrCounterparts Stands (Some ms) None = ⊥
+AreBothUndefinedOrCounterparts Stands (Some ms) (Some ns) = IsPointwiseRelated (IsMemberCounterpart Stands) ms ns
 
 -- The one atom is what is written for the other in the second policy.
-abbrev pub IsAtomRewritten : (Atom → Atom) → Atom → Atom → Type 0
-IsAtomRewritten write a b = b ≡ write a
+abbrev pub IsAtomMappedTo : (Atom → Atom) → Atom → Atom → Type 0
+IsAtomMappedTo write a b = b ≡ write a
 
 -- The second is the first, with its atom as it is written in the second policy. It may stand elsewhere.
-abbrev pub IsMemberRewritten : (Atom → Atom) → Member → Member → Type 0
-IsMemberRewritten write m n = IsMemberCounterpart (IsAtomRewritten write) m n
+abbrev pub IsMemberWithAtomMapped : (Atom → Atom) → Member → Member → Type 0
+IsMemberWithAtomMapped write m n = IsMemberCounterpart (IsAtomMappedTo write) m n
 
 -- Both are defined and have the same members, which may stand elsewhere; or neither is defined.
-abbrev pub HaveSameAliasMembers : Option (List Member) → Option (List Member) → Type 0
-HaveSameAliasMembers o p = AreBothDefinedAlike (IsAtomRewritten unchanged_atom) o p
+abbrev pub AreBothUndefinedOrHaveSameMembers : Option (List Member) → Option (List Member) → Type 0
+AreBothUndefinedOrHaveSameMembers o p = AreBothUndefinedOrCounterparts (IsAtomMappedTo unchanged_atom) o p
 
 -- Each atom names in the one policy what it names in the other.
-abbrev pub DoAliasesAgreeAfterRewrite : (Atom → Atom) → Kind → List Line → List Line → Type 0
-DoAliasesAgreeAfterRewrite write k lines others = (a : Atom) → AreBothDefinedAlike (IsAtomRewritten write) (alias_members_of_atom k lines a) (alias_members_of_atom k others (write a))
+abbrev pub HaveMappedAliasesMappedMembers : (Atom → Atom) → Kind → List Line → List Line → Type 0
+HaveMappedAliasesMappedMembers write k lines others = (a : Atom) → AreBothUndefinedOrCounterparts (IsAtomMappedTo write) (alias_members_of_atom k lines a) (alias_members_of_atom k others (write a))
 
 -- The one list has in the one policy the flat list that the other has in the other, its atoms as they are written there.
 pub record HaveSameFlatListAfterRewrite (write : Atom → Atom) (k : Kind) (lines others : List Line) (ms ns : List Member) : Type 0 where
-  pub there : (fs : List SignedAtom) → IsFlatListOf k lines ms fs → IsFlatListOf k others ns (map (signed_atom_rewritten write) fs)
-  pub back : (gs : List SignedAtom) → IsFlatListOf k others ns gs → (fs : List SignedAtom) × IsFlatListOf k lines ms fs × (gs ≡ map (signed_atom_rewritten write) fs)
+  pub there : (fs : List SignedAtom) → IsFlatListOf k lines ms fs → IsFlatListOf k others ns (map (signed_atom_with_atom_mapped write) fs)
+  pub back : (gs : List SignedAtom) → IsFlatListOf k others ns gs → (fs : List SignedAtom) × IsFlatListOf k lines ms fs × (gs ≡ map (signed_atom_with_atom_mapped write) fs)

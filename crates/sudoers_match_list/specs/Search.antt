@@ -8,13 +8,13 @@ use Rattle.sudoers_grammar.specs.Node.{Member}
 use Rattle.sudoers_line_rows.specs.View.{members_of_view}
 use Rattle.sudoers_tree.specs.Line.{Line}
 use Rattle.sudoers_tree.specs.Definition.{PlacedDefinition, definitions_of_lines}
-use Rattle.sudoers_check.specs.Chain.{ListHasElement, IsReachedBySteps}
+use Rattle.sudoers_check.specs.Chain.{ListHasElement, IsReachedByChainOfSteps}
 use Rattle.sudoers_check.specs.Chains.{alias_names_among_members}
 use Rattle.sudoers_check.specs.Numbers.{number_of_definition, numbers_of_defined_names}
-use Rattle.sudoers_match_list.specs.declared.numbered_alias.NumberedAlias.{NumberedAlias}
+use Rattle.sudoers_match_list.specs.declared.numbered_alias.AliasNumberAndMembers.{AliasNumberAndMembers}
 use Rattle.sudoers_match_list.specs.declared.verdict.MemberHit.{MemberHit}
-use Rattle.sudoers_match_list.specs.declared.verdict.ListDecision.{ListDecision}
-use Rattle.sudoers_match_list.specs.declared.verdict.ListDecision.TheVariants.{Latest, Cyclic}
+use Rattle.sudoers_match_list.specs.declared.verdict.LastHitOrCycle.{LastHitOrCycle}
+use Rattle.sudoers_match_list.specs.declared.verdict.LastHitOrCycle.TheVariants.{Latest, Cyclic}
 use Rattle.sudoers_match_list.specs.declared.alias_verdicts.AliasDecisionState.{AliasDecisionState}
 use Rattle.sudoers_match_list.specs.declared.alias_verdicts.AliasDecisionState.TheVariants.{New, Open, Decided}
 use Rattle.sudoers_match_list.specs.declared.alias_verdicts.AliasSearchStep.{AliasSearchStep}
@@ -27,13 +27,13 @@ abbrev pub alias_number_of_atom : Kind → List Line → Atom → Option ℕ
 alias_number_of_atom kd lines (atom.Alias name) = number_of_definition kd name (definitions_of_lines lines)
 alias_number_of_atom kd lines other = None
 
-abbrev pub members_of_definition : Option PlacedDefinition → List Member
-members_of_definition None = []
-members_of_definition (Some d) = d.def.members
+abbrev pub members_of_optional_definition : Option PlacedDefinition → List Member
+members_of_optional_definition None = []
+members_of_optional_definition (Some d) = d.def.members
 
 -- the members of the definition with this number
 abbrev pub members_of_definition_number : List Line → ℕ → List Member
-members_of_definition_number lines n = members_of_definition (slice_get (definitions_of_lines lines) n)
+members_of_definition_number lines n = members_of_optional_definition (slice_get (definitions_of_lines lines) n)
 
 -- the numbers of the aliases among members
 abbrev pub alias_numbers_in_list : Kind → List Line → List Member → List ℕ
@@ -44,20 +44,20 @@ abbrev pub HasAliasAsMember : Kind → List Line → ℕ → ℕ → Type 0
 HasAliasAsMember kd lines j k = ListHasElement (alias_numbers_in_list kd lines (members_of_definition_number lines j)) k
 
 abbrev pub IsAliasCyclic : Kind → List Line → ℕ → Type 0
-IsAliasCyclic kd lines k = IsReachedBySteps (HasAliasAsMember kd lines) (HasAliasAsMember kd lines k) k
+IsAliasCyclic kd lines k = IsReachedByChainOfSteps (HasAliasAsMember kd lines) (HasAliasAsMember kd lines k) k
 
 -- The list leads to an alias that finds itself.
 pub record ListLeadsToAliasCycle (kd : Kind) (lines : List Line) (ms : List Member) : Type 0 where
   pub alias : ℕ
-  pub reached : IsReachedBySteps (HasAliasAsMember kd lines) (ListHasElement (alias_numbers_in_list kd lines ms)) alias
+  pub reached : IsReachedByChainOfSteps (HasAliasAsMember kd lines) (ListHasElement (alias_numbers_in_list kd lines ms)) alias
   pub cyclic : IsAliasCyclic kd lines alias
 
 -- no or more steps lead from v to the alias
-abbrev pub LeadsToAliasInSteps : Kind → List Line → ℕ → ℕ → Type 0
-LeadsToAliasInSteps kd lines v = IsReachedBySteps (HasAliasAsMember kd lines) (λ x. v ≡ x)
+abbrev pub LeadsToAliasInAnySteps : Kind → List Line → ℕ → ℕ → Type 0
+LeadsToAliasInAnySteps kd lines v = IsReachedByChainOfSteps (HasAliasAsMember kd lines) (λ x. v ≡ x)
 
 -- The step has the verdict of the members before the next.
-pub record IsCorrectSearchStep (kd : Kind) (lines : List Line) (test : Atom → Bool) (s : AliasSearchStep) : Type 0 where
+pub record HoldsHitOfMembersBeforeNext (kd : Kind) (lines : List Line) (test : Atom → Bool) (s : AliasSearchStep) : Type 0 where
   pub members_are : members_of_view s.members ≡ members_of_definition_number lines s.alias
   pub within : s.next ≤ length (members_of_definition_number lines s.alias)
   pub latest : IsLastHitOfList kd lines test (take s.next (members_of_definition_number lines s.alias)) s.latest
@@ -65,14 +65,14 @@ pub record IsCorrectSearchStep (kd : Kind) (lines : List Line) (test : Atom → 
 pub record IsConsistentAliasSearch (kd : Kind) (lines : List Line) (test : Atom → Bool) (standings : List AliasDecisionState) (way : List AliasSearchStep) : Type 0 where
   pub size : length standings ≡ length (definitions_of_lines lines)
   pub decided : (k : ℕ) (hit : Option MemberHit) → slice_get standings k ≡ Some (Decided hit) → IsLastHitOfList kd lines test (members_of_definition_number lines k) hit
-  pub steps : (p : ℕ) (s : AliasSearchStep) → slice_get way p ≡ Some s → IsCorrectSearchStep kd lines test s
+  pub steps : (p : ℕ) (s : AliasSearchStep) → slice_get way p ≡ Some s → HoldsHitOfMembersBeforeNext kd lines test s
   pub opened : (p : ℕ) (s : AliasSearchStep) → slice_get way p ≡ Some s → slice_get standings s.alias ≡ Some Open
   pub on_way : (k : ℕ) → slice_get standings k ≡ Some Open → (p : ℕ) × (s : AliasSearchStep) × (slice_get way p ≡ Some s) × (s.alias ≡ k)
   pub apart : (p q : ℕ) (s t : AliasSearchStep) → slice_get way p ≡ Some s → slice_get way q ≡ Some t → s.alias ≡ t.alias → p ≡ q
-  pub paths : (p q : ℕ) (s t : AliasSearchStep) → slice_get way p ≡ Some s → slice_get way q ≡ Some t → p ≤ q → LeadsToAliasInSteps kd lines s.alias t.alias
+  pub paths : (p q : ℕ) (s t : AliasSearchStep) → slice_get way p ≡ Some s → slice_get way q ≡ Some t → p ≤ q → LeadsToAliasInAnySteps kd lines s.alias t.alias
 
 abbrev pub AreStepsReachedFromRoot : Kind → List Line → ℕ → List AliasSearchStep → Type 0
-AreStepsReachedFromRoot kd lines root way = (p : ℕ) (s : AliasSearchStep) → slice_get way p ≡ Some s → LeadsToAliasInSteps kd lines root s.alias
+AreStepsReachedFromRoot kd lines root way = (p : ℕ) (s : AliasSearchStep) → slice_get way p ≡ Some s → LeadsToAliasInAnySteps kd lines root s.alias
 
 -- how many steps are left for aliases that were not met, and for those on the way
 abbrev pub steps_left_for_new_aliases : List AliasDecisionState → List PlacedDefinition → ℕ
@@ -99,19 +99,19 @@ pub record IsSearchStepProgress (kd : Kind) (lines : List Line) (test : Atom →
   pub less : search_steps_left lines standings_new way_new < search_steps_left lines standings way
   pub rooted : (root : ℕ) → AreStepsReachedFromRoot kd lines root way → AreStepsReachedFromRoot kd lines root way_new
 
-abbrev pub first_step_of_alias : NumberedAlias → AliasSearchStep
+abbrev pub first_step_of_alias : AliasNumberAndMembers → AliasSearchStep
 first_step_of_alias a = record { alias = a.number; members = a.members; next = 0; latest = None }
 
 abbrev pub step_after_member : AliasSearchStep → Option MemberHit → AliasSearchStep
 step_after_member s hit = record { alias = s.alias; members = s.members; next = s.next + 1; latest = later_hit_if_any s.latest hit }
 
 -- These are the number and the members of an alias.
-pub record IsNumberedAlias (lines : List Line) (number : ℕ) (members : List Member) : Type 0 where
+pub record AreNumberAndMembersOfAlias (lines : List Line) (number : ℕ) (members : List Member) : Type 0 where
   pub within : number < length (definitions_of_lines lines)
   pub members_are : members ≡ members_of_definition_number lines number
 
 -- The alias is entered.
-pub record IsAliasEntered (alias : NumberedAlias) (old new : AliasVerdictCache) : Type 0 where
+pub record EntersAliasOntoStack (alias : AliasNumberAndMembers) (old new : AliasVerdictCache) : Type 0 where
   pub standings : new.standings.items ≡ slice_set old.standings.items alias.number Open
   pub way : new.way.items ≡ old.way.items ++ first_step_of_alias alias ∷ []
 
@@ -124,17 +124,17 @@ pub record IsSearchFromAlias (kd : Kind) (lines : List Line) (test : Atom → Bo
 -- An alias leads to one that is cyclic.
 pub record AliasLeadsToCycle (kd : Kind) (lines : List Line) (alias : ℕ) : Type 0 where
   pub cyclic : ℕ
-  pub reached : LeadsToAliasInSteps kd lines alias cyclic
+  pub reached : LeadsToAliasInAnySteps kd lines alias cyclic
   pub is_cyclic : IsAliasCyclic kd lines cyclic
 
 -- No alias is open.
 abbrev pub IsValidVerdictCache : Kind → List Line → (Atom → Bool) → AliasVerdictCache → Type 0
 IsValidVerdictCache kd lines test verdicts = (verdicts.way.items ≡ []) × IsConsistentAliasSearch kd lines test verdicts.standings.items []
 
-abbrev pub IsAliasDecision : Kind → List Line → (Atom → Bool) → ℕ → AliasVerdictCache → ListDecision → Type 0
-IsAliasDecision kd lines test alias verdicts (Latest hit) = IsValidVerdictCache kd lines test verdicts × IsLastHitOfList kd lines test (members_of_definition_number lines alias) hit
-IsAliasDecision kd lines test alias verdicts Cyclic = AliasLeadsToCycle kd lines alias
+abbrev pub IsLastHitOrCycleOfAlias : Kind → List Line → (Atom → Bool) → ℕ → AliasVerdictCache → LastHitOrCycle → Type 0
+IsLastHitOrCycleOfAlias kd lines test alias verdicts (Latest hit) = IsValidVerdictCache kd lines test verdicts × IsLastHitOfList kd lines test (members_of_definition_number lines alias) hit
+IsLastHitOrCycleOfAlias kd lines test alias verdicts Cyclic = AliasLeadsToCycle kd lines alias
 
-abbrev pub IsListDecision : Kind → List Line → (Atom → Bool) → List Member → AliasVerdictCache → ListDecision → Type 0
-IsListDecision kd lines test ms verdicts (Latest hit) = IsValidVerdictCache kd lines test verdicts × IsLastHitOfList kd lines test ms hit
-IsListDecision kd lines test ms verdicts Cyclic = ListLeadsToCyclicAlias kd lines ms
+abbrev pub IsLastHitOrCycleOfList : Kind → List Line → (Atom → Bool) → List Member → AliasVerdictCache → LastHitOrCycle → Type 0
+IsLastHitOrCycleOfList kd lines test ms verdicts (Latest hit) = IsValidVerdictCache kd lines test verdicts × IsLastHitOfList kd lines test ms hit
+IsLastHitOrCycleOfList kd lines test ms verdicts Cyclic = ListLeadsToCyclicAlias kd lines ms

@@ -5,11 +5,11 @@ ghost use Rattle.sudoers_grammar.specs.declared.node.Atom.{Atom as AtomOf};
 ghost use Rattle.sudoers_grammar.specs.declared.node.Kind.{Kind as KindOf};
 ghost use Rattle.sudoers_tree.specs.Line.{lines_of_rows};
 ghost use Rattle.sudoers_tree.specs.Policy.{AreValidWalkLines};
-ghost use Rattle.sudoers_check.specs.Chains.{HasReachableCycle};
+ghost use Rattle.sudoers_check.specs.Chains.{HasCyclicAliasReachedFromSpecOrDefaults};
 ghost use Rattle.sudoers_match_list.specs.declared.verdict.AskFault.TheVariants.{Cycle, NoMemory};
 ghost use Rattle.sudoers_match_list.specs.Search.{IsValidVerdictCache};
 
-use crate::alias_cycles::has_reachable_cyclic_alias;
+use crate::alias_cycles::has_reachable_cycle_in_numbered_walk;
 use crate::alias_verdicts::AliasVerdictCache;
 use crate::verdict::AskFault;
 use std::alloc::{AllocError, Global};
@@ -27,13 +27,13 @@ pub struct AcyclicWalk<'a> {
 impl<'a> Model for AcyclicWalk<'a> {
     ghost use Rattle.std.specs.Prelude.{List};
     ghost use Rattle.sudoers_tree.specs.Line.{Line};
-    ghost use Rattle.sudoers_check.specs.Chains.{HasReachableCycle};
+    ghost use Rattle.sudoers_check.specs.Chains.{HasCyclicAliasReachedFromSpecOrDefaults};
 
     ghost Value = { List Line };
 
     ghost view = { λ acyclic. acyclic.numbers.walk };
 
-    ghost invariant = { λ acyclic. HasReachableCycle acyclic.numbers.walk → ⊥ };
+    ghost invariant = { λ acyclic. HasCyclicAliasReachedFromSpecOrDefaults acyclic.numbers.walk → ⊥ };
 }
 
 impl<'a> AcyclicWalk<'a> {
@@ -44,11 +44,11 @@ impl<'a> AcyclicWalk<'a> {
     /// `Cycle`: a reachable alias is cyclic. `NoMemory`: memory ran out.
     pub fn new(alloc: Global, walk: Walk<'a>) -> Result<AcyclicWalk<'a>, AskFault>
         ensures walk { IfOk result (λ acyclic. acyclic ≡ walk.entry) }
-        ensures straight { IfOk result (λ _. HasReachableCycle walk.entry → ⊥) }
-        ensures fault { IfErr result (λ fault. (fault ≡ NoMemory) ⊎ ((fault ≡ Cycle) × HasReachableCycle walk.entry)) }
+        ensures straight { IfOk result (λ _. HasCyclicAliasReachedFromSpecOrDefaults walk.entry → ⊥) }
+        ensures fault { IfErr result (λ fault. (fault ≡ NoMemory) ⊎ ((fault ≡ Cycle) × HasCyclicAliasReachedFromSpecOrDefaults walk.entry)) }
     {
         let numbers = DefinitionNumbers::new(alloc, walk)?;
-        if has_reachable_cyclic_alias(alloc, &numbers)? {
+        if has_reachable_cycle_in_numbered_walk(alloc, &numbers)? {
             return Err(AskFault::Cycle);
         }
         Ok(AcyclicWalk { numbers })
@@ -57,7 +57,7 @@ impl<'a> AcyclicWalk<'a> {
     /// A law: the lines are a walk, and no reachable alias is cyclic.
     pub fn is_acyclic(&self)
         ensures walk { AreValidWalkLines self.now }
-        ensures straight { HasReachableCycle self.now → ⊥ }
+        ensures straight { HasCyclicAliasReachedFromSpecOrDefaults self.now → ⊥ }
     {
         // laws
         self.numbers.walk.is_walk();

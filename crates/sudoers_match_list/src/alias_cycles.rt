@@ -2,15 +2,15 @@
 
 ghost use Rattle.std.specs.Prelude.{◌↔◌, IsTrue, false, IfOk};
 ghost use Rattle.sudoers_line_rows.specs.View.{node_of_view};
-ghost use Rattle.sudoers_check.specs.Chains.{HasReachableCycle};
+ghost use Rattle.sudoers_check.specs.Chains.{HasCyclicAliasReachedFromSpecOrDefaults};
 ghost use Rattle.sudoers_match_list.specs.Cycle.{ListLeadsToCyclicAlias};
 ghost use Rattle.sudoers_match_list.specs.Search.{IsValidVerdictCache};
-ghost use Rattle.sudoers_match_list.specs.internal.Roots.{list_of_alias_named, aliases_in_spec_or_defaults, SomeAliasLeadsToCycle, AreCachesOfAllKindsValid, DecidesWhetherAliasCycles, DecidesConditionAndKeepsCaches};
+ghost use Rattle.sudoers_match_list.specs.internal.Roots.{single_member_list_naming_alias, aliases_in_spec_or_defaults, SomeAliasLeadsToCycle, AreCachesOfAllKindsValid, DecidesWhetherAliasLeadsToCycle, DecidesConditionAndKeepsCaches};
 
 use crate::alias_verdicts::AliasVerdictCache;
 use crate::kind::MemberKind;
 use crate::numbered_alias::find_alias_of_atom;
-use crate::verdict::ListDecision;
+use crate::verdict::LastHitOrCycle;
 use std::alloc::{AllocError, Global};
 use sudoers_check::DefinitionNumbers;
 use sudoers_tree::{AliasMember, BorrowedAtom, Kind, Node, Policy, find_alias_members};
@@ -47,7 +47,7 @@ fn is_cycle_reached_from_name<'a>(
     name: &[u8],
 ) -> Result<bool, AllocError>
     requires { IsValidVerdictCache kind numbers.now.walk (λ _. false) verdicts.old }
-    ensures { IfOk result (λ cycle. DecidesWhetherAliasCycles kind numbers.now.walk name.now verdicts.new cycle) }
+    ensures { IfOk result (λ cycle. DecidesWhetherAliasLeadsToCycle kind numbers.now.walk name.now verdicts.new cycle) }
 {
     // laws
     numbers.walk.is_walk();
@@ -55,8 +55,8 @@ fn is_cycle_reached_from_name<'a>(
         return Ok(false);
     };
     match verdicts.decide_alias::<NeverMatchingKind>(numbers, kind, &alias, &())? {
-        ListDecision::Latest(_) => Ok(false),
-        ListDecision::Cyclic => Ok(true),
+        LastHitOrCycle::Latest(_) => Ok(false),
+        LastHitOrCycle::Cyclic => Ok(true),
     }
 }
 
@@ -83,7 +83,7 @@ impl<'a> CycleSearchByKind<'a> {
         name: &[u8],
     ) -> Result<bool, AllocError>
         requires { AreCachesOfAllKindsValid numbers.now.walk self.old }
-        ensures { IfOk result (λ cycle. DecidesConditionAndKeepsCaches numbers.now.walk (ListLeadsToCyclicAlias kind numbers.now.walk (list_of_alias_named name.now)) self.new cycle) }
+        ensures { IfOk result (λ cycle. DecidesConditionAndKeepsCaches numbers.now.walk (ListLeadsToCyclicAlias kind numbers.now.walk (single_member_list_naming_alias name.now)) self.new cycle) }
     {
         match kind {
             Kind::User => is_cycle_reached_from_name(&mut self.users, numbers, Kind::User, name),
@@ -112,7 +112,7 @@ impl<'a> CycleSearchByKind<'a> {
     }
 
     /// Returns whether a list of a user specification or of a Defaults line leads to a cyclic alias. Other lines have no such list.
-    fn is_cycle_reached_from_line(
+    fn is_cycle_reached_from_spec_or_defaults(
         &mut self,
         alloc: Global,
         numbers: &DefinitionNumbers<'a>,
@@ -137,9 +137,9 @@ impl<'a> CycleSearchByKind<'a> {
 ///
 /// Memory ran out.
 pub fn has_reachable_cycle_in_policy(alloc: Global, policy: &Policy) -> Result<bool, AllocError>
-    ensures { IfOk result (λ cycle. IsTrue cycle ↔ HasReachableCycle policy.now.walk.lines) }
+    ensures { IfOk result (λ cycle. IsTrue cycle ↔ HasCyclicAliasReachedFromSpecOrDefaults policy.now.walk.lines) }
 {
-    has_reachable_cyclic_alias(alloc, &DefinitionNumbers::new(alloc, policy.walk())?)
+    has_reachable_cycle_in_numbered_walk(alloc, &DefinitionNumbers::new(alloc, policy.walk())?)
 }
 
 /// Returns whether such an alias of the walk that `numbers` number is cyclic.
@@ -147,17 +147,17 @@ pub fn has_reachable_cycle_in_policy(alloc: Global, policy: &Policy) -> Result<b
 /// # Errors
 ///
 /// Memory ran out.
-pub fn has_reachable_cyclic_alias(
+pub fn has_reachable_cycle_in_numbered_walk(
     alloc: Global,
     numbers: &DefinitionNumbers<'_>,
 ) -> Result<bool, AllocError>
-    ensures { IfOk result (λ cycle. IsTrue cycle ↔ HasReachableCycle numbers.now.walk) }
+    ensures { IfOk result (λ cycle. IsTrue cycle ↔ HasCyclicAliasReachedFromSpecOrDefaults numbers.now.walk) }
 {
     let mut known = CycleSearchByKind::new(alloc, numbers)?;
     let lines = numbers.walk.lines();
     for row in lines.rows {
         let node = lines.tables.node_of_row(&row.node);
-        let cycle = known.is_cycle_reached_from_line(alloc, numbers, &node)?;
+        let cycle = known.is_cycle_reached_from_spec_or_defaults(alloc, numbers, &node)?;
         if cycle {
             return Ok(true);
         }

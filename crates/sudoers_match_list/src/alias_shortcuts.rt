@@ -9,7 +9,7 @@ ghost use Rattle.sudoers_match_list.specs.Search.{members_of_definition_number};
 ghost use Rattle.sudoers_match_list.specs.internal.Shortcuts.{AreDefinitionShortcuts, IsDefinitionShortcut, kind_and_members_of_row, kind_and_members_of_definition, kind_of_definition_at};
 
 use crate::acyclic::AcyclicWalk;
-use crate::definition_rows::DefinitionRow;
+use crate::definition_rows::DefinitionKindAndMembers;
 use std::alloc::{AllocError, Global};
 use sudoers_line_rows::{AtomRow, Tables};
 
@@ -32,11 +32,11 @@ pub fn flip_sign_if_negated(negated: bool, sign: bool) -> bool
 }
 
 /// Returns the shortcut of the definition with this number: to the alias that is its one member, or to itself.
-fn find_one_step_shortcut(
+fn find_one_step_or_self_shortcut(
     policy: &AcyclicWalk<'_>,
     tables: &Tables,
     number: usize,
-    definition: &DefinitionRow<'_>,
+    definition: &DefinitionKindAndMembers<'_>,
 ) -> AliasShortcut
     requires within { number < length (definitions_of_lines policy.now) }
     requires kind { definition.now.kind ≡ kind_of_definition_at policy.now number }
@@ -68,24 +68,24 @@ fn find_one_step_shortcut(
 }
 
 /// Returns the shortcut of each definition: to the alias that is its one member, or to itself.
-fn find_one_step_shortcuts(
+fn find_one_step_or_self_shortcuts(
     alloc: Global,
     policy: &AcyclicWalk<'_>,
     tables: &Tables,
-    rows: &[DefinitionRow<'_>],
+    rows: &[DefinitionKindAndMembers<'_>],
 ) -> Result<Vec<AliasShortcut>, AllocError>
     requires { map (kind_and_members_of_row tables.now) rows.now ≡ map kind_and_members_of_definition (definitions_of_lines policy.now) }
     ensures { IfOk result (λ all. AreDefinitionShortcuts policy.now all.items) }
 {
     let mut all = Vec::new(alloc);
     for (number, row) in rows.iter().enumerate() {
-        all.push(find_one_step_shortcut(policy, tables, number, row))?;
+        all.push(find_one_step_or_self_shortcut(policy, tables, number, row))?;
     }
     Ok(all)
 }
 
 /// Returns a shortcut with the one behind it, unless it comes to more replacements than there are definitions: then it goes round.
-fn join_two_shortcuts(shortcuts: &[AliasShortcut], first: AliasShortcut) -> AliasShortcut
+fn join_shortcut_with_next(shortcuts: &[AliasShortcut], first: AliasShortcut) -> AliasShortcut
     ensures { (lines : List Line) (n : ℕ) → AreDefinitionShortcuts lines shortcuts.now → IsDefinitionShortcut lines n first → IsDefinitionShortcut lines n result }
 {
     let Some(next) = shortcuts.get(first.to) else {
@@ -103,11 +103,11 @@ fn join_two_shortcuts(shortcuts: &[AliasShortcut], first: AliasShortcut) -> Alia
 }
 
 /// Joins each shortcut with the one behind it.
-fn join_all_shortcuts(shortcuts: &mut [AliasShortcut])
+fn join_each_shortcut_with_next(shortcuts: &mut [AliasShortcut])
     ensures { (lines : List Line) → AreDefinitionShortcuts lines shortcuts.old → AreDefinitionShortcuts lines shortcuts.new }
 {
     for i in 0..shortcuts.len() {
-        shortcuts[i] = join_two_shortcuts(shortcuts, shortcuts[i]);
+        shortcuts[i] = join_shortcut_with_next(shortcuts, shortcuts[i]);
     }
 }
 
@@ -120,14 +120,14 @@ pub fn find_chain_end_shortcuts(
     alloc: Global,
     policy: &AcyclicWalk<'_>,
     tables: &Tables,
-    rows: &[DefinitionRow<'_>],
+    rows: &[DefinitionKindAndMembers<'_>],
 ) -> Result<Vec<AliasShortcut>, AllocError>
     requires { map (kind_and_members_of_row tables.now) rows.now ≡ map kind_and_members_of_definition (definitions_of_lines policy.now) }
     ensures { IfOk result (λ all. AreDefinitionShortcuts policy.now all.items) }
 {
-    let mut all = find_one_step_shortcuts(alloc, policy, tables, rows)?;
+    let mut all = find_one_step_or_self_shortcuts(alloc, policy, tables, rows)?;
     for round in 0..ROUNDS {
-        join_all_shortcuts(all.as_mut_slice());
+        join_each_shortcut_with_next(all.as_mut_slice());
     }
     Ok(all)
 }

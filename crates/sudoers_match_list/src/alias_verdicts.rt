@@ -6,11 +6,11 @@ ghost use Rattle.sudoers_grammar.specs.declared.node.Atom.{Atom as AtomOf};
 ghost use Rattle.sudoers_line_rows.specs.View.{member_of_view, members_of_view};
 ghost use Rattle.sudoers_tree.specs.Definition.{definitions_of_lines};
 ghost use Rattle.sudoers_match_list.specs.Flat.{hit_of_signed_atom, signed_atom_of_member, later_hit_if_any, hit_under_negation};
-ghost use Rattle.sudoers_match_list.specs.Search.{IsValidVerdictCache, IsConsistentAliasSearch, IsSearchStepProgress, IsAliasEntered, IsListDecision, IsAliasDecision, IsNumberedAlias, IsAliasCyclic, step_after_member};
+ghost use Rattle.sudoers_match_list.specs.Search.{IsValidVerdictCache, IsConsistentAliasSearch, IsSearchStepProgress, EntersAliasOntoStack, IsLastHitOrCycleOfList, IsLastHitOrCycleOfAlias, AreNumberAndMembersOfAlias, IsAliasCyclic, step_after_member};
 
 use crate::kind::MemberKind;
-use crate::numbered_alias::{NumberedAlias, find_alias_of_atom};
-use crate::verdict::{ListDecision, MemberHit, choose_later_hit, flip_hit_if_negated};
+use crate::numbered_alias::{AliasNumberAndMembers, find_alias_of_atom};
+use crate::verdict::{LastHitOrCycle, MemberHit, choose_later_hit, flip_hit_if_negated};
 use std::alloc::{AllocError, Global};
 use sudoers_check::DefinitionNumbers;
 use sudoers_tree::{BorrowedAtom, Kind, Member, MemberRow, RowsOfTable};
@@ -84,9 +84,9 @@ impl<'a> AliasVerdictCache<'a> {
         kind: Kind,
         members: &RowsOfTable<'_, MemberRow>,
         asked: &K::Asked,
-    ) -> Result<ListDecision, AllocError>
+    ) -> Result<LastHitOrCycle, AllocError>
         requires { IsValidVerdictCache kind numbers.now.walk (K.test asked.now) self.old }
-        ensures { IfOk result (λ decision. IsListDecision kind numbers.now.walk (K.test asked.now) (members_of_view members.now) self.new decision) }
+        ensures { IfOk result (λ decision. IsLastHitOrCycleOfList kind numbers.now.walk (K.test asked.now) (members_of_view members.now) self.new decision) }
     {
         let mut latest = None;
         let tables = members.tables;
@@ -95,13 +95,13 @@ impl<'a> AliasVerdictCache<'a> {
             let hit = match find_alias_of_atom(numbers, kind, &member.atom) {
                 None => hit_of_member::<K>(&member, asked),
                 Some(alias) => match self.decide_alias::<K>(numbers, kind, &alias, asked)? {
-                    ListDecision::Latest(hit) => flip_hit_if_negated(member.negated, hit),
-                    ListDecision::Cyclic => return Ok(ListDecision::Cyclic),
+                    LastHitOrCycle::Latest(hit) => flip_hit_if_negated(member.negated, hit),
+                    LastHitOrCycle::Cyclic => return Ok(LastHitOrCycle::Cyclic),
                 },
             };
             latest = choose_later_hit(latest, hit);
         }
-        Ok(ListDecision::Latest(latest))
+        Ok(LastHitOrCycle::Latest(latest))
     }
 
     /// Returns what an alias says.
@@ -109,30 +109,30 @@ impl<'a> AliasVerdictCache<'a> {
         &mut self,
         numbers: &DefinitionNumbers<'a>,
         kind: Kind,
-        alias: &NumberedAlias<'a>,
+        alias: &AliasNumberAndMembers<'a>,
         asked: &K::Asked,
-    ) -> Result<ListDecision, AllocError>
+    ) -> Result<LastHitOrCycle, AllocError>
         requires verdicts { IsValidVerdictCache kind numbers.now.walk (K.test asked.now) self.old }
-        requires alias { IsNumberedAlias numbers.now.walk alias.now.number (members_of_view alias.now.members) }
-        ensures { IfOk result (λ decision. IsAliasDecision kind numbers.now.walk (K.test asked.now) alias.now.number self.new decision) }
+        requires alias { AreNumberAndMembersOfAlias numbers.now.walk alias.now.number (members_of_view alias.now.members) }
+        ensures { IfOk result (λ decision. IsLastHitOrCycleOfAlias kind numbers.now.walk (K.test asked.now) alias.now.number self.new decision) }
     {
         if let AliasDecisionState::New = self.standings[alias.number] {
             self.enter(alias)?;
         }
         while let Some(step) = self.way.pop() {
-            if !self.look::<K>(numbers, kind, &step, asked)? {
-                return Ok(ListDecision::Cyclic);
+            if !self.advance_unless_cycle_is_met::<K>(numbers, kind, &step, asked)? {
+                return Ok(LastHitOrCycle::Cyclic);
             }
         }
         match self.standings[alias.number] {
-            AliasDecisionState::Decided(hit) => Ok(ListDecision::Latest(hit)),
-            _ => Ok(ListDecision::Cyclic),
+            AliasDecisionState::Decided(hit) => Ok(LastHitOrCycle::Latest(hit)),
+            _ => Ok(LastHitOrCycle::Cyclic),
         }
     }
 
     /// Looks at the next member of the last alias of the way, or decides the alias if there is none. Returns false if that member is
     /// an alias that is on the way.
-    fn look<K: MemberKind>(
+    fn advance_unless_cycle_is_met<K: MemberKind>(
         &mut self,
         numbers: &DefinitionNumbers<'a>,
         kind: Kind,
@@ -185,9 +185,9 @@ impl<'a> AliasVerdictCache<'a> {
     }
 
     /// Enters an alias that was not met.
-    fn enter(&mut self, alias: &NumberedAlias<'a>) -> Result<(), AllocError>
+    fn enter(&mut self, alias: &AliasNumberAndMembers<'a>) -> Result<(), AllocError>
         requires { alias.now.number < length self.old.standings.items }
-        ensures { OnOk result (IsAliasEntered alias.now self.old self.new) }
+        ensures { OnOk result (EntersAliasOntoStack alias.now self.old self.new) }
     {
         self.standings[alias.number] = AliasDecisionState::Open;
         self.way.push(AliasSearchStep {

@@ -13,24 +13,24 @@ use sudoers_tree::{Kind, LineRow};
 
 /// A definition: its kind, and its members.
 #[derive(Clone, Copy)]
-pub struct DefinitionRow<'a> {
+pub struct DefinitionKindAndMembers<'a> {
     pub kind: Kind,
     pub members: &'a [MemberRow],
 }
 
 /// Appends definitions of this kind.
-fn append_definitions_of_kind<'a>(
+fn append_rows_as_definitions_of_kind<'a>(
     tables: &'a Tables,
     kind: Kind,
     rows: &[AliasDefinitionRow],
-    out: &mut Vec<DefinitionRow<'a>>,
+    out: &mut Vec<DefinitionKindAndMembers<'a>>,
 ) -> Result<(), AllocError>
     ensures { OnOk result (map (kind_and_members_of_row tables.now) out.new.items
         ≡ map (kind_and_members_of_row tables.now) out.old.items ++ map (kind_and_members_of_def kind) (map (alias_definition_in_tables tables.now) rows.now)) }
 {
     for row in rows {
         let members = rows_in(tables.members.as_slice(), row.members);
-        out.push(DefinitionRow { kind, members })?;
+        out.push(DefinitionKindAndMembers { kind, members })?;
     }
     Ok(())
 }
@@ -40,14 +40,19 @@ fn append_definitions_of_kind<'a>(
 fn append_definitions_of_line<'a>(
     tables: &'a Tables,
     row: &NodeRow,
-    out: &mut Vec<DefinitionRow<'a>>,
+    out: &mut Vec<DefinitionKindAndMembers<'a>>,
 ) -> Result<(), AllocError>
     ensures { OnOk result (map (kind_and_members_of_row tables.now) out.new.items
         ≡ map (kind_and_members_of_row tables.now) out.old.items ++ kinds_and_members_in_node (node_in_tables tables.now row.now)) }
 {
     match *row {
         NodeRow::Alias { kind, defs } => {
-            append_definitions_of_kind(tables, kind, rows_in(tables.defs.as_slice(), defs), out)
+            append_rows_as_definitions_of_kind(
+                tables,
+                kind,
+                rows_in(tables.defs.as_slice(), defs),
+                out,
+            )
         }
         _ => Ok(()),
     }
@@ -57,7 +62,7 @@ fn append_definitions_of_line<'a>(
 fn append_definitions_at_line<'a>(
     lines: &RowsOfTable<'a, LineRow>,
     line: usize,
-    out: &mut Vec<DefinitionRow<'a>>,
+    out: &mut Vec<DefinitionKindAndMembers<'a>>,
 ) -> Result<(), AllocError>
     ensures { OnOk result (map (kind_and_members_of_row lines.now.tables.now) out.new.items
         ≡ map (kind_and_members_of_row lines.now.tables.now) out.old.items ++ kinds_and_members_in_line (slice_get (lines_of_rows lines.now) line)) }
@@ -77,7 +82,7 @@ pub fn list_definitions<'a>(
     alloc: Global,
     policy: &AcyclicWalk<'_>,
     lines: &RowsOfTable<'a, LineRow>,
-) -> Result<Vec<DefinitionRow<'a>>, AllocError>
+) -> Result<Vec<DefinitionKindAndMembers<'a>>, AllocError>
     requires { lines_of_rows lines.now ≡ policy.now }
     ensures { IfOk result (λ all. map (kind_and_members_of_row lines.now.tables.now) all.items ≡ map kind_and_members_of_definition (definitions_of_lines policy.now)) }
 {

@@ -5,11 +5,11 @@ ghost use Rattle.sudoers_line_rows.specs.Tables.{atom_in_tables};
 ghost use Rattle.sudoers_tree.specs.Definition.{definitions_of_lines as policy_definitions};
 ghost use Rattle.sudoers_tree.specs.Line.{lines_of_rows};
 ghost use Rattle.sudoers_match_list.specs.Flat.{alias_members_of_atom};
-ghost use Rattle.sudoers_match_list.specs.internal.Shortcuts.{AreDefinitionShortcuts, IsChainOfAlias, kind_and_members_of_row, kind_and_members_of_definition};
+ghost use Rattle.sudoers_match_list.specs.internal.Shortcuts.{AreDefinitionShortcuts, AreEndsOfAliasChainOfAtom, kind_and_members_of_row, kind_and_members_of_definition};
 
 use crate::acyclic::AcyclicWalk;
 use crate::alias_shortcuts::{AliasShortcut, find_chain_end_shortcuts};
-use crate::definition_rows::{DefinitionRow, list_definitions};
+use crate::definition_rows::{DefinitionKindAndMembers, list_definitions};
 use std::alloc::{AllocError, Global};
 use sudoers_line_rows::{AtomRow, MemberRow, RowsOfTable};
 use sudoers_tree::{Kind, LineRow};
@@ -17,7 +17,7 @@ use sudoers_tree::{Kind, LineRow};
 /// The members of an alias, and the last members of the chain of aliases that begins with it. So many replacements lead from the first
 /// to the last, and they turn signs if `negated`.
 #[derive(Clone, Copy)]
-pub struct AliasChain<'a> {
+pub struct AliasChainEnds<'a> {
     pub first: &'a [MemberRow],
     pub last: &'a [MemberRow],
     pub times: usize,
@@ -29,7 +29,7 @@ pub struct AliasChain<'a> {
 pub struct ExpansionSource<'a, 'b> {
     pub policy: &'b AcyclicWalk<'a>,
     pub lines: RowsOfTable<'a, LineRow>,
-    pub definitions: Vec<DefinitionRow<'a>>,
+    pub definitions: Vec<DefinitionKindAndMembers<'a>>,
     shortcuts: Vec<AliasShortcut>,
     pub expand: bool,
     ghost same: { lines_of_rows lines ≡ policy.now },
@@ -69,9 +69,13 @@ impl<'a, 'b> ExpansionSource<'a, 'b> {
     }
 
     /// Returns the chain of the alias that `atom` names in a list of this kind, if it is defined.
-    pub(crate) fn find(&self, kind: Kind, atom: AtomRow) -> Option<AliasChain<'a>>
+    pub(crate) fn find_alias_chain_ends_of_atom(
+        &self,
+        kind: Kind,
+        atom: AtomRow,
+    ) -> Option<AliasChainEnds<'a>>
         ensures { MatchOption result (alias_members_of_atom kind self.now.policy.now (atom_in_tables self.now.lines.tables.now atom) ≡ None)
-            (λ chain. IsChainOfAlias kind self.now.policy.now self.now.lines.tables.now (atom_in_tables self.now.lines.tables.now atom) chain) }
+            (λ chain. AreEndsOfAliasChainOfAtom kind self.now.policy.now self.now.lines.tables.now (atom_in_tables self.now.lines.tables.now atom) chain) }
     {
         let AtomRow::Alias(name) = atom else {
             return None;
@@ -83,7 +87,7 @@ impl<'a, 'b> ExpansionSource<'a, 'b> {
         let shortcut = self.shortcuts.get(number)?;
         let first = self.definitions.get(number)?;
         let last = self.definitions.get(shortcut.to)?;
-        Some(AliasChain {
+        Some(AliasChainEnds {
             first: first.members,
             last: last.members,
             times: shortcut.times,

@@ -4,12 +4,12 @@ ghost use Rattle.std.specs.Prelude.{◌≡◌, ◌⊎◌, ◌<◌, ◌≤◌, �
 ghost use Rattle.sudoers_line_rows.specs.declared.rows.Tables.{Tables as TablesOf};
 ghost use Rattle.sudoers_line_rows.specs.Tables.{member_in_tables};
 ghost use Rattle.sudoers_match_list.specs.Flattened.{expanded_member_limit, fully_expanded_list, list_expanded_n_times, member_under_negation};
-ghost use Rattle.sudoers_match_list.specs.declared.fault.FlattenFault.TheVariants.{TooLarge, NoMemory};
-ghost use Rattle.sudoers_match_list.specs.internal.Parts.{IsAliasReplacement, members_left_to_write, expansion_steps_left};
+ghost use Rattle.sudoers_match_list.specs.declared.flatten_size_fault.FlattenSizeFault.TheVariants.{TooLarge, NoMemory};
+ghost use Rattle.sudoers_match_list.specs.internal.Parts.{IsPendingPartInPlaceOfAliasMember, members_left_to_write, expansion_steps_left};
 
 use crate::alias_shortcuts::flip_sign_if_negated;
 use crate::expansion_source::ExpansionSource;
-use crate::fault::FlattenFault;
+use crate::flatten_size_fault::FlattenSizeFault;
 use std::alloc::Global;
 use sudoers_line_rows::MemberRow;
 use sudoers_tree::Kind;
@@ -19,7 +19,7 @@ pub const MEMBER_LIMIT: usize = 65_536;
 
 /// Members that are left to be written. Their signs are turned if `negated`, and their aliases are replaced so many times.
 #[derive(Clone, Copy)]
-struct PendingMembers<'a> {
+struct PendingListPart<'a> {
     rows: &'a [MemberRow],
     negated: bool,
     times: usize,
@@ -35,7 +35,7 @@ pub fn flatten_member_list<'a>(
     source: &ExpansionSource<'a, '_>,
     kind: Kind,
     rows: &'a [MemberRow],
-) -> Result<Vec<MemberRow>, FlattenFault>
+) -> Result<Vec<MemberRow>, FlattenSizeFault>
     ensures rows { IfOk result (λ new. map (member_in_tables source.now.lines.tables.now) new.items
         ≡ fully_expanded_list kind source.now.policy.now (map (member_in_tables source.now.lines.tables.now) rows.now)) }
     ensures fault { IfErr result (λ fault. (fault ≡ NoMemory) ⊎ ((fault ≡ TooLarge)
@@ -43,7 +43,7 @@ pub fn flatten_member_list<'a>(
 {
     let mut flat = Vec::new(alloc);
     let mut parts = Vec::new(alloc);
-    parts.push(PendingMembers {
+    parts.push(PendingListPart {
         rows,
         negated: false,
         times: source.policy.definition_numbers().len(),
@@ -59,10 +59,10 @@ pub fn flatten_member_list<'a>(
 fn write_next_pending_member<'a>(
     source: &ExpansionSource<'a, '_>,
     kind: Kind,
-    part: &PendingMembers<'a>,
-    parts: &mut Vec<PendingMembers<'a>>,
+    part: &PendingListPart<'a>,
+    parts: &mut Vec<PendingListPart<'a>>,
     flat: &mut Vec<MemberRow>,
-) -> Result<(), FlattenFault>
+) -> Result<(), FlattenSizeFault>
     ensures rows { OnOk result (map (member_in_tables source.now.lines.tables.now) flat.new.items
         ++ members_left_to_write kind source.now.policy.now source.now.lines.tables.now parts.new.items
         ≡ map (member_in_tables source.now.lines.tables.now) flat.old.items
@@ -76,12 +76,12 @@ fn write_next_pending_member<'a>(
     let Some((row, rest)) = part.rows.split_first() else {
         return Ok(());
     };
-    parts.push(PendingMembers {
+    parts.push(PendingListPart {
         rows: rest,
         ..*part
     })?;
     let row = flip_member_sign_if_negated(part.negated, row);
-    match find_alias_replacement(source, kind, &row, part.times) {
+    match find_pending_part_in_place_of_alias_member(source, kind, &row, part.times) {
         None => push_member_within_limit(flat, row),
         Some(members) => {
             parts.push(members)?;
@@ -91,26 +91,26 @@ fn write_next_pending_member<'a>(
 }
 
 /// Returns what comes in the place of a member, if it names an alias and aliases are still replaced, so many times.
-fn find_alias_replacement<'a>(
+fn find_pending_part_in_place_of_alias_member<'a>(
     source: &ExpansionSource<'a, '_>,
     kind: Kind,
     row: &MemberRow,
     times: usize,
-) -> Option<PendingMembers<'a>>
+) -> Option<PendingListPart<'a>>
     ensures { MatchOption result (list_expanded_n_times times kind source.now.policy.now (member_in_tables source.now.lines.tables.now row.now ∷ [])
         ≡ member_in_tables source.now.lines.tables.now row.now ∷ [])
-        (λ part. IsAliasReplacement kind source.now.policy.now source.now.lines.tables.now times (member_in_tables source.now.lines.tables.now row.now) part) }
+        (λ part. IsPendingPartInPlaceOfAliasMember kind source.now.policy.now source.now.lines.tables.now times (member_in_tables source.now.lines.tables.now row.now) part) }
 {
     let left = times.checked_sub(1)?;
-    let chain = source.find(kind, row.atom)?;
+    let chain = source.find_alias_chain_ends_of_atom(kind, row.atom)?;
     let Some(times) = left.checked_sub(chain.times) else {
-        return Some(PendingMembers {
+        return Some(PendingListPart {
             rows: chain.first,
             negated: row.negated,
             times: left,
         });
     };
-    Some(PendingMembers {
+    Some(PendingListPart {
         rows: chain.last,
         negated: flip_sign_if_negated(row.negated, chain.negated),
         times,
@@ -118,12 +118,15 @@ fn find_alias_replacement<'a>(
 }
 
 /// Appends a member, if there is room for it.
-fn push_member_within_limit(flat: &mut Vec<MemberRow>, row: MemberRow) -> Result<(), FlattenFault>
+fn push_member_within_limit(
+    flat: &mut Vec<MemberRow>,
+    row: MemberRow,
+) -> Result<(), FlattenSizeFault>
     ensures pushed { OnOk result (flat.new.items ≡ flat.old.items ++ row ∷ []) }
     ensures fault { IfErr result (λ fault. (fault ≡ NoMemory) ⊎ ((fault ≡ TooLarge) × (expanded_member_limit ≤ length flat.old.items))) }
 {
     if flat.len() >= MEMBER_LIMIT {
-        return Err(FlattenFault::TooLarge);
+        return Err(FlattenSizeFault::TooLarge);
     }
     flat.push(row)?;
     Ok(())

@@ -2,7 +2,7 @@
 
 ghost use Rattle.std.specs.Prelude.{◌≡◌, ◌↔◌, Bool, None, List, map, ◌⊎◌, ◌++◌, ◌∷◌, [], true, Some};
 ghost use Rattle.std.specs.List.{AllByRecursion};
-ghost use Rattle.sudoers_match_list.specs.Alike.{IsPointwiseRelated, HaveSameFlatListAfterRewrite, DoAliasesAgreeAfterRewrite, IsMemberRewritten, signed_atom_rewritten};
+ghost use Rattle.sudoers_match_list.specs.Alike.{IsPointwiseRelated, HaveSameFlatListAfterRewrite, HaveMappedAliasesMappedMembers, IsMemberWithAtomMapped, signed_atom_with_atom_mapped};
 ghost use Rattle.sudoers_match_list.specs.Flat.{IsFlatListOf, IsListVerdict, SignedAtom, alias_members_of_atom, is_all_atom, signed_atom_of_member, hit_of_signed_atom, later_verdict_unless_unsaid, opposite_verdict};
 ghost use Rattle.sudoers_grammar.specs.declared.node.Atom.{Atom as AtomOf};
 ghost use Rattle.sudoers_check.specs.Chain.{ListHasElement};
@@ -69,14 +69,14 @@ pub fn alias_free_list_is_flat()
 /// Where the aliases of two policies have the same members, lists of the same members have the same flat lists. The second policy may
 /// write an atom otherwise.
 pub fn rewritten_lists_are_alike()
-    ensures { (write : AtomOf → AtomOf) (k : KindOf) (lines others : List LineOf) → DoAliasesAgreeAfterRewrite write k lines others → (ms ns : List MemberOf)
-        → IsPointwiseRelated (IsMemberRewritten write) ms ns → HaveSameFlatListAfterRewrite write k lines others ms ns }
+    ensures { (write : AtomOf → AtomOf) (k : KindOf) (lines others : List LineOf) → HaveMappedAliasesMappedMembers write k lines others → (ms ns : List MemberOf)
+        → IsPointwiseRelated (IsMemberWithAtomMapped write) ms ns → HaveSameFlatListAfterRewrite write k lines others ms ns }
 {}
 
 /// Lists are alike where the flat list of the first, its atoms as they are written in the second policy, is that of the second.
 pub fn same_flat_lists_are_alike()
     ensures { (write : AtomOf → AtomOf) (k : KindOf) (lines others : List LineOf) (ms ns : List MemberOf) (fs : List SignedAtom)
-        → IsFlatListOf k lines ms fs → IsFlatListOf k others ns (map (signed_atom_rewritten write) fs) → HaveSameFlatListAfterRewrite write k lines others ms ns }
+        → IsFlatListOf k lines ms fs → IsFlatListOf k others ns (map (signed_atom_with_atom_mapped write) fs) → HaveSameFlatListAfterRewrite write k lines others ms ns }
 {}
 
 /// Lists with the same flat lists have the same verdicts, where the test holds of the same atoms.

@@ -23,7 +23,7 @@ pub struct MemberHit {
 
 /// What is found of a list.
 #[derive(Clone, Copy, Debug)]
-pub enum ListDecision {
+pub enum LastHitOrCycle {
     /// What the last matching member says, if one matches.
     Latest(Option<MemberHit>),
     /// The list leads to a cyclic alias.

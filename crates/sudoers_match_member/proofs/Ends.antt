@@ -4,12 +4,12 @@ use Rattle.std.proofs.Math.Seq.{take-append_seam, drop-append_seam}
 use Rattle.std.proofs.lemmas.List.{take-append-drop, append-nil}
 use Rattle.std.specs.List.{list_all}
 use Rattle.sudoers_match_member.specs.declared.wildcards.GlobMode.{GlobMode}
-use Rattle.sudoers_match_member.specs.declared.wildcards.GlobProgress.{GlobProgress}
-use Rattle.sudoers_match_member.specs.declared.wildcards.GlobProgress.TheVariants as run
+use Rattle.sudoers_match_member.specs.declared.wildcards.MatchOutcomeUpToStar.{MatchOutcomeUpToStar}
+use Rattle.sudoers_match_member.specs.declared.wildcards.MatchOutcomeUpToStar.TheVariants as run
 use Rattle.sudoers_match_member.specs.Wildcard.{PatternItem, Star, may_wildcard_take, pattern_item_at, items_of_pattern}
-use Rattle.sudoers_match_member.specs.Folded.{case_folded_byte, case_folded_bytes}
-use Rattle.sudoers_match_member.specs.internal.Run.{MayStarTakeRun, DoItemsMatch, DoesPatternMatch, IsGlobProgressUpToStar}
-use Rattle.sudoers_match_member.specs.internal.Count.{HaveNoStar, BeginsWithStarlessItems, CountsStarlessItems}
+use Rattle.sudoers_match_member.specs.Folded.{byte_case_folded_if_wanted, bytes_case_folded_if_wanted}
+use Rattle.sudoers_match_member.specs.internal.Run.{MayStarTakeRun, DoItemsMatch, DoesPatternMatch, IsMatchOutcomeUpToStar}
+use Rattle.sudoers_match_member.specs.internal.Count.{HaveNoStar, BeginsWithStarlessItems, IsStarlessItemCountUpToLimit}
 use Rattle.sudoers_match_member.proofs.Items.{items_of_pattern_begin_with_first_item, match_of_item_has_taken_byte}
 use Rattle.sudoers_match_member.proofs.Splits.{true_conjunction_has_true_left_part, true_conjunction_has_true_right_part, conjunction_of_true_parts_is_true}
 
@@ -80,17 +80,17 @@ counting_item_adds_one_to_starless_count pattern left n c some one long =
     }
 
 -- more of them than bytes
-pub text_shorter_than_items_is_unmatched : (mode : GlobMode) (pattern text : List ℕ) (most n : ℕ) → CountsStarlessItems pattern most n → length text < n → DoesPatternMatch mode (42 ∷ pattern) text → ⊥
+pub text_shorter_than_items_is_unmatched : (mode : GlobMode) (pattern text : List ℕ) (most n : ℕ) → IsStarlessItemCountUpToLimit pattern most n → length text < n → DoesPatternMatch mode (42 ∷ pattern) text → ⊥
 text_shorter_than_items_is_unmatched mode pattern text most n c few m =
     let least = match_after_star_has_byte_per_item mode c.counted.items (items_of_pattern c.left) text c.counted.ones
     (subst (λ is. DoItemsMatch mode (Star ∷ is) text) c.counted.pattern_is m) in
     omega (arith, least, c.counted.size)
 
-counted_items_are_all_items_of_pattern : (pattern : List ℕ) (most n : ℕ) (c : CountsStarlessItems pattern most n) → n ≤ most → items_of_pattern pattern ≡ c.counted.items
+counted_items_are_all_items_of_pattern : (pattern : List ℕ) (most n : ℕ) (c : IsStarlessItemCountUpToLimit pattern most n) → n ≤ most → items_of_pattern pattern ≡ c.counted.items
 counted_items_are_all_items_of_pattern pattern most n c few = c.counted.pattern_is ∙ ap (λ l. c.counted.items ++ items_of_pattern l) (c.all few) ∙ append-nil c.counted.items
 
 -- where they are all, what they match is at the end
-pub match_of_counted_pattern_is_at_end : (mode : GlobMode) (pattern text : List ℕ) (most n place : ℕ) → CountsStarlessItems pattern most n → n ≤ most → place + n ≡ length text
+pub match_of_counted_pattern_is_at_end : (mode : GlobMode) (pattern text : List ℕ) (most n place : ℕ) → IsStarlessItemCountUpToLimit pattern most n → n ≤ most → place + n ≡ length text
     → DoesPatternMatch mode (42 ∷ pattern) text → MayStarTakeRun mode (take place text) × DoesPatternMatch mode pattern (drop place text)
 match_of_counted_pattern_is_at_end mode pattern text most n place c few sum m =
     let items = sym (counted_items_are_all_items_of_pattern pattern most n c few) in
@@ -102,24 +102,24 @@ pub pattern_match_at_end_implies_star_match : (mode : GlobMode) (pattern text : 
     → DoesPatternMatch mode (42 ∷ pattern) text
 pattern_match_at_end_implies_star_match mode pattern text place s m = match_at_end_implies_match_after_star mode (items_of_pattern pattern) text place (s, m)
 
-counted_pattern_has_no_star : (pattern : List ℕ) (most n : ℕ) → CountsStarlessItems pattern most n → n ≤ most → (items more : List PatternItem) → items_of_pattern pattern ≡ items ++ Star ∷ more → ⊥
+counted_pattern_has_no_star : (pattern : List ℕ) (most n : ℕ) → IsStarlessItemCountUpToLimit pattern most n → n ≤ most → (items more : List PatternItem) → items_of_pattern pattern ≡ items ++ Star ∷ more → ⊥
 counted_pattern_has_no_star pattern most n c few items more e =
     items_with_star_are_not_starless items more (subst HaveNoStar (sym (counted_items_are_all_items_of_pattern pattern most n c few) ∙ e) c.counted.ones)
 
-pub starless_pattern_not_matching_has_no_match : (mode : GlobMode) (lower : Bool) (pattern text : List ℕ) (most n : ℕ) (r : GlobProgress) → CountsStarlessItems (case_folded_bytes lower pattern) most n → n ≤ most
-    → (r ≡ run.Matched → ⊥) → IsGlobProgressUpToStar mode lower pattern text r → DoesPatternMatch mode (case_folded_bytes lower pattern) (case_folded_bytes lower text) → ⊥
+pub starless_pattern_not_matching_has_no_match : (mode : GlobMode) (lower : Bool) (pattern text : List ℕ) (most n : ℕ) (r : MatchOutcomeUpToStar) → IsStarlessItemCountUpToLimit (bytes_case_folded_if_wanted lower pattern) most n → n ≤ most
+    → (r ≡ run.Matched → ⊥) → IsMatchOutcomeUpToStar mode lower pattern text r → DoesPatternMatch mode (bytes_case_folded_if_wanted lower pattern) (bytes_case_folded_if_wanted lower text) → ⊥
 starless_pattern_not_matching_has_no_match mode lower pattern text most n run.Matched c few other o m = absurd (other refl)
 starless_pattern_not_matching_has_no_match mode lower pattern text most n run.Failed c few other o m = o m
 starless_pattern_not_matching_has_no_match mode lower pattern text most n (run.Star behind rest) c few other o m =
-    counted_pattern_has_no_star (case_folded_bytes lower pattern) most n c few o.items (items_of_pattern (case_folded_bytes lower behind.now)) o.pattern_is
+    counted_pattern_has_no_star (bytes_case_folded_if_wanted lower pattern) most n c few o.items (items_of_pattern (bytes_case_folded_if_wanted lower behind.now)) o.pattern_is
 
 -- ---- bytes as they are read
 
-pub folded_bytes_wildcards_take_are_star_run : (mode : GlobMode) (lower : Bool) (bytes : List ℕ) → list_all (λ b. may_wildcard_take mode (case_folded_byte lower b)) bytes ≡ true → MayStarTakeRun mode (case_folded_bytes lower bytes)
+pub folded_bytes_wildcards_take_are_star_run : (mode : GlobMode) (lower : Bool) (bytes : List ℕ) → list_all (λ b. may_wildcard_take mode (byte_case_folded_if_wanted lower b)) bytes ≡ true → MayStarTakeRun mode (bytes_case_folded_if_wanted lower bytes)
 folded_bytes_wildcards_take_are_star_run mode lower [] e = tt
 folded_bytes_wildcards_take_are_star_run mode lower (b ∷ bytes) e =
-    (true_conjunction_has_true_left_part (may_wildcard_take mode (case_folded_byte lower b)) _ e, folded_bytes_wildcards_take_are_star_run mode lower bytes (true_conjunction_has_true_right_part (may_wildcard_take mode (case_folded_byte lower b)) _ e))
+    (true_conjunction_has_true_left_part (may_wildcard_take mode (byte_case_folded_if_wanted lower b)) _ e, folded_bytes_wildcards_take_are_star_run mode lower bytes (true_conjunction_has_true_right_part (may_wildcard_take mode (byte_case_folded_if_wanted lower b)) _ e))
 
-pub folded_star_run_bytes_are_wildcard_taken : (mode : GlobMode) (lower : Bool) (bytes : List ℕ) → MayStarTakeRun mode (case_folded_bytes lower bytes) → list_all (λ b. may_wildcard_take mode (case_folded_byte lower b)) bytes ≡ true
+pub folded_star_run_bytes_are_wildcard_taken : (mode : GlobMode) (lower : Bool) (bytes : List ℕ) → MayStarTakeRun mode (bytes_case_folded_if_wanted lower bytes) → list_all (λ b. may_wildcard_take mode (byte_case_folded_if_wanted lower b)) bytes ≡ true
 folded_star_run_bytes_are_wildcard_taken mode lower [] s = refl
-folded_star_run_bytes_are_wildcard_taken mode lower (b ∷ bytes) s = conjunction_of_true_parts_is_true (may_wildcard_take mode (case_folded_byte lower b)) _ s.0 (folded_star_run_bytes_are_wildcard_taken mode lower bytes s.1)
+folded_star_run_bytes_are_wildcard_taken mode lower (b ∷ bytes) s = conjunction_of_true_parts_is_true (may_wildcard_take mode (byte_case_folded_if_wanted lower b)) _ s.0 (folded_star_run_bytes_are_wildcard_taken mode lower bytes s.1)

@@ -4,14 +4,14 @@ use Rattle.std.specs.Prelude.{◌==◌, if◌then◌else◌}
 use Rattle.std.proofs.lemmas.Bool.{false≢true, ne_eqb}
 use Rattle.std.proofs.lemmas.List.{drop_more}
 use Rattle.sudoers_match_member.specs.declared.byte_sets.SetItem.{SetItem}
-use Rattle.sudoers_match_member.specs.Sets.{bracket_set_at}
+use Rattle.sudoers_match_member.specs.Sets.{set_items_behind_opening_bracket}
 use Rattle.sudoers_match_member.specs.declared.wildcards.GlobMode.{GlobMode}
-use Rattle.sudoers_match_member.specs.Wildcard.{PatternItem, Star, Byte, Any, Set, is_byte_taken_by_item, escaped_byte_item, set_or_bracket_item, bracket_item, pattern_item_at, pattern_items_after_skip, items_of_pattern}
+use Rattle.sudoers_match_member.specs.Wildcard.{PatternItem, Star, Byte, Any, Set, is_byte_taken_by_item, escaped_byte_item, set_or_bracket_item, bracket_item, pattern_item_at, pattern_items_after_skipped_bytes, items_of_pattern}
 use Rattle.sudoers_match_member.specs.internal.Run.{DoItemsTakeBytes, DoItemsMatch}
 
 -- ---- the items of a pattern
 
-items_after_skip_are_items_of_rest : (k : ℕ) (bytes : List ℕ) → pattern_items_after_skip k bytes ≡ items_of_pattern (drop k bytes)
+items_after_skip_are_items_of_rest : (k : ℕ) (bytes : List ℕ) → pattern_items_after_skipped_bytes k bytes ≡ items_of_pattern (drop k bytes)
 items_after_skip_are_items_of_rest zero bytes = refl
 items_after_skip_are_items_of_rest (suc k) [] = refl
 items_after_skip_are_items_of_rest (suc k) (b ∷ bytes) = items_after_skip_are_items_of_rest k bytes
@@ -91,7 +91,7 @@ set_or_bracket_item_has_positive_length t n (Some set) = let e : 0 < n + set.1 +
 
 bracket_item_has_positive_length : (bs : List ℕ) → HasPositiveItemLength (bracket_item bs)
 bracket_item_has_positive_length [] = omega arith
-bracket_item_has_positive_length (b ∷ bs) = both_branches_imply_property_of_choice HasPositiveItemLength (b == 33) (set_or_bracket_item true 2 (bracket_set_at bs)) (set_or_bracket_item false 1 (bracket_set_at (b ∷ bs))) (set_or_bracket_item_has_positive_length true 2 (bracket_set_at bs)) (set_or_bracket_item_has_positive_length false 1 (bracket_set_at (b ∷ bs)))
+bracket_item_has_positive_length (b ∷ bs) = both_branches_imply_property_of_choice HasPositiveItemLength (b == 33) (set_or_bracket_item true 2 (set_items_behind_opening_bracket bs)) (set_or_bracket_item false 1 (set_items_behind_opening_bracket (b ∷ bs))) (set_or_bracket_item_has_positive_length true 2 (set_items_behind_opening_bracket bs)) (set_or_bracket_item_has_positive_length false 1 (set_items_behind_opening_bracket (b ∷ bs)))
 
 escaped_byte_item_has_positive_length : (bs : List ℕ) → HasPositiveItemLength (escaped_byte_item bs)
 escaped_byte_item_has_positive_length [] = omega arith
@@ -112,7 +112,7 @@ set_or_bracket_item_is_no_star t n (Some set) e = absurd cc
 
 bracket_item_is_no_star : (bs : List ℕ) → IsNonStarItem (bracket_item bs)
 bracket_item_is_no_star [] e = absurd cc
-bracket_item_is_no_star (b ∷ bs) e = both_branches_imply_property_of_choice IsNonStarItem (b == 33) (set_or_bracket_item true 2 (bracket_set_at bs)) (set_or_bracket_item false 1 (bracket_set_at (b ∷ bs))) (set_or_bracket_item_is_no_star true 2 (bracket_set_at bs)) (set_or_bracket_item_is_no_star false 1 (bracket_set_at (b ∷ bs))) e
+bracket_item_is_no_star (b ∷ bs) e = both_branches_imply_property_of_choice IsNonStarItem (b == 33) (set_or_bracket_item true 2 (set_items_behind_opening_bracket bs)) (set_or_bracket_item false 1 (set_items_behind_opening_bracket (b ∷ bs))) (set_or_bracket_item_is_no_star true 2 (set_items_behind_opening_bracket bs)) (set_or_bracket_item_is_no_star false 1 (set_items_behind_opening_bracket (b ∷ bs))) e
 
 escaped_byte_item_is_no_star : (bs : List ℕ) → IsNonStarItem (escaped_byte_item bs)
 escaped_byte_item_is_no_star [] e = absurd cc

@@ -1,11 +1,11 @@
 -- What is left to match behind the last `*`.
 use Rattle.std.proofs.Common.{◌≡◌, ℕ, Bool, true, List, [], ◌∷◌, ◌++◌, ◌≤◌, length, arith, refl, sym, subst}
 use Rattle.sudoers_match_member.specs.declared.wildcards.GlobMode.{GlobMode}
-use Rattle.sudoers_match_member.specs.declared.wildcards.GlobProgress.{GlobProgress}
-use Rattle.sudoers_match_member.specs.declared.wildcards.GlobProgress.TheVariants as run
-use Rattle.sudoers_match_member.specs.Folded.{case_folded_bytes}
+use Rattle.sudoers_match_member.specs.declared.wildcards.MatchOutcomeUpToStar.{MatchOutcomeUpToStar}
+use Rattle.sudoers_match_member.specs.declared.wildcards.MatchOutcomeUpToStar.TheVariants as run
+use Rattle.sudoers_match_member.specs.Folded.{bytes_case_folded_if_wanted}
 use Rattle.sudoers_match_member.specs.Wildcard.{Star, may_wildcard_take, items_of_pattern}
-use Rattle.sudoers_match_member.specs.internal.Run.{MatchesUpToStar, IsMatchReducedToRest, DoItemsMatch, DoesPatternMatch, IsGlobProgressUpToStar, IsGlobProgressOfWhole, remaining_pattern_measure}
+use Rattle.sudoers_match_member.specs.internal.Run.{MatchesUpToStar, IsMatchReducedToRest, DoItemsMatch, DoesPatternMatch, IsMatchOutcomeUpToStar, IsMatchOutcomeOfWholePattern, remaining_pattern_measure}
 use Rattle.sudoers_match_member.proofs.AsRead.{case_folding_keeps_length}
 use Rattle.sudoers_match_member.proofs.Items.{taken_bytes_before_match_are_match, rest_after_taken_bytes_is_matched}
 use Rattle.sudoers_match_member.proofs.Stars.{match_of_two_stars_reduces_to_last, match_of_last_star_extends_back, star_of_unmatched_items_takes_byte, wildcard_byte_before_star_match_is_match}
@@ -54,20 +54,20 @@ match_of_reduced_rest_is_match mode pattern text behind rest l m = l.from ([], r
 
 -- ---- outcomes, as they follow one another
 
-pub progress_to_star_is_overall_progress : (mode : GlobMode) (lower : Bool) (pattern text : List ℕ) (r : GlobProgress) → IsGlobProgressUpToStar mode lower pattern text r → IsGlobProgressOfWhole mode lower (case_folded_bytes lower pattern) (case_folded_bytes lower text) r
+pub progress_to_star_is_overall_progress : (mode : GlobMode) (lower : Bool) (pattern text : List ℕ) (r : MatchOutcomeUpToStar) → IsMatchOutcomeUpToStar mode lower pattern text r → IsMatchOutcomeOfWholePattern mode lower (bytes_case_folded_if_wanted lower pattern) (bytes_case_folded_if_wanted lower text) r
 progress_to_star_is_overall_progress mode lower pattern text run.Matched o = o
 progress_to_star_is_overall_progress mode lower pattern text run.Failed o = o
-progress_to_star_is_overall_progress mode lower pattern text (run.Star behind rest) o = match_is_reduced_at_first_star mode (case_folded_bytes lower pattern) (case_folded_bytes lower text) (case_folded_bytes lower behind.now) (case_folded_bytes lower rest.now) o
+progress_to_star_is_overall_progress mode lower pattern text (run.Star behind rest) o = match_is_reduced_at_first_star mode (bytes_case_folded_if_wanted lower pattern) (bytes_case_folded_if_wanted lower text) (bytes_case_folded_if_wanted lower behind.now) (bytes_case_folded_if_wanted lower rest.now) o
 
 -- behind a `*`
-pub progress_after_star_is_overall_progress : (mode : GlobMode) (lower : Bool) (pattern text ys : List ℕ) (r : GlobProgress) → IsMatchReducedToRest mode (42 ∷ case_folded_bytes lower pattern) ys (case_folded_bytes lower pattern) (case_folded_bytes lower text)
-    → (r ≡ run.Failed → ⊥) → IsGlobProgressUpToStar mode lower pattern text r → IsGlobProgressOfWhole mode lower (42 ∷ case_folded_bytes lower pattern) ys r
-progress_after_star_is_overall_progress mode lower pattern text ys run.Matched l n o = match_of_reduced_rest_is_match mode (42 ∷ case_folded_bytes lower pattern) ys (case_folded_bytes lower pattern) (case_folded_bytes lower text) l o
+pub progress_after_star_is_overall_progress : (mode : GlobMode) (lower : Bool) (pattern text ys : List ℕ) (r : MatchOutcomeUpToStar) → IsMatchReducedToRest mode (42 ∷ bytes_case_folded_if_wanted lower pattern) ys (bytes_case_folded_if_wanted lower pattern) (bytes_case_folded_if_wanted lower text)
+    → (r ≡ run.Failed → ⊥) → IsMatchOutcomeUpToStar mode lower pattern text r → IsMatchOutcomeOfWholePattern mode lower (42 ∷ bytes_case_folded_if_wanted lower pattern) ys r
+progress_after_star_is_overall_progress mode lower pattern text ys run.Matched l n o = match_of_reduced_rest_is_match mode (42 ∷ bytes_case_folded_if_wanted lower pattern) ys (bytes_case_folded_if_wanted lower pattern) (bytes_case_folded_if_wanted lower text) l o
 progress_after_star_is_overall_progress mode lower pattern text ys run.Failed l n o = absurd (n refl)
 progress_after_star_is_overall_progress mode lower pattern text ys (run.Star behind rest) l n o =
-    match_is_reduced_at_next_star mode (42 ∷ case_folded_bytes lower pattern) ys (case_folded_bytes lower pattern) (case_folded_bytes lower text) (case_folded_bytes lower behind.now) (case_folded_bytes lower rest.now) l o
+    match_is_reduced_at_next_star mode (42 ∷ bytes_case_folded_if_wanted lower pattern) ys (bytes_case_folded_if_wanted lower pattern) (bytes_case_folded_if_wanted lower text) (bytes_case_folded_if_wanted lower behind.now) (bytes_case_folded_if_wanted lower rest.now) l o
 
-pub remaining_pattern_after_run_is_no_longer : (mode : GlobMode) (lower : Bool) (pattern text : List ℕ) (r : GlobProgress) → IsGlobProgressUpToStar mode lower pattern text r → remaining_pattern_measure r ≤ length pattern
+pub remaining_pattern_after_run_is_no_longer : (mode : GlobMode) (lower : Bool) (pattern text : List ℕ) (r : MatchOutcomeUpToStar) → IsMatchOutcomeUpToStar mode lower pattern text r → remaining_pattern_measure r ≤ length pattern
 remaining_pattern_after_run_is_no_longer mode lower pattern text run.Matched o = omega arith
 remaining_pattern_after_run_is_no_longer mode lower pattern text run.Failed o = omega arith
 remaining_pattern_after_run_is_no_longer mode lower pattern text (run.Star behind rest) o = omega (arith, o.shorter, case_folding_keeps_length lower behind.now, case_folding_keeps_length lower pattern)

@@ -3,19 +3,19 @@ use Rattle.std.proofs.Common.{◌≡◌, ℕ, zero, suc, ◌+◌, ◌-◌, ◌*�
 use Rattle.std.proofs.Math.Nat.{pow-le-pow_right}
 use Rattle.std.proofs.Math.Numerals.{add-one}
 use native.Mathlib.Nat.{pow-suc}
-use Rattle.sudoers_match_member.specs.Moment.{digit_of_byte_or_zero, number_extended_by_digits, number_of_stamp}
+use Rattle.sudoers_match_member.specs.Moment.{digit_or_zero_of_optional_byte, number_extended_by_digits, zero_filled_number_of_stamp}
 
-stamp_number_extends_by_next_digit : (n number : ℕ) (text : List ℕ) (place : ℕ) → number_extended_by_digits (suc n) number (drop place text) ≡ number_extended_by_digits n (number * 10 + digit_of_byte_or_zero (slice_get text place)) (drop (suc place) text)
+stamp_number_extends_by_next_digit : (n number : ℕ) (text : List ℕ) (place : ℕ) → number_extended_by_digits (suc n) number (drop place text) ≡ number_extended_by_digits n (number * 10 + digit_or_zero_of_optional_byte (slice_get text place)) (drop (suc place) text)
 stamp_number_extends_by_next_digit n number [] zero = let e : number * 10 ≡ number * 10 + 0 = omega arith in ap (λ x. number_extended_by_digits n x []) e
 stamp_number_extends_by_next_digit n number [] (suc place) = let e : number * 10 ≡ number * 10 + 0 = omega arith in ap (λ x. number_extended_by_digits n x []) e
 stamp_number_extends_by_next_digit n number (b ∷ bs) zero = refl
 stamp_number_extends_by_next_digit n number (b ∷ bs) (suc place) = stamp_number_extends_by_next_digit n number bs place
 
-pub partial_stamp_number_stays_right_after_digit : (stamp : List ℕ) (place number : ℕ) → place < 14 → number_extended_by_digits (14 - place) number (drop place stamp) ≡ number_of_stamp stamp
-    → number_extended_by_digits (14 - (place + 1)) (number * 10 + digit_of_byte_or_zero (slice_get stamp place)) (drop (place + 1) stamp) ≡ number_of_stamp stamp
+pub partial_stamp_number_stays_right_after_digit : (stamp : List ℕ) (place number : ℕ) → place < 14 → number_extended_by_digits (14 - place) number (drop place stamp) ≡ zero_filled_number_of_stamp stamp
+    → number_extended_by_digits (14 - (place + 1)) (number * 10 + digit_or_zero_of_optional_byte (slice_get stamp place)) (drop (place + 1) stamp) ≡ zero_filled_number_of_stamp stamp
 partial_stamp_number_stays_right_after_digit stamp place number h e =
     let fewer : 14 - place ≡ suc (14 - (place + 1)) = omega (arith, h) in
-    ap (λ p. number_extended_by_digits (14 - (place + 1)) (number * 10 + digit_of_byte_or_zero (slice_get stamp place)) (drop p stamp)) (add-one place)
+    ap (λ p. number_extended_by_digits (14 - (place + 1)) (number * 10 + digit_or_zero_of_optional_byte (slice_get stamp place)) (drop p stamp)) (add-one place)
     ∙ sym (stamp_number_extends_by_next_digit (14 - (place + 1)) number stamp place) ∙ ap (λ n. number_extended_by_digits n number (drop place stamp)) (sym fewer) ∙ e
 
 pub number_with_digit_is_below_next_power : (place number digit : ℕ) → number < 10 ^ place → digit < 10 → number * 10 + digit < 10 ^ (place + 1)

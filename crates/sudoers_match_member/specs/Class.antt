@@ -34,30 +34,30 @@ is_byte_of_class Upper b = is_upper b
 is_byte_of_class Xdigit b = is_digit b || (is_between 65 70 b || is_between 97 102 b)
 
 -- how a set names the class
-abbrev pub class_name_of : PosixByteClass → List ℕ
-class_name_of Alnum = codes "[:alnum:]"
-class_name_of Alpha = codes "[:alpha:]"
-class_name_of Blank = codes "[:blank:]"
-class_name_of Cntrl = codes "[:cntrl:]"
-class_name_of Digit = codes "[:digit:]"
-class_name_of Graph = codes "[:graph:]"
-class_name_of Lower = codes "[:lower:]"
-class_name_of Print = codes "[:print:]"
-class_name_of Punct = codes "[:punct:]"
-class_name_of Space = codes "[:space:]"
-class_name_of Upper = codes "[:upper:]"
-class_name_of Xdigit = codes "[:xdigit:]"
+abbrev pub bracketed_name_of_class : PosixByteClass → List ℕ
+bracketed_name_of_class Alnum = codes "[:alnum:]"
+bracketed_name_of_class Alpha = codes "[:alpha:]"
+bracketed_name_of_class Blank = codes "[:blank:]"
+bracketed_name_of_class Cntrl = codes "[:cntrl:]"
+bracketed_name_of_class Digit = codes "[:digit:]"
+bracketed_name_of_class Graph = codes "[:graph:]"
+bracketed_name_of_class Lower = codes "[:lower:]"
+bracketed_name_of_class Print = codes "[:print:]"
+bracketed_name_of_class Punct = codes "[:punct:]"
+bracketed_name_of_class Space = codes "[:space:]"
+bracketed_name_of_class Upper = codes "[:upper:]"
+bracketed_name_of_class Xdigit = codes "[:xdigit:]"
 
 -- the bytes begin with the name
-abbrev pub has_name_prefix : List ℕ → List ℕ → Bool
-has_name_prefix bytes [] = true
-has_name_prefix [] (c ∷ cs) = false
-has_name_prefix (b ∷ bs) (c ∷ cs) = (b == c) && has_name_prefix bs cs
+abbrev pub has_bracketed_class_name_prefix : List ℕ → List ℕ → Bool
+has_bracketed_class_name_prefix bytes [] = true
+has_bracketed_class_name_prefix [] (c ∷ cs) = false
+has_bracketed_class_name_prefix (b ∷ bs) (c ∷ cs) = (b == c) && has_bracketed_class_name_prefix bs cs
 
 -- the first of the classes whose name begins the bytes
 abbrev pub first_class_named_at : List PosixByteClass → List ℕ → Option PosixByteClass
 first_class_named_at [] bytes = None
-first_class_named_at (k ∷ ks) bytes = if has_name_prefix bytes (class_name_of k) then Some k else first_class_named_at ks bytes
+first_class_named_at (k ∷ ks) bytes = if has_bracketed_class_name_prefix bytes (bracketed_name_of_class k) then Some k else first_class_named_at ks bytes
 
 abbrev pub all_posix_classes : List PosixByteClass
 all_posix_classes = Alnum ∷ Alpha ∷ Blank ∷ Cntrl ∷ Digit ∷ Graph ∷ Lower ∷ Print ∷ Punct ∷ Space ∷ Upper ∷ Xdigit ∷ []

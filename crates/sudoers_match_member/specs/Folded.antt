@@ -2,9 +2,9 @@
 use Rattle.std.specs.Prelude.{ℕ, ◌+◌, Bool, true, false, List, map, if◌then◌else◌}
 use Rattle.sudoers_match_member.specs.Class.{is_upper}
 
-unfoldable pub case_folded_byte : Bool → ℕ → ℕ
-case_folded_byte true b = if is_upper b then b + 32 else b
-case_folded_byte false b = b
+unfoldable pub byte_case_folded_if_wanted : Bool → ℕ → ℕ
+byte_case_folded_if_wanted true b = if is_upper b then b + 32 else b
+byte_case_folded_if_wanted false b = b
 
-abbrev pub case_folded_bytes : Bool → List ℕ → List ℕ
-case_folded_bytes lower bytes = map (case_folded_byte lower) bytes
+abbrev pub bytes_case_folded_if_wanted : Bool → List ℕ → List ℕ
+bytes_case_folded_if_wanted lower bytes = map (byte_case_folded_if_wanted lower) bytes

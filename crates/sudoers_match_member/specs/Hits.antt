@@ -13,7 +13,7 @@ use Rattle.sudoers_match_member.specs.declared.people_and_commands.Person.{Perso
 use Rattle.sudoers_match_member.specs.declared.people_and_commands.Who.{Who}
 use Rattle.sudoers_match_member.specs.declared.wildcards.GlobMode.{GlobMode}
 use Rattle.sudoers_match_member.specs.declared.wildcards.GlobMode.TheVariants as mode
-use Rattle.sudoers_match_member.specs.Folded.{case_folded_bytes}
+use Rattle.sudoers_match_member.specs.Folded.{bytes_case_folded_if_wanted}
 use Rattle.sudoers_match_member.specs.Wildcard.{is_empty, is_pattern_match}
 use Rattle.sudoers_match_member.specs.Network.{is_any_interface_hit}
 
@@ -24,11 +24,11 @@ is_name_equal_ignoring_case a b = str_eq_ignore_ascii_case a b
 -- ---- users, and the users as whom a command runs
 
 -- one of the groups has this name, or this number
-abbrev pub is_in_named_group : List Group → List ℕ → Bool
-is_in_named_group groups name = list_any (λ (g : Group). is_name_equal_ignoring_case name g.name) groups
+abbrev pub is_name_among_groups : List Group → List ℕ → Bool
+is_name_among_groups groups name = list_any (λ (g : Group). is_name_equal_ignoring_case name g.name) groups
 
-abbrev pub is_in_numbered_group : List Group → ℕ → Bool
-is_in_numbered_group groups number = list_any (λ (g : Group). number == g.gid) groups
+abbrev pub is_number_among_groups : List Group → ℕ → Bool
+is_number_among_groups groups number = list_any (λ (g : Group). number == g.gid) groups
 
 -- An alias is asked here only where it is not defined; it is then compared as a name.
 abbrev pub is_user_atom_match : Person → Atom → Bool
@@ -36,8 +36,8 @@ is_user_atom_match p atom.All = true
 is_user_atom_match p (atom.Alias name) = is_name_equal_ignoring_case name p.name
 is_user_atom_match p (atom.Name name) = is_name_equal_ignoring_case name p.name
 is_user_atom_match p (atom.Id n) = n == p.uid
-is_user_atom_match p (atom.Group name) = is_in_named_group p.groups name
-is_user_atom_match p (atom.GroupId n) = is_in_numbered_group p.groups n
+is_user_atom_match p (atom.Group name) = is_name_among_groups p.groups name
+is_user_atom_match p (atom.GroupId n) = is_number_among_groups p.groups n
 is_user_atom_match p (atom.NonUnix name) = false
 is_user_atom_match p (atom.Netgroup name) = false
 is_user_atom_match p (atom.Host name) = false
@@ -72,7 +72,7 @@ has_dot pattern = list_any (λ b. b == 46) pattern
 
 -- A pattern with a dot is compared with the long name, one without with the short name, letter case ignored.
 abbrev pub is_host_name_match : Who → List ℕ → Bool
-is_host_name_match w pattern = is_pattern_match mode.Args (case_folded_bytes true pattern) (case_folded_bytes true (if has_dot pattern then w.long_host else w.short_host))
+is_host_name_match w pattern = is_pattern_match mode.Args (bytes_case_folded_if_wanted true pattern) (bytes_case_folded_if_wanted true (if has_dot pattern then w.long_host else w.short_host))
 
 abbrev pub is_host_atom_match : Who → Atom → Bool
 is_host_atom_match w atom.All = true

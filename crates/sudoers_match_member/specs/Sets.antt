@@ -3,7 +3,7 @@ use Rattle.std.specs.Prelude.{ℕ, zero, suc, ◌+◌, ◌-◌, Bool, ◌==◌, 
 use Rattle.sudoers_match_member.specs.declared.byte_classes.PosixByteClass.{PosixByteClass}
 use Rattle.sudoers_match_member.specs.declared.byte_sets.SetItem.{SetItem}
 use Rattle.sudoers_match_member.specs.declared.byte_sets.SetItem.TheVariants.{Of, Range}
-use Rattle.sudoers_match_member.specs.Class.{class_named_at, class_name_of, is_byte_of_class, is_between}
+use Rattle.sudoers_match_member.specs.Class.{class_named_at, bracketed_name_of_class, is_byte_of_class, is_between}
 
 -- the item has the byte
 abbrev pub is_byte_in_set_item : ℕ → SetItem → Bool
@@ -38,7 +38,7 @@ range_from_lower_bound None bytes = (Range 92 92, 1)
 range_from_lower_bound (Some low) bytes = range_with_upper_bound low.0 low.1 (upper_bound_after_dash (drop low.1 bytes))
 
 abbrev pub class_or_range_item : Option PosixByteClass → List ℕ → SetItem × ℕ
-class_or_range_item (Some k) bytes = (Of k, length (class_name_of k))
+class_or_range_item (Some k) bytes = (Of k, length (bracketed_name_of_class k))
 class_or_range_item None bytes = range_from_lower_bound (range_bound_at bytes) bytes
 
 -- the item that begins these bytes and its length: the first of a class, a range, `\c`, a byte
@@ -49,19 +49,19 @@ abbrev pub set_one_byte_longer : Option (List SetItem × ℕ) → Option (List S
 set_one_byte_longer None = None
 set_one_byte_longer (Some set) = Some (set.0, suc set.1)
 
-abbrev pub set_with_first_item : SetItem → Option (List SetItem × ℕ) → Option (List SetItem × ℕ)
-set_with_first_item item None = None
-set_with_first_item item (Some set) = Some (item ∷ set.0, set.1)
+abbrev pub set_with_item_put_first : SetItem → Option (List SetItem × ℕ) → Option (List SetItem × ℕ)
+set_with_item_put_first item None = None
+set_with_item_put_first item (Some set) = Some (item ∷ set.0, set.1)
 
 -- The items up to the `]` that closes the set, and how many bytes they have; none where nothing closes it. So many bytes of an
 -- item are still to pass.
-abbrev pub set_items_after_skip : ℕ → List ℕ → Option (List SetItem × ℕ)
-set_items_after_skip k [] = None
-set_items_after_skip (suc k) (b ∷ bs) = set_one_byte_longer (set_items_after_skip k bs)
-set_items_after_skip zero (b ∷ bs) =
-    if b == 93 then Some ([], 0) else set_with_first_item (set_item_at (b ∷ bs)).0 (set_one_byte_longer (set_items_after_skip ((set_item_at (b ∷ bs)).1 - 1) bs))
+abbrev pub set_items_after_skipped_bytes : ℕ → List ℕ → Option (List SetItem × ℕ)
+set_items_after_skipped_bytes k [] = None
+set_items_after_skipped_bytes (suc k) (b ∷ bs) = set_one_byte_longer (set_items_after_skipped_bytes k bs)
+set_items_after_skipped_bytes zero (b ∷ bs) =
+    if b == 93 then Some ([], 0) else set_with_item_put_first (set_item_at (b ∷ bs)).0 (set_one_byte_longer (set_items_after_skipped_bytes ((set_item_at (b ∷ bs)).1 - 1) bs))
 
 -- the set behind its `[` or `[!`: what stands there first is an item, also a `]`
-abbrev pub bracket_set_at : List ℕ → Option (List SetItem × ℕ)
-bracket_set_at [] = None
-bracket_set_at (b ∷ bs) = set_with_first_item (set_item_at (b ∷ bs)).0 (set_one_byte_longer (set_items_after_skip ((set_item_at (b ∷ bs)).1 - 1) bs))
+abbrev pub set_items_behind_opening_bracket : List ℕ → Option (List SetItem × ℕ)
+set_items_behind_opening_bracket [] = None
+set_items_behind_opening_bracket (b ∷ bs) = set_with_item_put_first (set_item_at (b ∷ bs)).0 (set_one_byte_longer (set_items_after_skipped_bytes ((set_item_at (b ∷ bs)).1 - 1) bs))

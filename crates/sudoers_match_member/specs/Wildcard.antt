@@ -4,7 +4,7 @@ use Rattle.std.specs.List.{list_any, list_all}
 use Rattle.sudoers_match_member.specs.declared.wildcards.GlobMode.{GlobMode}
 use Rattle.sudoers_match_member.specs.declared.wildcards.GlobMode.TheVariants.{Path, Args}
 use Rattle.sudoers_match_member.specs.declared.byte_sets.SetItem.{SetItem}
-use Rattle.sudoers_match_member.specs.Sets.{is_byte_in_set_item, bracket_set_at}
+use Rattle.sudoers_match_member.specs.Sets.{is_byte_in_set_item, set_items_behind_opening_bracket}
 
 -- What a pattern is made of: `*`, or something that takes one byte.
 pub data PatternItem : Type 0 where
@@ -37,7 +37,7 @@ set_or_bracket_item negated n (Some set) = (Set negated set.0, n + set.1 + 1)
 
 abbrev pub bracket_item : List ℕ → PatternItem × ℕ
 bracket_item [] = (Byte 91, 1)
-bracket_item (b ∷ bs) = if b == 33 then set_or_bracket_item true 2 (bracket_set_at bs) else set_or_bracket_item false 1 (bracket_set_at (b ∷ bs))
+bracket_item (b ∷ bs) = if b == 33 then set_or_bracket_item true 2 (set_items_behind_opening_bracket bs) else set_or_bracket_item false 1 (set_items_behind_opening_bracket (b ∷ bs))
 
 -- the item that begins these bytes and its length
 abbrev pub pattern_item_at : List ℕ → PatternItem × ℕ
@@ -50,13 +50,13 @@ pattern_item_at (b ∷ bs) =
     else (Byte b, 1))))
 
 -- The items of a pattern. So many bytes of one are still to pass.
-abbrev pub pattern_items_after_skip : ℕ → List ℕ → List PatternItem
-pattern_items_after_skip k [] = []
-pattern_items_after_skip (suc k) (b ∷ bs) = pattern_items_after_skip k bs
-pattern_items_after_skip zero (b ∷ bs) = (pattern_item_at (b ∷ bs)).0 ∷ pattern_items_after_skip ((pattern_item_at (b ∷ bs)).1 - 1) bs
+abbrev pub pattern_items_after_skipped_bytes : ℕ → List ℕ → List PatternItem
+pattern_items_after_skipped_bytes k [] = []
+pattern_items_after_skipped_bytes (suc k) (b ∷ bs) = pattern_items_after_skipped_bytes k bs
+pattern_items_after_skipped_bytes zero (b ∷ bs) = (pattern_item_at (b ∷ bs)).0 ∷ pattern_items_after_skipped_bytes ((pattern_item_at (b ∷ bs)).1 - 1) bs
 
 abbrev pub items_of_pattern : List ℕ → List PatternItem
-items_of_pattern pattern = pattern_items_after_skip 0 pattern
+items_of_pattern pattern = pattern_items_after_skipped_bytes 0 pattern
 
 -- each way to cut a text in two
 abbrev pub splits_of_text : List ℕ → List (List ℕ × List ℕ)

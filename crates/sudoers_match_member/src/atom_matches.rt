@@ -2,11 +2,11 @@
 
 ghost use Rattle.std.specs.Prelude.{◌≡◌};
 ghost use Rattle.sudoers_line_rows.specs.View.{args_of_view, atom_of_view};
-ghost use Rattle.sudoers_match_member.specs.Hits.{is_name_equal_ignoring_case, is_in_named_group, is_in_numbered_group, is_user_atom_match, is_runas_group_atom_match, has_dot, is_host_name_match, is_host_atom_match, path_split_at_last_slash, is_command_path_match, is_command_args_match, is_command_atom_match};
+ghost use Rattle.sudoers_match_member.specs.Hits.{is_name_equal_ignoring_case, is_name_among_groups, is_number_among_groups, is_user_atom_match, is_runas_group_atom_match, has_dot, is_host_name_match, is_host_atom_match, path_split_at_last_slash, is_command_path_match, is_command_args_match, is_command_atom_match};
 
 use crate::network::network_hits;
 use crate::people_and_commands::{CommandLine, Group, Person, Who};
-use crate::wildcards::{GlobMode, glob, matches_glob_folding_case};
+use crate::wildcards::{GlobMode, glob, matches_glob_folding_case_if_wanted};
 use sudoers_grammar::ends_with_byte;
 use sudoers_line_rows::{BorrowedArgs, BorrowedAtom};
 
@@ -19,15 +19,15 @@ pub fn is_same_name_ignoring_case(a: &[u8], b: &[u8]) -> bool
 }
 
 /// Returns whether one of the groups has this name.
-fn belongs_to_named_group(groups: &[Group], name: &[u8]) -> bool
-    ensures { result ≡ is_in_named_group groups.now name.now }
+fn has_group_of_name(groups: &[Group], name: &[u8]) -> bool
+    ensures { result ≡ is_name_among_groups groups.now name.now }
 {
     groups.iter().any(|group| is_same_name_ignoring_case(name, group.name.as_slice()))
 }
 
 /// Returns whether one of the groups has this number.
-pub fn belongs_to_group_number(groups: &[Group], number: u32) -> bool
-    ensures { result ≡ is_in_numbered_group groups.now number }
+pub fn has_group_of_number(groups: &[Group], number: u32) -> bool
+    ensures { result ≡ is_number_among_groups groups.now number }
 {
     groups.iter().any(|group| number == group.gid)
 }
@@ -43,8 +43,8 @@ pub fn matches_user_atom(atom: &BorrowedAtom<'_>, person: &Person) -> bool
             person.name.as_slice(),
         ),
         BorrowedAtom::Id(number) => number == person.uid,
-        BorrowedAtom::Group(name) => belongs_to_named_group(person.groups.as_slice(), name),
-        BorrowedAtom::GroupId(number) => belongs_to_group_number(person.groups.as_slice(), number),
+        BorrowedAtom::Group(name) => has_group_of_name(person.groups.as_slice(), name),
+        BorrowedAtom::GroupId(number) => has_group_of_number(person.groups.as_slice(), number),
         _ => false,
     }
 }
@@ -72,7 +72,7 @@ fn matches_host_name(pattern: &[u8], who: &Who) -> bool
     } else {
         who.short_host.as_slice()
     };
-    matches_glob_folding_case(pattern, name, GlobMode::Args, true)
+    matches_glob_folding_case_if_wanted(pattern, name, GlobMode::Args, true)
 }
 
 /// Returns whether `atom` matches the host (sudoers(5), Host_List).

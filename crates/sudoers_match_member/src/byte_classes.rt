@@ -1,8 +1,8 @@
 //! Classes of bytes over ASCII.
 
 ghost use Rattle.std.specs.Prelude.{◌≡◌};
-ghost use Rattle.sudoers_match_member.specs.Folded.{case_folded_byte, case_folded_bytes};
-ghost use Rattle.sudoers_match_member.specs.Class.{class_name_of, is_byte_of_class, is_alnum, has_name_prefix, class_named_at};
+ghost use Rattle.sudoers_match_member.specs.Folded.{byte_case_folded_if_wanted, bytes_case_folded_if_wanted};
+ghost use Rattle.sudoers_match_member.specs.Class.{bracketed_name_of_class, is_byte_of_class, is_alnum, has_bracketed_class_name_prefix, class_named_at};
 
 /// A class that a set can name.
 #[derive(Clone, Copy)]
@@ -38,8 +38,8 @@ const CLASSES: [PosixByteClass; 12] = [
 
 impl PosixByteClass {
     /// Returns the name of the class in a set.
-    pub fn to_class_name(self) -> &'static [u8]
-        ensures { result.now ≡ class_name_of self }
+    pub fn to_bracketed_name(self) -> &'static [u8]
+        ensures { result.now ≡ bracketed_name_of_class self }
     {
         match self {
             PosixByteClass::Alnum => b"[:alnum:]",
@@ -62,7 +62,7 @@ impl PosixByteClass {
         ensures { result ≡ is_byte_of_class self byte }
     {
         match self {
-            PosixByteClass::Alnum => is_alnum(byte),
+            PosixByteClass::Alnum => is_letter_or_digit_byte(byte),
             PosixByteClass::Alpha => matches!(byte, b'A'..=b'Z' | b'a'..=b'z'),
             PosixByteClass::Blank => matches!(byte, b' ' | b'\t'),
             PosixByteClass::Cntrl => byte <= 31 || byte == 127,
@@ -70,7 +70,7 @@ impl PosixByteClass {
             PosixByteClass::Graph => matches!(byte, b'!'..=b'~'),
             PosixByteClass::Lower => matches!(byte, b'a'..=b'z'),
             PosixByteClass::Print => matches!(byte, b' '..=b'~'),
-            PosixByteClass::Punct => matches!(byte, b'!'..=b'~') && !is_alnum(byte),
+            PosixByteClass::Punct => matches!(byte, b'!'..=b'~') && !is_letter_or_digit_byte(byte),
             PosixByteClass::Space => byte == b' ' || matches!(byte, b'\t'..=b'\r'),
             PosixByteClass::Upper => matches!(byte, b'A'..=b'Z'),
             PosixByteClass::Xdigit => matches!(byte, b'0'..=b'9' | b'A'..=b'F' | b'a'..=b'f'),
@@ -78,16 +78,16 @@ impl PosixByteClass {
     }
 }
 
-fn is_alnum(byte: u8) -> bool
+fn is_letter_or_digit_byte(byte: u8) -> bool
     ensures { result ≡ is_alnum byte }
 {
     matches!(byte, b'0'..=b'9' | b'A'..=b'Z' | b'a'..=b'z')
 }
 
 /// Returns `byte`, in lower case if `lower`.
-#[tactic(auto, unfolding(crate::specs::Folded::case_folded_byte))]
-pub fn fold_byte_case(lower: bool, byte: u8) -> u8
-    ensures { result ≡ case_folded_byte lower byte }
+#[tactic(auto, unfolding(crate::specs::Folded::byte_case_folded_if_wanted))]
+pub fn fold_byte_case_if_wanted(lower: bool, byte: u8) -> u8
+    ensures { result ≡ byte_case_folded_if_wanted lower byte }
 {
     if lower && matches!(byte, b'A'..=b'Z') {
         byte + 32
@@ -97,11 +97,11 @@ pub fn fold_byte_case(lower: bool, byte: u8) -> u8
 }
 
 /// Returns whether `bytes` begin with `name`.
-fn begins_with_name(bytes: &[u8], name: &[u8], lower: bool) -> bool
-    ensures { result ≡ has_name_prefix (case_folded_bytes lower bytes.now) name.now }
+fn begins_with_bracketed_class_name(bytes: &[u8], name: &[u8], lower: bool) -> bool
+    ensures { result ≡ has_bracketed_class_name_prefix (bytes_case_folded_if_wanted lower bytes.now) name.now }
 {
     for (index, byte) in name.iter().enumerate() {
-        if index >= bytes.len() || fold_byte_case(lower, bytes[index]) != *byte {
+        if index >= bytes.len() || fold_byte_case_if_wanted(lower, bytes[index]) != *byte {
             return false;
         }
     }
@@ -110,10 +110,10 @@ fn begins_with_name(bytes: &[u8], name: &[u8], lower: bool) -> bool
 
 /// Returns the class whose name begins `bytes`.
 pub fn find_class_named_at(bytes: &[u8], lower: bool) -> Option<PosixByteClass>
-    ensures { result ≡ class_named_at (case_folded_bytes lower bytes.now) }
+    ensures { result ≡ class_named_at (bytes_case_folded_if_wanted lower bytes.now) }
 {
     for class in &CLASSES {
-        if begins_with_name(bytes, class.to_class_name(), lower) {
+        if begins_with_bracketed_class_name(bytes, class.to_bracketed_name(), lower) {
             return Some(*class);
         }
     }

@@ -4,9 +4,9 @@
 mod atom_matches;
 mod byte_classes;
 mod byte_sets;
+mod first_pattern_item;
 pub mod laws;
 mod network;
-mod pattern_front;
 mod people_and_commands;
 mod request;
 mod set_cache;
@@ -14,11 +14,11 @@ mod time_stamp;
 mod wildcards;
 
 pub use atom_matches::{
-    belongs_to_group_number, is_same_name_ignoring_case, matches_command_atom, matches_host_atom,
+    has_group_of_number, is_same_name_ignoring_case, matches_command_atom, matches_host_atom,
     matches_runas_group_atom, matches_user_atom,
 };
 pub use network::{Interface, network_hits};
 pub use people_and_commands::{CommandLine, Group, Person, Who};
 pub use request::Request;
-pub use time_stamp::read_stamp_number;
-pub use wildcards::{GlobMode, glob, matches_glob_folding_case};
+pub use time_stamp::convert_stamp_to_zero_filled_number;
+pub use wildcards::{GlobMode, glob, matches_glob_folding_case_if_wanted};

@@ -3,13 +3,13 @@
 ghost use Rattle.std.specs.Prelude.{◌≡◌, ◌≢◌, ◌<◌, ◌≤◌, ◌+◌, ◌-◌, Bool, List, ℕ, length, drop, get_or, None, IfSome, IsTrue};
 ghost use Rattle.sudoers_match_member.specs.declared.wildcards.GlobMode.{GlobMode as GlobModeOf};
 ghost use Rattle.sudoers_match_member.specs.Wildcard.{is_byte_taken_by_item, bracket_item, pattern_item_at as item_of, Star, Byte};
-ghost use Rattle.sudoers_match_member.specs.Sets.{bracket_set_at};
-ghost use Rattle.sudoers_match_member.specs.Folded.{case_folded_bytes};
-ghost use Rattle.sudoers_match_member.specs.internal.Known.{IsCorrectSetCache, IsFirstItemMatch, IsBracketlessTail};
+ghost use Rattle.sudoers_match_member.specs.Sets.{set_items_behind_opening_bracket};
+ghost use Rattle.sudoers_match_member.specs.Folded.{bytes_case_folded_if_wanted};
+ghost use Rattle.sudoers_match_member.specs.internal.Known.{IsCorrectSetCache, IsFirstItemMatch, IsTailWithoutClosingBracket};
 
-use crate::byte_classes::fold_byte_case;
+use crate::byte_classes::fold_byte_case_if_wanted;
 use crate::byte_sets::read_set_item;
-use crate::pattern_front::{PatternItemMatch, match_first_item};
+use crate::first_pattern_item::{PatternItemMatch, match_first_item};
 use crate::wildcards::GlobMode;
 
 /// What is known of the sets of a pattern.
@@ -33,20 +33,20 @@ impl SetMatchCache {
         ensures { (mode : GlobModeOf) (lower : Bool) → IsCorrectSetCache mode lower pattern.now result }
     {
         SetMatchCache {
-            tail: bracketless_tail_len(pattern),
+            tail: closing_bracket_free_tail_len(pattern),
             at: 0,
             len: 0,
-            takes: make_empty_cache_table(),
+            takes: make_table_with_no_byte_known(),
             unclosed: None,
         }
     }
 
     /// Forgets the sets. What is left is right of each pattern with such last bytes.
     pub fn forget_cached_sets(&mut self)
-        ensures known { (mode : GlobModeOf) (lower : Bool) (pattern : List ℕ) → IsBracketlessTail self.old.tail pattern → IsCorrectSetCache mode lower pattern self.new }
+        ensures known { (mode : GlobModeOf) (lower : Bool) (pattern : List ℕ) → IsTailWithoutClosingBracket self.old.tail pattern → IsCorrectSetCache mode lower pattern self.new }
         ensures tail { self.new.tail ≡ self.old.tail }
     {
-        self.takes = make_empty_cache_table();
+        self.takes = make_table_with_no_byte_known();
         self.unclosed = None;
     }
 
@@ -61,14 +61,14 @@ impl SetMatchCache {
         lower: bool,
     ) -> PatternItemMatch
         requires within { at < length pattern.now }
-        requires no_star { (item_of (case_folded_bytes lower (drop at pattern.now))).0 ≢ Star }
+        requires no_star { (item_of (bytes_case_folded_if_wanted lower (drop at pattern.now))).0 ≢ Star }
         requires known { IsCorrectSetCache mode lower pattern.now self.old }
         ensures front { IsFirstItemMatch mode lower (drop at pattern.now) byte result }
         ensures known { IsCorrectSetCache mode lower pattern.now self.new }
         ensures tail { self.new.tail ≡ self.old.tail }
     {
         let rest = &pattern[at..];
-        if fold_byte_case(lower, rest[0]) != b'[' {
+        if fold_byte_case_if_wanted(lower, rest[0]) != b'[' {
             return match_first_item(rest, byte, mode, lower);
         }
         if rest.len() <= self.tail {
@@ -77,7 +77,7 @@ impl SetMatchCache {
         if let Some(front) = self.find(at, byte) {
             return front;
         }
-        let first = find_first_set_item(pattern, at, lower);
+        let first = find_first_item_place_in_set(pattern, at, lower);
         if self.is_known_unclosed_set(pattern, first, mode, lower) {
             return PatternItemMatch::make_one_byte_item(byte == b'[');
         }
@@ -99,14 +99,14 @@ impl SetMatchCache {
     ) -> bool
         requires within { first ≤ length pattern.now }
         requires known { IsCorrectSetCache mode lower pattern.now self.old }
-        ensures unclosed { IsTrue result → bracket_set_at (case_folded_bytes lower (drop first pattern.now)) ≡ None }
+        ensures unclosed { IsTrue result → set_items_behind_opening_bracket (bytes_case_folded_if_wanted lower (drop first pattern.now)) ≡ None }
         ensures known { IsCorrectSetCache mode lower pattern.now self.new }
         ensures tail { self.new.tail ≡ self.old.tail }
     {
         let Some(place) = self.unclosed else {
             return false;
         };
-        let place = skip_set_items(pattern, place, first, lower);
+        let place = skip_unclosed_set_items_up_to_place(pattern, place, first, lower);
         self.unclosed = Some(place);
         place == first
     }
@@ -138,7 +138,7 @@ impl SetMatchCache {
     {
         if self.at != at {
             self.at = at;
-            self.takes = make_empty_cache_table();
+            self.takes = make_table_with_no_byte_known();
         }
         self.len = front.len;
         self.takes[byte as usize] = Some(front.takes);
@@ -146,13 +146,13 @@ impl SetMatchCache {
 }
 
 /// Returns where the first item of a set begins whose `[` stands at `at`.
-fn find_first_set_item(pattern: &[u8], at: usize, lower: bool) -> usize
+fn find_first_item_place_in_set(pattern: &[u8], at: usize, lower: bool) -> usize
     requires { at < length pattern.now }
     ensures within { result ≤ length pattern.now }
-    ensures unclosed { bracket_set_at (case_folded_bytes lower (drop result pattern.now)) ≡ None → bracket_item (case_folded_bytes lower (drop (at + 1) pattern.now)) ≡ (Byte 91, 1) }
-    ensures closed { (bracket_item (case_folded_bytes lower (drop (at + 1) pattern.now))).1 ≡ 1 → bracket_set_at (case_folded_bytes lower (drop result pattern.now)) ≡ None }
+    ensures unclosed { set_items_behind_opening_bracket (bytes_case_folded_if_wanted lower (drop result pattern.now)) ≡ None → bracket_item (bytes_case_folded_if_wanted lower (drop (at + 1) pattern.now)) ≡ (Byte 91, 1) }
+    ensures closed { (bracket_item (bytes_case_folded_if_wanted lower (drop (at + 1) pattern.now))).1 ≡ 1 → set_items_behind_opening_bracket (bytes_case_folded_if_wanted lower (drop result pattern.now)) ≡ None }
 {
-    if at + 1 < pattern.len() && fold_byte_case(lower, pattern[at + 1]) == b'!' {
+    if at + 1 < pattern.len() && fold_byte_case_if_wanted(lower, pattern[at + 1]) == b'!' {
         at + 2
     } else {
         at + 1
@@ -160,10 +160,15 @@ fn find_first_set_item(pattern: &[u8], at: usize, lower: bool) -> usize
 }
 
 /// Returns where an item of a set begins that nothing closes, at `first` or behind it. One of its items begins at `place`.
-fn skip_set_items(pattern: &[u8], place: usize, first: usize, lower: bool) -> usize
+fn skip_unclosed_set_items_up_to_place(
+    pattern: &[u8],
+    place: usize,
+    first: usize,
+    lower: bool,
+) -> usize
     requires within { first ≤ length pattern.now }
-    requires unclosed { bracket_set_at (case_folded_bytes lower (drop place pattern.now)) ≡ None }
-    ensures { bracket_set_at (case_folded_bytes lower (drop result pattern.now)) ≡ None }
+    requires unclosed { set_items_behind_opening_bracket (bytes_case_folded_if_wanted lower (drop place pattern.now)) ≡ None }
+    ensures { set_items_behind_opening_bracket (bytes_case_folded_if_wanted lower (drop result pattern.now)) ≡ None }
 {
     let mut place = place;
     while place < first {
@@ -174,15 +179,15 @@ fn skip_set_items(pattern: &[u8], place: usize, first: usize, lower: bool) -> us
 }
 
 /// Returns a table in which no byte is known.
-fn make_empty_cache_table() -> [Option<bool>; 256]
+fn make_table_with_no_byte_known() -> [Option<bool>; 256]
     ensures { (b : ℕ) → get_or result b None ≡ None }
 {
     [None; 256]
 }
 
 /// Returns how many bytes at the end of `pattern` have no `]`.
-fn bracketless_tail_len(pattern: &[u8]) -> usize
-    ensures { IsBracketlessTail result pattern.now }
+fn closing_bracket_free_tail_len(pattern: &[u8]) -> usize
+    ensures { IsTailWithoutClosingBracket result pattern.now }
 {
     let mut at = pattern.len();
     while at > 0 && pattern[at - 1] != b']' {

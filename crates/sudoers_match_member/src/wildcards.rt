@@ -3,12 +3,12 @@
 ghost use Rattle.std.specs.Prelude.{◌≡◌, ◌↔◌, ◌≤◌, ◌∷◌, length, IsTrue, IfSome};
 ghost use Rattle.std.specs.List.{list_all};
 ghost use Rattle.sudoers_match_member.specs.Wildcard.{may_wildcard_take, is_pattern_match};
-ghost use Rattle.sudoers_match_member.specs.internal.Known.{IsCorrectSetCache, IsBracketlessTailAfterStar};
-ghost use Rattle.sudoers_match_member.specs.Folded.{case_folded_byte, case_folded_bytes};
-ghost use Rattle.sudoers_match_member.specs.internal.Run.{IsGlobProgressUpToStar, IsGlobProgressOfWhole, remaining_pattern_measure, DoesPatternMatch};
-ghost use Rattle.sudoers_match_member.specs.internal.Count.{CountsStarlessItems};
+ghost use Rattle.sudoers_match_member.specs.internal.Known.{IsCorrectSetCache, HasTailWithoutClosingBracketAfterStar};
+ghost use Rattle.sudoers_match_member.specs.Folded.{byte_case_folded_if_wanted, bytes_case_folded_if_wanted};
+ghost use Rattle.sudoers_match_member.specs.internal.Run.{IsMatchOutcomeUpToStar, IsMatchOutcomeOfWholePattern, remaining_pattern_measure, DoesPatternMatch};
+ghost use Rattle.sudoers_match_member.specs.internal.Count.{IsStarlessItemCountUpToLimit};
 
-use crate::byte_classes::fold_byte_case;
+use crate::byte_classes::fold_byte_case_if_wanted;
 use crate::set_cache::SetMatchCache;
 
 /// Which bytes wildcards match.
@@ -33,15 +33,15 @@ impl GlobMode {
 
     /// Returns whether wildcards may take all the bytes.
     fn may_wildcard_take_all(self, bytes: &[u8], lower: bool) -> bool
-        ensures { result ≡ list_all (λ b. may_wildcard_take self (case_folded_byte lower b)) bytes.now }
+        ensures { result ≡ list_all (λ b. may_wildcard_take self (byte_case_folded_if_wanted lower b)) bytes.now }
     {
-        bytes.iter().all(|byte| self.may_wildcard_take_byte(fold_byte_case(lower, *byte)))
+        bytes.iter().all(|byte| self.may_wildcard_take_byte(fold_byte_case_if_wanted(lower, *byte)))
     }
 }
 
 /// How far a pattern goes up to its next `*`.
 #[derive(Clone, Copy)]
-enum GlobProgress<'a> {
+enum MatchOutcomeUpToStar<'a> {
     /// To the end of the pattern and of the text.
     Matched,
     /// No text matches from here on.
@@ -57,43 +57,43 @@ fn match_up_to_star<'a>(
     mode: GlobMode,
     lower: bool,
     known: &mut SetMatchCache,
-) -> GlobProgress<'a>
+) -> MatchOutcomeUpToStar<'a>
     requires known { IsCorrectSetCache mode lower pattern.now known.old }
-    ensures outcome { IsGlobProgressUpToStar mode lower pattern.now text.now result }
+    ensures outcome { IsMatchOutcomeUpToStar mode lower pattern.now text.now result }
     ensures known { IsCorrectSetCache mode lower pattern.now known.new }
-    ensures behind { IsBracketlessTailAfterStar known.new.tail result }
+    ensures behind { HasTailWithoutClosingBracketAfterStar known.new.tail result }
 {
     let mut at = 0;
     let mut place = 0;
     while at < pattern.len() {
-        if fold_byte_case(lower, pattern[at]) == b'*' {
-            return GlobProgress::Star(&pattern[at + 1..], &text[place..]);
+        if fold_byte_case_if_wanted(lower, pattern[at]) == b'*' {
+            return MatchOutcomeUpToStar::Star(&pattern[at + 1..], &text[place..]);
         }
         if place == text.len() {
-            return GlobProgress::Failed;
+            return MatchOutcomeUpToStar::Failed;
         }
         let front = known.match_item_at(
             pattern,
             at,
-            fold_byte_case(lower, text[place]),
+            fold_byte_case_if_wanted(lower, text[place]),
             mode,
             lower,
         );
         if !front.takes {
-            return GlobProgress::Failed;
+            return MatchOutcomeUpToStar::Failed;
         }
         at += front.len;
         place += 1;
     }
     if place == text.len() {
-        GlobProgress::Matched
+        MatchOutcomeUpToStar::Matched
     } else {
-        GlobProgress::Failed
+        MatchOutcomeUpToStar::Failed
     }
 }
 
 /// Returns how many items `pattern` has, if no `*` is among them. It counts no further than one more than `most`.
-fn count_starless_items(
+fn count_items_if_no_star(
     pattern: &[u8],
     most: usize,
     mode: GlobMode,
@@ -101,13 +101,13 @@ fn count_starless_items(
     known: &mut SetMatchCache,
 ) -> Option<usize>
     requires known { IsCorrectSetCache mode lower pattern.now known.old }
-    ensures count { IfSome result (CountsStarlessItems (case_folded_bytes lower pattern.now) most) }
+    ensures count { IfSome result (IsStarlessItemCountUpToLimit (bytes_case_folded_if_wanted lower pattern.now) most) }
     ensures known { IsCorrectSetCache mode lower pattern.now known.new }
 {
     let mut at = 0;
     let mut count = 0;
     while at < pattern.len() && count <= most {
-        if fold_byte_case(lower, pattern[at]) == b'*' {
+        if fold_byte_case_if_wanted(lower, pattern[at]) == b'*' {
             return None;
         }
         at += known.match_item_at(pattern, at, 0, mode, lower).len;
@@ -118,7 +118,7 @@ fn count_starless_items(
 
 /// Returns whether `text` ends with bytes that match `pattern`, and a `*` may take those before them. `pattern` has `count` items, and
 /// no `*`: each takes one byte.
-fn matches_text_end(
+fn matches_star_and_last_items(
     pattern: &[u8],
     text: &[u8],
     count: usize,
@@ -127,8 +127,8 @@ fn matches_text_end(
     known: &mut SetMatchCache,
 ) -> bool
     requires known { IsCorrectSetCache mode lower pattern.now known.old }
-    requires count { CountsStarlessItems (case_folded_bytes lower pattern.now) (length text.now) count }
-    ensures { IsTrue result ↔ DoesPatternMatch mode (42 ∷ case_folded_bytes lower pattern.now) (case_folded_bytes lower text.now) }
+    requires count { IsStarlessItemCountUpToLimit (bytes_case_folded_if_wanted lower pattern.now) (length text.now) count }
+    ensures { IsTrue result ↔ DoesPatternMatch mode (42 ∷ bytes_case_folded_if_wanted lower pattern.now) (bytes_case_folded_if_wanted lower text.now) }
 {
     if text.len() < count {
         return false;
@@ -139,7 +139,7 @@ fn matches_text_end(
     }
     matches!(
         match_up_to_star(pattern, &text[place..], mode, lower, known),
-        GlobProgress::Matched
+        MatchOutcomeUpToStar::Matched
     )
 }
 
@@ -150,18 +150,20 @@ fn match_star_and_items<'a>(
     mode: GlobMode,
     lower: bool,
     known: &mut SetMatchCache,
-) -> GlobProgress<'a>
+) -> MatchOutcomeUpToStar<'a>
     requires known { IsCorrectSetCache mode lower pattern.now known.old }
-    ensures outcome { IsGlobProgressOfWhole mode lower (42 ∷ case_folded_bytes lower pattern.now) (case_folded_bytes lower text.now) result }
+    ensures outcome { IsMatchOutcomeOfWholePattern mode lower (42 ∷ bytes_case_folded_if_wanted lower pattern.now) (bytes_case_folded_if_wanted lower text.now) result }
     ensures shorter { remaining_pattern_measure result ≤ length pattern.now }
-    ensures behind { IsBracketlessTailAfterStar known.new.tail result }
+    ensures behind { HasTailWithoutClosingBracketAfterStar known.new.tail result }
 {
     let mut text = text;
     loop {
         match match_up_to_star(pattern, text, mode, lower, known) {
-            GlobProgress::Failed => {
-                if text.is_empty() || !mode.may_wildcard_take_byte(fold_byte_case(lower, text[0])) {
-                    return GlobProgress::Failed;
+            MatchOutcomeUpToStar::Failed => {
+                if text.is_empty()
+                    || !mode.may_wildcard_take_byte(fold_byte_case_if_wanted(lower, text[0]))
+                {
+                    return MatchOutcomeUpToStar::Failed;
                 }
                 text = &text[1..];
             }
@@ -173,23 +175,28 @@ fn match_star_and_items<'a>(
 /// Returns whether `text` matches `pattern`. Of several `*` the last alone is tried again, each time with a byte more. What is behind the
 /// last of all is tried at the end of the text alone.
 fn matches_whole_pattern(pattern: &[u8], text: &[u8], mode: GlobMode, lower: bool) -> bool
-    ensures { IsTrue result ↔ DoesPatternMatch mode (case_folded_bytes lower pattern.now) (case_folded_bytes lower text.now) }
+    ensures { IsTrue result ↔ DoesPatternMatch mode (bytes_case_folded_if_wanted lower pattern.now) (bytes_case_folded_if_wanted lower text.now) }
 {
     let mut known = SetMatchCache::make_for_pattern(pattern);
     let mut run = match_up_to_star(pattern, text, mode, lower, &mut known);
-    while let GlobProgress::Star(pattern, text) = run {
+    while let MatchOutcomeUpToStar::Star(pattern, text) = run {
         known.forget_cached_sets();
-        if let Some(count) = count_starless_items(pattern, text.len(), mode, lower, &mut known) {
-            return matches_text_end(pattern, text, count, mode, lower, &mut known);
+        if let Some(count) = count_items_if_no_star(pattern, text.len(), mode, lower, &mut known) {
+            return matches_star_and_last_items(pattern, text, count, mode, lower, &mut known);
         }
         run = match_star_and_items(pattern, text, mode, lower, &mut known);
     }
-    matches!(run, GlobProgress::Matched)
+    matches!(run, MatchOutcomeUpToStar::Matched)
 }
 
 /// Returns whether `text` matches `pattern` (sudoers(5), Wildcards).
-pub fn matches_glob_folding_case(pattern: &[u8], text: &[u8], mode: GlobMode, lower: bool) -> bool
-    ensures { result ≡ is_pattern_match mode (case_folded_bytes lower pattern.now) (case_folded_bytes lower text.now) }
+pub fn matches_glob_folding_case_if_wanted(
+    pattern: &[u8],
+    text: &[u8],
+    mode: GlobMode,
+    lower: bool,
+) -> bool
+    ensures { result ≡ is_pattern_match mode (bytes_case_folded_if_wanted lower pattern.now) (bytes_case_folded_if_wanted lower text.now) }
 {
     matches_whole_pattern(pattern, text, mode, lower)
 }
@@ -198,5 +205,5 @@ pub fn matches_glob_folding_case(pattern: &[u8], text: &[u8], mode: GlobMode, lo
 pub fn glob(pattern: &[u8], text: &[u8], mode: GlobMode) -> bool
     ensures { result ≡ is_pattern_match mode pattern.now text.now }
 {
-    matches_glob_folding_case(pattern, text, mode, false)
+    matches_glob_folding_case_if_wanted(pattern, text, mode, false)
 }

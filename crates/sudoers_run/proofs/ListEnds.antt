@@ -12,7 +12,7 @@ use Rattle.sudoers_list_people.specs.declared.fault.PeopleFile.TheVariants.{Pass
 use Rattle.sudoers_list_people.specs.declared.fault.PeopleFault.{PeopleFault}
 use Rattle.sudoers_list_people.specs.declared.fault.PeopleFault.TheVariants as people
 use Rattle.sudoers_list_people.specs.declared.fault.WhoFault.{WhoFault}
-use Rattle.sudoers_list_people.specs.Rows.{account_of_passwd_row, group_of_group_row, is_malformed_row}
+use Rattle.sudoers_list_people.specs.Rows.{account_of_passwd_row, group_file_row_of_text, is_malformed_row}
 use Rattle.sudoers_list_people.specs.Person.{who_or_who_fault}
 use Rattle.sudoers_list_people.specs.Asked.{request_or_who_fault}
 use Rattle.sudoers_list_people.specs.People.{People, bad_row_fault, people_of_texts, people_read_result, rows_of_file_text, ok_unless_fault}
@@ -21,10 +21,11 @@ use Rattle.sudoers_run.specs.declared.fault.LayerFault.TheVariants as layer
 use Rattle.sudoers_run.specs.declared.fault.ToolFault.{ToolFault}
 use Rattle.sudoers_run.specs.declared.fault.ToolFault.TheVariants as tool
 use Rattle.sudoers_run.specs.declared.command_words.ListWords.{ListWords}
-use Rattle.sudoers_run.specs.Device.{ReaderMeter}
+use Rattle.sudoers_files.specs.Device.{ReaderMeter}
 use Rattle.sudoers_run.specs.Policy.{IsFaultBeforeLoading}
-use Rattle.sudoers_run.specs.Reading.{IsReadAfterPrevious, IsLimitedReadingFault, ReadingEnd, IsFileReadingEffect, TooLarge, Unread, WasReadToEndOrLimit, Whole, reading_end_of_fault, reading_end_of_read_bytes}
-use Rattle.sudoers_run.specs.List.{AreReadingEndsOfListResult, AreReadingEndsOfPeopleFault, IsListOutcomeAsDefaultOrCycle, IsListAnswerOutcome, IsListOutcomeForQuestion, IsListOutcomeForFirstRequest, IsListOutcomeForPolicy, IsListOutcomeForRequest, IsListOutcomeForWho, IsListOutcomeForWords, ListCommandOutcome, ReadsPeopleFiles, optional_text_of_view}
+use Rattle.sudoers_files.specs.Reading.{ReadingEnd, IsMeterAfterReadingUpToLimit, TooLarge, Unread, Whole}
+use Rattle.sudoers_run.specs.Reading.{IsUnreadUnlessPreviousWasRead, IsFaultOfReadingUpToLimit, WasReadToEndOrLimit, reading_end_of_fault, reading_end_of_read_bytes}
+use Rattle.sudoers_run.specs.List.{AreReadingEndsOfListResult, AreReadingEndsOfPeopleFault, IsListOutcomeAsDefaultOrCycle, IsListAnswerOutcome, IsListOutcomeForQuestion, IsListOutcomeAsDefaultUnlessRequestFails, IsListOutcomeForPolicy, IsListOutcomeForRequest, IsListOutcomeForWho, IsListOutcomeForWords, ListCommandOutcome, AreMetersAfterReadingPeopleFiles, optional_text_of_view}
 use Rattle.sudoers_run.proofs.PolicyLemmas.{front_was_read_to_end_or_limit}
 
 -- ---- the faults of passwd and group
@@ -85,7 +86,7 @@ default_outcome_has_question_fault : (w : ListWords) (p : LoadedPolicy) (people 
 default_outcome_has_question_fault w p people who fault (inl a) = subst IsQuestionFault (equal_error_outcomes_have_equal_faults fault (layer.Ask Cycle) (Err fault) refl a.1) tt
 default_outcome_has_question_fault w p people who fault (inr d) = request_outcome_has_question_fault w p (request_or_who_fault people who d.user (optional_text_of_view w.group) w.words.now w.moment.now) fault d.asked
 
-first_request_outcome_has_question_fault : (w : ListWords) (p : LoadedPolicy) (people : People) (told : Result Request WhoFault) (fault : LayerFault) → IsListOutcomeForFirstRequest w p people told (Err fault) → IsQuestionFault fault
+first_request_outcome_has_question_fault : (w : ListWords) (p : LoadedPolicy) (people : People) (told : Result Request WhoFault) (fault : LayerFault) → IsListOutcomeAsDefaultUnlessRequestFails w p people told (Err fault) → IsQuestionFault fault
 first_request_outcome_has_question_fault w p people (Ok r) fault is = default_outcome_has_question_fault w p people r.who fault is
 first_request_outcome_has_question_fault w p people (Err f) fault e = subst IsQuestionFault (equal_error_outcomes_have_equal_faults fault (layer.Who f) (Err fault) refl e) tt
 
@@ -137,7 +138,7 @@ outcome_for_policy_has_its_reading_ends w policy passwd group o is =
     let b : Bool = nat_lt text_limit (length u) in
     let c : Bool = nat_lt text_limit (length g) in
     let first : Option ℕ = position_from (is_malformed_row account_of_passwd_row) 1 (rows_of_file_text u) in
-    let later : Option ℕ = position_from (is_malformed_row group_of_group_row) 1 (rows_of_file_text g) in
+    let later : Option ℕ = position_from (is_malformed_row group_file_row_of_text) 1 (rows_of_file_text g) in
     outcome_for_policy_has_people_reading_ends w policy (people_read_result u g) (reading_end_of_read_bytes text_limit (Ok passwd)) (reading_end_of_read_bytes text_limit (Ok group)) o is (front_was_read_to_end_or_limit text_limit passwd) (front_was_read_to_end_or_limit text_limit group)
     (λ f e. people_fault_has_its_reading_ends b c first later (people_of_texts u g) f e) (λ x e. people_read_imply_whole_readings b c first later (people_of_texts u g) x e)
 
@@ -146,10 +147,10 @@ outcome_for_policy_has_its_reading_ends w policy passwd group o is =
 abbrev pub AreReadingEndsOfListFiles : Result ℕ ToolFault → Vec ℕ Global → Vec ℕ Global → Type 0
 AreReadingEndsOfListFiles result passwd group = AreReadingEndsOfListResult result (reading_end_of_read_bytes text_limit (Ok passwd)) (reading_end_of_read_bytes text_limit (Ok group))
 
-unread_file_has_no_reading_effect : (limit : ℕ) (m : ReaderMeter) → IsFileReadingEffect limit Unread m m
+unread_file_has_no_reading_effect : (limit : ℕ) (m : ReaderMeter) → IsMeterAfterReadingUpToLimit limit Unread m m
 unread_file_has_no_reading_effect limit m = record { asked = omega arith; well = λ h. refl; shows = refl }
 
-file_read_to_end_allows_next_reading : (how next : ReadingEnd) → WasReadToEndOrLimit how → IsReadAfterPrevious how next
+file_read_to_end_allows_next_reading : (how next : ReadingEnd) → WasReadToEndOrLimit how → IsUnreadUnlessPreviousWasRead how next
 file_read_to_end_allows_next_reading Whole next was = tt
 file_read_to_end_allows_next_reading TooLarge next was = tt
 file_read_to_end_allows_next_reading how next was = absurd was
@@ -167,7 +168,7 @@ fault_before_loading_has_unread_files (layer.People f) is = absurd is
 fault_before_loading_has_unread_files (layer.Who f) is = absurd is
 fault_before_loading_has_unread_files (layer.Ask f) is = absurd is
 
-limited_reading_fault_has_its_reading_end : (fault : ToolFault) → IsLimitedReadingFault fault → (u g : ReadingEnd) → (u ≡ reading_end_of_fault fault) ⊎ (g ≡ reading_end_of_fault fault) → AreReadingEndsOfListResult (Err fault) u g
+limited_reading_fault_has_its_reading_end : (fault : ToolFault) → IsFaultOfReadingUpToLimit fault → (u g : ReadingEnd) → (u ≡ reading_end_of_fault fault) ⊎ (g ≡ reading_end_of_fault fault) → AreReadingEndsOfListResult (Err fault) u g
 limited_reading_fault_has_its_reading_end tool.Read is u g at = at
 limited_reading_fault_has_its_reading_end tool.NoEnd is u g at = at
 limited_reading_fault_has_its_reading_end (tool.Layer layer.NoMemory) is u g at = inr (inl at)
@@ -185,16 +186,16 @@ limited_reading_fault_has_its_reading_end tool.NoMark is u g at = absurd is
 limited_reading_fault_has_its_reading_end (tool.BadBundle file) is u g at = absurd is
 limited_reading_fault_has_its_reading_end tool.InputTooLarge is u g at = absurd is
 
-failed_reading_has_unread_next_file : (fault : ToolFault) → IsLimitedReadingFault fault → IsReadAfterPrevious (reading_end_of_fault fault) Unread
+failed_reading_has_unread_next_file : (fault : ToolFault) → IsFaultOfReadingUpToLimit fault → IsUnreadUnlessPreviousWasRead (reading_end_of_fault fault) Unread
 failed_reading_has_unread_next_file tool.Read is = refl
 failed_reading_has_unread_next_file tool.NoEnd is = refl
 failed_reading_has_unread_next_file (tool.Layer layer.NoMemory) is = refl
 failed_reading_has_unread_next_file fault is = tt
 
 -- The files of the policy could not be gathered.
-pub fault_before_loading_reads_no_people_files : (result : Result ℕ ToolFault) (fault : LayerFault) (u g : ReaderMeter) → result ≡ Err (tool.Layer fault) → IsFaultBeforeLoading fault → ReadsPeopleFiles result u u g g
+pub fault_before_loading_reads_no_people_files : (result : Result ℕ ToolFault) (fault : LayerFault) (u g : ReaderMeter) → result ≡ Err (tool.Layer fault) → IsFaultBeforeLoading fault → AreMetersAfterReadingPeopleFiles result u u g g
 fault_before_loading_reads_no_people_files result fault u g same is =
-    subst (λ r. ReadsPeopleFiles r u u g g) (sym same) (record {
+    subst (λ r. AreMetersAfterReadingPeopleFiles r u u g g) (sym same) (record {
       passwd_how = Unread;
       group_how = Unread;
       ends = fault_before_loading_has_unread_files fault is;
@@ -204,10 +205,10 @@ fault_before_loading_reads_no_people_files result fault u g same is =
     })
 
 -- The reading ended with passwd.
-pub fault_in_passwd_reads_no_group_file : (result : Result ℕ ToolFault) (fault : ToolFault) (u u' g : ReaderMeter) → result ≡ Err fault → IsLimitedReadingFault fault
-    → IsFileReadingEffect text_limit (reading_end_of_fault fault) u u' → ReadsPeopleFiles result u u' g g
+pub fault_in_passwd_reads_no_group_file : (result : Result ℕ ToolFault) (fault : ToolFault) (u u' g : ReaderMeter) → result ≡ Err fault → IsFaultOfReadingUpToLimit fault
+    → IsMeterAfterReadingUpToLimit text_limit (reading_end_of_fault fault) u u' → AreMetersAfterReadingPeopleFiles result u u' g g
 fault_in_passwd_reads_no_group_file result fault u u' g same is reads =
-    subst (λ r. ReadsPeopleFiles r u u' g g) (sym same) (record {
+    subst (λ r. AreMetersAfterReadingPeopleFiles r u u' g g) (sym same) (record {
       passwd_how = reading_end_of_fault fault;
       group_how = Unread;
       ends = limited_reading_fault_has_its_reading_end fault is (reading_end_of_fault fault) Unread (inl refl);
@@ -217,10 +218,10 @@ fault_in_passwd_reads_no_group_file result fault u u' g same is reads =
     })
 
 -- The reading ended with group.
-pub fault_in_group_reads_both_people_files : (result : Result ℕ ToolFault) (fault : ToolFault) (passwd : Vec ℕ Global) (u u' g g' : ReaderMeter) → result ≡ Err fault → IsLimitedReadingFault fault
-    → IsFileReadingEffect text_limit (reading_end_of_read_bytes text_limit (Ok passwd)) u u' → IsFileReadingEffect text_limit (reading_end_of_fault fault) g g' → ReadsPeopleFiles result u u' g g'
+pub fault_in_group_reads_both_people_files : (result : Result ℕ ToolFault) (fault : ToolFault) (passwd : Vec ℕ Global) (u u' g g' : ReaderMeter) → result ≡ Err fault → IsFaultOfReadingUpToLimit fault
+    → IsMeterAfterReadingUpToLimit text_limit (reading_end_of_read_bytes text_limit (Ok passwd)) u u' → IsMeterAfterReadingUpToLimit text_limit (reading_end_of_fault fault) g g' → AreMetersAfterReadingPeopleFiles result u u' g g'
 fault_in_group_reads_both_people_files result fault passwd u u' g g' same is reads last =
-    subst (λ r. ReadsPeopleFiles r u u' g g') (sym same) (record {
+    subst (λ r. AreMetersAfterReadingPeopleFiles r u u' g g') (sym same) (record {
       passwd_how = reading_end_of_read_bytes text_limit (Ok passwd);
       group_how = reading_end_of_fault fault;
       ends = limited_reading_fault_has_its_reading_end fault is (reading_end_of_read_bytes text_limit (Ok passwd)) (reading_end_of_fault fault) (inr refl);
@@ -231,7 +232,7 @@ fault_in_group_reads_both_people_files result fault passwd u u' g g' same is rea
 
 -- Both were read.
 pub result_of_both_files_reads_people_files : (result : Result ℕ ToolFault) (passwd group : Vec ℕ Global) (u u' g g' : ReaderMeter) → AreReadingEndsOfListFiles result passwd group
-    → IsFileReadingEffect text_limit (reading_end_of_read_bytes text_limit (Ok passwd)) u u' → IsFileReadingEffect text_limit (reading_end_of_read_bytes text_limit (Ok group)) g g' → ReadsPeopleFiles result u u' g g'
+    → IsMeterAfterReadingUpToLimit text_limit (reading_end_of_read_bytes text_limit (Ok passwd)) u u' → IsMeterAfterReadingUpToLimit text_limit (reading_end_of_read_bytes text_limit (Ok group)) g g' → AreMetersAfterReadingPeopleFiles result u u' g g'
 result_of_both_files_reads_people_files result passwd group u u' g g' ends reads last = record {
   passwd_how = reading_end_of_read_bytes text_limit (Ok passwd);
   group_how = reading_end_of_read_bytes text_limit (Ok group);

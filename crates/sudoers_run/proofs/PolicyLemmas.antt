@@ -9,8 +9,9 @@ use Rattle.sudoers_tree.specs.declared.named_files.NamedFile.{NamedFile}
 use Rattle.sudoers_run.specs.declared.fault.LayerFault.{LayerFault}
 use Rattle.sudoers_run.specs.declared.fault.LayerFault.TheVariants as layer
 use Rattle.sudoers_run.specs.declared.fault.ToolFault.TheVariants as tool
-use Rattle.sudoers_run.specs.Device.{ReaderMeter}
-use Rattle.sudoers_run.specs.Reading.{IsTextReadUpToLimit, IsTextOfReader, TooLarge, WasReadToEndOrLimit, Whole, reading_end_of_read_bytes}
+use Rattle.sudoers_files.specs.Device.{ReaderMeter}
+use Rattle.sudoers_files.specs.Reading.{IsReadToEndOrBytePastLimit, IsTextOfReader, TooLarge, Whole}
+use Rattle.sudoers_run.specs.Reading.{WasReadToEndOrLimit, reading_end_of_read_bytes}
 
 -- ---- files
 
@@ -50,7 +51,7 @@ front_alike_known_is_alike_reader_text : (o : Option (List ℕ)) (front : List �
 front_alike_known_is_alike_reader_text None front is = inl refl
 front_alike_known_is_alike_reader_text (Some known) front is = is
 
-pub text_read_to_limit_is_alike_reader : (old new : ReaderMeter) (front : List ℕ) → IsTextReadUpToLimit text_limit old new front → IsTextAlikeUpToLimit front (text_of_reader_or_front old.remaining front)
+pub text_read_to_limit_is_alike_reader : (old new : ReaderMeter) (front : List ℕ) → IsReadToEndOrBytePastLimit text_limit old new front → IsTextAlikeUpToLimit front (text_of_reader_or_front old.remaining front)
 text_read_to_limit_is_alike_reader old new front is = front_alike_known_is_alike_reader_text old.remaining front (consumed_front_is_alike_up_to_limit old.remaining new.remaining front is.taken is.all)
 
 -- A front was read.

@@ -15,7 +15,7 @@ use Rattle.sudoers_cvt_rewrite.specs.FilterText.{filter_read_from_text}
 use Rattle.sudoers_match_list.specs.Flattened.{expanded_member_limit}
 use Rattle.sudoers_cvt_rewrite.specs.Rewrite.{PolicyChanges, has_reachable_alias_cycle, member_count_of_rules, rewritten_lines_of_policy, rules_with_used_definitions}
 use Rattle.sudoers_cvt_json.specs.Value.{json_text_of_rules, rules_object_value}
-use Rattle.sudoers_cvt_json.specs.Unicode.{is_unicode}
+use Rattle.sudoers_cvt_json.specs.Unicode.{are_texts_of_value_unicode}
 use Rattle.sudoers_run.specs.declared.output_form.OutputForm.{OutputForm}
 use Rattle.sudoers_run.specs.declared.output_form.OutputForm.TheVariants as form
 use Rattle.sudoers_run.specs.declared.command_words.ConvertWords.{ConvertWords}
@@ -24,12 +24,12 @@ use Rattle.sudoers_run.specs.declared.fault.LayerFault.TheVariants as layer
 use Rattle.sudoers_run.specs.declared.fault.ToolFault.{ToolFault}
 use Rattle.sudoers_run.specs.Faults.{IsFilterFaultNotMemory, IsWriteFaultOr}
 use Rattle.sudoers_edit.specs.Memory.{IsMemoryFreeLoadFault}
-use Rattle.sudoers_run.specs.Policy.{IsFaultBeforeLoading, IsStatedOrOutsideFault, result_of_files_from_root}
+use Rattle.sudoers_run.specs.Policy.{IsFaultBeforeLoading, IsStatedOrOutsideFault, result_after_loading_from_root}
 
 -- rules as the text of a policy, if it is within the limits; or as JSON, if all their texts are UTF-8
 abbrev pub rules_text_in_form : OutputForm → Rules → Result (List ℕ) LayerFault
 rules_text_in_form form.Sudoers rules = if is_printed_within_limits rules then Ok (printed_rules rules) else Err (layer.Convert TooLarge)
-rules_text_in_form form.Json rules = if is_unicode (rules_object_value rules) then Ok (json_text_of_rules rules) else Err (layer.Convert NotUtf8)
+rules_text_in_form form.Json rules = if are_texts_of_value_unicode (rules_object_value rules) then Ok (json_text_of_rules rules) else Err (layer.Convert NotUtf8)
 
 -- The rules of a policy that is filtered or expanded. No reachable alias may be cyclic, and expanded rules have a limit of members.
 abbrev pub rewritten_rules_text : OutputForm → PolicyChanges → List Line → Result (List ℕ) LayerFault
@@ -43,13 +43,13 @@ abbrev pub rules_text_changed_if_asked : OutputForm → PolicyChanges → List L
 rules_text_changed_if_asked f c lines = if is_some c.filter || c.expand then rewritten_rules_text f c lines else rules_text_in_form f (rules_of_policy_lines lines)
 
 -- the filter of the command line, if there is one
-abbrev pub optional_filter_result : Result Filter FilterFault → Result (Option Filter) LayerFault
-optional_filter_result (Ok filter) = Ok (Some filter)
-optional_filter_result (Err fault) = Err (layer.Filter fault)
+abbrev pub some_filter_or_layer_fault : Result Filter FilterFault → Result (Option Filter) LayerFault
+some_filter_or_layer_fault (Ok filter) = Ok (Some filter)
+some_filter_or_layer_fault (Err fault) = Err (layer.Filter fault)
 
-abbrev pub filter_of_optional_text : Option (List ℕ) → Result (Option Filter) LayerFault
-filter_of_optional_text None = Ok None
-filter_of_optional_text (Some text) = optional_filter_result (filter_read_from_text text)
+abbrev pub optional_filter_of_optional_text : Option (List ℕ) → Result (Option Filter) LayerFault
+optional_filter_of_optional_text None = Ok None
+optional_filter_of_optional_text (Some text) = some_filter_or_layer_fault (filter_read_from_text text)
 
 abbrev pub changes_of_convert_words : ConvertWords → Option Filter → PolicyChanges
 changes_of_convert_words words filter = record { filter = filter; prune = words.prune; expand = words.expand }
@@ -62,7 +62,7 @@ convert_output_of_filter words lines (Ok filter) = rules_text_changed_if_asked w
 convert_output_of_filter words lines (Err fault) = Err fault
 
 abbrev pub convert_output_of_lines : ConvertWords → List Line → Result (List ℕ) LayerFault
-convert_output_of_lines words lines = convert_output_of_filter words lines (filter_of_optional_text (filter_text_of_words words))
+convert_output_of_lines words lines = convert_output_of_filter words lines (optional_filter_of_optional_text (filter_text_of_words words))
 
 -- the rules of a policy in this form, or the fault of files that are none
 abbrev pub convert_output_of_loading : ConvertWords → Result LoadedPolicy LoadFault → Result (List ℕ) LayerFault
@@ -71,11 +71,11 @@ convert_output_of_loading words (Err fault) = Err (layer.Load fault)
 
 -- the same of the policy that these files are from `root` on
 abbrev pub convert_output : ConvertWords → List ℕ → List NamedFile → Result (List ℕ) LayerFault
-convert_output words root known = result_of_files_from_root (convert_output_of_loading words) root known
+convert_output words root known = result_after_loading_from_root (convert_output_of_loading words) root known
 
 -- a fault that the files have, or the words; those of the devices and of memory say nothing of them
-abbrev pub IsConvertFaultOfFiles : ConvertWords → List ℕ → ToolFault → List NamedFile → Type 0
-IsConvertFaultOfFiles words root fault known = IsWriteFaultOr (λ (said : LayerFault). IsStatedOrOutsideFault said (convert_output words root known)) fault
+abbrev pub IsStatedOrOutsideConvertFault : ConvertWords → List ℕ → ToolFault → List NamedFile → Type 0
+IsStatedOrOutsideConvertFault words root fault known = IsWriteFaultOr (λ (said : LayerFault). IsStatedOrOutsideFault said (convert_output words root known)) fault
 
 -- the one fault that rules can have in this form
 abbrev pub fault_of_output_form : OutputForm → CvtFault
@@ -113,7 +113,7 @@ IsGatheredConvertFault words (layer.Load fault) = IsMemoryFreeLoadFault fault
 IsGatheredConvertFault words (layer.Gather fault) = ⊥
 IsGatheredConvertFault words layer.NoMemory = Unit {0}
 IsGatheredConvertFault words (layer.Convert fault) = IsPolicyConversionFault words fault
-IsGatheredConvertFault words (layer.Filter fault) = IsFilterFaultNotMemory fault × (filter_of_optional_text (filter_text_of_words words) ≡ Err (layer.Filter fault))
+IsGatheredConvertFault words (layer.Filter fault) = IsFilterFaultNotMemory fault × (optional_filter_of_optional_text (filter_text_of_words words) ≡ Err (layer.Filter fault))
 IsGatheredConvertFault words (layer.Script fault) = ⊥
 IsGatheredConvertFault words (layer.Edit place fault) = ⊥
 IsGatheredConvertFault words (layer.People fault) = ⊥

@@ -16,8 +16,8 @@ use Rattle.sudoers_files.specs.declared.fault.GatherFault.{GatherFault}
 use Rattle.sudoers_files.specs.declared.fault.GatherFault.TheVariants as gather
 use Rattle.sudoers_edit.specs.declared.fault.EditFault.{EditFault}
 use Rattle.sudoers_edit.specs.declared.fault.EditFault.TheVariants as edit
-use Rattle.sudoers_edit_script.specs.declared.script.ScriptFault.{ScriptFault}
-use Rattle.sudoers_edit_script.specs.declared.script.ScriptFault.TheVariants as script
+use Rattle.sudoers_edit_script.specs.declared.script_reader.ScriptFault.{ScriptFault}
+use Rattle.sudoers_edit_script.specs.declared.script_reader.ScriptFault.TheVariants as script
 use Rattle.sudoers_cvt_rules.specs.declared.fault.CvtFault.{CvtFault}
 use Rattle.sudoers_cvt_rules.specs.declared.fault.CvtFault.TheVariants as cvt
 use Rattle.sudoers_cvt_rewrite.specs.declared.filter_text.FilterFault.{FilterFault}
@@ -63,23 +63,23 @@ abbrev pub include_line_text : List ℕ → ℕ → List ℕ → List ℕ
 include_line_text file line name = file ++ codes ":" ++ decimal line ++ codes ":1: include " ++ name
 
 -- a fault of a policy: its lines and columns count from 1
-abbrev pub read_fault_message : ReadFault → List ℕ → List ℕ
-read_fault_message (read.Text fault) file = text_fault_message fault file
-read_fault_message (read.Syntax line col why) file =
+abbrev pub policy_file_fault_message : ReadFault → List ℕ → List ℕ
+policy_file_fault_message (read.Text fault) file = text_fault_message fault file
+policy_file_fault_message (read.Syntax line col why) file =
     file ++ codes ":" ++ decimal line ++ codes ":" ++ decimal col ++ codes ": syntax error: " ++ syntax_reason_name why
-read_fault_message (read.Reserved k name) file = alias_name_in_file_text file k name ++ codes " reserved"
-read_fault_message (read.Duplicate k name) file = alias_name_in_file_text file k name ++ codes " defined twice"
-read_fault_message (read.TooMany k) file = file ++ codes ": too many " ++ alias_line_keyword k
-read_fault_message (read.NotLoaded line name) file = include_line_text file line name ++ codes " not loaded"
-read_fault_message (read.Twice line name) file = include_line_text file line name ++ codes " twice"
-read_fault_message (read.TooDeep line) file = file ++ codes ":" ++ decimal line ++ codes ":1: includes nested too deep"
-read_fault_message read.NoMemory file = codes "NoMemory"
+policy_file_fault_message (read.Reserved k name) file = alias_name_in_file_text file k name ++ codes " reserved"
+policy_file_fault_message (read.Duplicate k name) file = alias_name_in_file_text file k name ++ codes " defined twice"
+policy_file_fault_message (read.TooMany k) file = file ++ codes ": too many " ++ alias_line_keyword k
+policy_file_fault_message (read.NotLoaded line name) file = include_line_text file line name ++ codes " not loaded"
+policy_file_fault_message (read.Twice line name) file = include_line_text file line name ++ codes " twice"
+policy_file_fault_message (read.TooDeep line) file = file ++ codes ":" ++ decimal line ++ codes ":1: includes nested too deep"
+policy_file_fault_message read.NoMemory file = codes "NoMemory"
 
 -- a fault of files that are loaded, each with its name
 abbrev pub load_fault_message : LoadFault → List ℕ
 load_fault_message load.TooManyFiles = codes "TooManyFiles"
 load_fault_message (load.SameName file) = codes "SameName"
-load_fault_message (load.InFile file fault) = read_fault_message fault file
+load_fault_message (load.InFile file fault) = policy_file_fault_message fault file
 load_fault_message load.NoMemory = codes "NoMemory"
 
 -- a fault of files that are gathered

@@ -4,8 +4,8 @@ use Rattle.sudoers_edit.specs.declared.fault.EditFault.TheVariants as edit
 use Rattle.sudoers_edit.specs.Memory.{HasNoInnerMemoryFault}
 use Rattle.sudoers_cvt_rewrite.specs.declared.filter_text.FilterFault.{FilterFault}
 use Rattle.sudoers_cvt_rewrite.specs.declared.filter_text.FilterFault.TheVariants as filter
-use Rattle.sudoers_edit_script.specs.declared.script.ScriptFault.{ScriptFault}
-use Rattle.sudoers_edit_script.specs.declared.script.ScriptFault.TheVariants as script
+use Rattle.sudoers_edit_script.specs.declared.script_reader.ScriptFault.{ScriptFault}
+use Rattle.sudoers_edit_script.specs.declared.script_reader.ScriptFault.TheVariants as script
 use Rattle.sudoers_list_people.specs.declared.fault.PeopleFault.{PeopleFault}
 use Rattle.sudoers_list_people.specs.declared.fault.PeopleFault.TheVariants as people
 use Rattle.sudoers_list_people.specs.declared.fault.WhoFault.{WhoFault}

@@ -1,4 +1,4 @@
-pub mod Device
+pub mod Writing
 pub mod Reading
 pub mod Policy
 pub mod FaultText

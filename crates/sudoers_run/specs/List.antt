@@ -8,7 +8,7 @@ use Rattle.sudoers_tree.specs.declared.load_fault.LoadFault.{LoadFault}
 use Rattle.sudoers_tree.specs.Load.{LoadedPolicy, policy_or_load_fault}
 use Rattle.sudoers_files.specs.declared.fault.GatherFault.{GatherFault}
 use Rattle.sudoers_files.specs.Gather.{gathered_files_or_fault}
-use Rattle.sudoers_check.specs.Chains.{HasReachableCycle}
+use Rattle.sudoers_check.specs.Chains.{HasCyclicAliasReachedFromSpecOrDefaults}
 use Rattle.sudoers_match_member.specs.declared.people_and_commands.Who.{Who}
 use Rattle.sudoers_match_list.specs.declared.verdict.AskFault.TheVariants.{Cycle, TooLong}
 use Rattle.sudoers_match_member.specs.declared.request.Request.{Request}
@@ -23,10 +23,11 @@ use Rattle.sudoers_list_people.specs.declared.fault.PeopleFault.TheVariants as p
 use Rattle.sudoers_list_people.specs.declared.fault.WhoFault.{WhoFault}
 use Rattle.sudoers_list.specs.Listing.{IsListingOfUser}
 use Rattle.sudoers_list.specs.Reason.{IsReasonText}
-use Rattle.sudoers_run.specs.Device.{ReaderMeter}
+use Rattle.sudoers_files.specs.Device.{ReaderMeter}
 use Rattle.sudoers_edit.specs.Memory.{IsMemoryFreeLoadFault}
-use Rattle.sudoers_run.specs.Policy.{IsDeviceOrMemoryLayerFault, IsFaultBeforeLoading}
-use Rattle.sudoers_run.specs.Reading.{Failed, GivenUp, IsReadAfterPrevious, IsTextOfReader, OutOfMemory, ReadingEnd, IsFileReadingEffect, TooLarge, Unread, WasReadToEndOrLimit, Whole}
+use Rattle.sudoers_run.specs.Policy.{IsLayerFaultOfDeviceOrMemory, IsFaultBeforeLoading}
+use Rattle.sudoers_files.specs.Reading.{Failed, GivenUp, IsTextOfReader, OutOfMemory, ReadingEnd, IsMeterAfterReadingUpToLimit, TooLarge, Unread, Whole}
+use Rattle.sudoers_run.specs.Reading.{IsUnreadUnlessPreviousWasRead, WasReadToEndOrLimit}
 use Rattle.sudoers_run.specs.Faults.{IsDeviceFaultOr, IsPeopleFaultNotMemory, IsAskFaultNotMemory, IsWhoFaultNotMemory}
 use Rattle.sudoers_run.specs.declared.command_words.ListWords.{ListWords}
 use Rattle.sudoers_run.specs.declared.fault.LayerFault.{LayerFault}
@@ -45,8 +46,8 @@ optional_text_of_view text = option_map (λ (t : Bor (List ℕ)). t.now) text
 
 -- The text is what this user may run on this host. If a reachable alias is cyclic, the outcome is `Cycle`.
 abbrev pub IsListOutcomeOfListing : LoadedPolicy → Who → ListCommandOutcome → Type 0
-IsListOutcomeOfListing policy who (Ok told) = (HasReachableCycle policy.walk.lines → ⊥) × IsListingOfUser policy.walk.lines who told.0 × (told.1 ≡ 0)
-IsListOutcomeOfListing policy who (Err fault) = (fault ≡ layer.Ask Cycle) × HasReachableCycle policy.walk.lines
+IsListOutcomeOfListing policy who (Ok told) = (HasCyclicAliasReachedFromSpecOrDefaults policy.walk.lines → ⊥) × IsListingOfUser policy.walk.lines who told.0 × (told.1 ≡ 0)
+IsListOutcomeOfListing policy who (Err fault) = (fault ≡ layer.Ask Cycle) × HasCyclicAliasReachedFromSpecOrDefaults policy.walk.lines
 
 -- ---- a question
 
@@ -66,7 +67,7 @@ IsListAnswerText w policy r answer text = MatchBool w.why (IsReasonText policy r
 
 -- The last row that fits decides what is written and the status. No reachable alias is cyclic, and the arguments are not too long.
 pub record IsListAnswerOutput (w : ListWords) (policy : LoadedPolicy) (r : Request) (told : List ℕ × ℕ) : Type 0 where
-  pub straight : HasReachableCycle policy.walk.lines → ⊥
+  pub straight : HasCyclicAliasReachedFromSpecOrDefaults policy.walk.lines → ⊥
   pub short : length (words_joined_with_spaces r.args) ≤ joined_arguments_limit
   pub answer : Option Answer
   pub is_answer : IsAnswerToRequest policy.walk.lines r answer
@@ -76,8 +77,8 @@ pub record IsListAnswerOutput (w : ListWords) (policy : LoadedPolicy) (r : Reque
 abbrev pub IsListAnswerOutcome : ListWords → LoadedPolicy → Request → ListCommandOutcome → Type 0
 IsListAnswerOutcome w policy r (Ok told) = IsListAnswerOutput w policy r told
 IsListAnswerOutcome w policy r (Err fault) =
-    ((fault ≡ layer.Ask Cycle) × HasReachableCycle policy.walk.lines)
-    ⊎ ((fault ≡ layer.Ask TooLong) × (HasReachableCycle policy.walk.lines → ⊥) × (joined_arguments_limit < length (words_joined_with_spaces r.args)))
+    ((fault ≡ layer.Ask Cycle) × HasCyclicAliasReachedFromSpecOrDefaults policy.walk.lines)
+    ⊎ ((fault ≡ layer.Ask TooLong) × (HasCyclicAliasReachedFromSpecOrDefaults policy.walk.lines → ⊥) × (joined_arguments_limit < length (words_joined_with_spaces r.args)))
 
 abbrev pub IsListOutcomeForRequest : ListWords → LoadedPolicy → Result Request WhoFault → ListCommandOutcome → Type 0
 IsListOutcomeForRequest w policy (Ok r) outcome = IsListAnswerOutcome w policy r outcome
@@ -95,7 +96,7 @@ IsListOutcomeAsUser w policy people who user outcome =
 
 -- The command is to run as the user whom `runas_default` names. No reachable alias is cyclic.
 pub record IsListOutcomeAsRunasDefault (w : ListWords) (policy : LoadedPolicy) (people : People) (who : Who) (outcome : ListCommandOutcome) : Type 0 where
-  pub straight : HasReachableCycle policy.walk.lines → ⊥
+  pub straight : HasCyclicAliasReachedFromSpecOrDefaults policy.walk.lines → ⊥
   pub user : List ℕ
   pub is_default : IsRunasDefault policy.walk.lines who user
   pub asked : IsListOutcomeAsUser w policy people who user outcome
@@ -103,19 +104,19 @@ pub record IsListOutcomeAsRunasDefault (w : ListWords) (policy : LoadedPolicy) (
 -- The outcome is `Cycle` if a reachable alias is cyclic, and else that for the user whom `runas_default` names.
 abbrev pub IsListOutcomeAsDefaultOrCycle : ListWords → LoadedPolicy → People → Who → ListCommandOutcome → Type 0
 IsListOutcomeAsDefaultOrCycle w policy people who outcome =
-    (HasReachableCycle policy.walk.lines × (outcome ≡ Err (layer.Ask Cycle))) ⊎ IsListOutcomeAsRunasDefault w policy people who outcome
+    (HasCyclicAliasReachedFromSpecOrDefaults policy.walk.lines × (outcome ≡ Err (layer.Ask Cycle))) ⊎ IsListOutcomeAsRunasDefault w policy people who outcome
 
 -- Without `-u` and `-g` the command is to run as the user whom `runas_default` names. Faults of the request for the invoking user come
 -- first.
-abbrev pub IsListOutcomeForFirstRequest : ListWords → LoadedPolicy → People → Result Request WhoFault → ListCommandOutcome → Type 0
-IsListOutcomeForFirstRequest w policy people (Ok r) outcome = IsListOutcomeAsDefaultOrCycle w policy people r.who outcome
-IsListOutcomeForFirstRequest w policy people (Err fault) outcome = outcome ≡ Err (layer.Who fault)
+abbrev pub IsListOutcomeAsDefaultUnlessRequestFails : ListWords → LoadedPolicy → People → Result Request WhoFault → ListCommandOutcome → Type 0
+IsListOutcomeAsDefaultUnlessRequestFails w policy people (Ok r) outcome = IsListOutcomeAsDefaultOrCycle w policy people r.who outcome
+IsListOutcomeAsDefaultUnlessRequestFails w policy people (Err fault) outcome = outcome ≡ Err (layer.Who fault)
 
 abbrev pub IsListOutcomeForQuestion : ListWords → LoadedPolicy → People → Who → Option (List ℕ) → Option (List ℕ) → ListCommandOutcome → Type 0
 IsListOutcomeForQuestion w policy people who (Some target) group outcome = IsListOutcomeAsUser w policy people who target outcome
 IsListOutcomeForQuestion w policy people who None (Some group) outcome = IsListOutcomeAsUser w policy people who w.user.now outcome
 IsListOutcomeForQuestion w policy people who None None outcome =
-    IsListOutcomeForFirstRequest w policy people (request_or_who_fault people who w.user.now None w.words.now w.moment.now) outcome
+    IsListOutcomeAsDefaultUnlessRequestFails w policy people (request_or_who_fault people who w.user.now None w.words.now w.moment.now) outcome
 
 -- ---- all of it
 
@@ -157,9 +158,9 @@ pub record HoldsOfPeopleTexts (passwd group : ReaderMeter) (P : List ℕ → Lis
   pub holds : P passwd_text group_text
 
 -- The fault is the one that the files or the words have. Faults of devices and of memory may come whatever these are.
-abbrev pub IsListFaultOfFiles : ListWords → List ℕ → List NamedFile → ToolFault → List ℕ → List ℕ → Type 0
-IsListFaultOfFiles w root known fault passwd group =
-    IsDeviceFaultOr (λ (said : LayerFault). IsDeviceOrMemoryLayerFault said ⊎ IsListOutcome w root known passwd group (Err said)) fault
+abbrev pub IsStatedOrOutsideListFault : ListWords → List ℕ → List NamedFile → ToolFault → List ℕ → List ℕ → Type 0
+IsStatedOrOutsideListFault w root known fault passwd group =
+    IsDeviceFaultOr (λ (said : LayerFault). IsLayerFaultOfDeviceOrMemory said ⊎ IsListOutcome w root known passwd group (Err said)) fault
 
 -- the faults of files and words
 abbrev pub IsListWordsOrFilesFault : LayerFault → Type 0
@@ -181,8 +182,8 @@ IsListFault fault = IsDeviceFaultOr (λ (said : LayerFault). IsFaultBeforeLoadin
 -- ---- how the files were read
 
 -- The reading ended with passwd or with group, in this way.
-abbrev pub ReadingEndedWith : ReadingEnd → ReadingEnd → ReadingEnd → Type 0
-ReadingEndedWith how passwd group = (passwd ≡ how) ⊎ (group ≡ how)
+abbrev pub IsReadingEndOfPasswdOrGroup : ReadingEnd → ReadingEnd → ReadingEnd → Type 0
+IsReadingEndOfPasswdOrGroup how passwd group = (passwd ≡ how) ⊎ (group ≡ how)
 
 -- Neither passwd nor group was read.
 abbrev pub AreBothPeopleUnread : ReadingEnd → ReadingEnd → Type 0
@@ -198,20 +199,20 @@ AreReadingEndsOfPeopleFault fault passwd group = (passwd ≡ Whole) × (group �
 -- How passwd and group were read, by the result of a run. They are read after the files of the policy are gathered. So an error of
 -- gathering comes before they are read.
 abbrev pub AreReadingEndsOfListResult : Result ℕ ToolFault → ReadingEnd → ReadingEnd → Type 0
-AreReadingEndsOfListResult (Err tool.Read) passwd group = ReadingEndedWith Failed passwd group
-AreReadingEndsOfListResult (Err tool.NoEnd) passwd group = ReadingEndedWith GivenUp passwd group
+AreReadingEndsOfListResult (Err tool.Read) passwd group = IsReadingEndOfPasswdOrGroup Failed passwd group
+AreReadingEndsOfListResult (Err tool.NoEnd) passwd group = IsReadingEndOfPasswdOrGroup GivenUp passwd group
 AreReadingEndsOfListResult (Err (tool.Layer layer.NoMemory)) passwd group =
-    AreBothPeopleUnread passwd group ⊎ (ReadingEndedWith OutOfMemory passwd group ⊎ (WasReadToEndOrLimit passwd × WasReadToEndOrLimit group))
+    AreBothPeopleUnread passwd group ⊎ (IsReadingEndOfPasswdOrGroup OutOfMemory passwd group ⊎ (WasReadToEndOrLimit passwd × WasReadToEndOrLimit group))
 AreReadingEndsOfListResult (Err (tool.Layer (layer.Gather fault))) passwd group = AreBothPeopleUnread passwd group
 AreReadingEndsOfListResult (Err (tool.Layer (layer.Load fault))) passwd group = WasReadToEndOrLimit passwd × WasReadToEndOrLimit group
 AreReadingEndsOfListResult (Err (tool.Layer (layer.People fault))) passwd group = AreReadingEndsOfPeopleFault fault passwd group
 AreReadingEndsOfListResult result passwd group = (passwd ≡ Whole) × (group ≡ Whole)
 
 -- What reading passwd and then group does to their readers, by the result of a run.
-pub record ReadsPeopleFiles (result : Result ℕ ToolFault) (passwd passwd-new group group-new : ReaderMeter) : Type 0 where
+pub record AreMetersAfterReadingPeopleFiles (result : Result ℕ ToolFault) (passwd passwd-new group group-new : ReaderMeter) : Type 0 where
   pub passwd_how : ReadingEnd
   pub group_how : ReadingEnd
   pub ends : AreReadingEndsOfListResult result passwd_how group_how
-  pub group_after : IsReadAfterPrevious passwd_how group_how
-  pub reads_passwd : IsFileReadingEffect text_limit passwd_how passwd passwd-new
-  pub reads_group : IsFileReadingEffect text_limit group_how group group-new
+  pub group_after : IsUnreadUnlessPreviousWasRead passwd_how group_how
+  pub reads_passwd : IsMeterAfterReadingUpToLimit text_limit passwd_how passwd passwd-new
+  pub reads_group : IsMeterAfterReadingUpToLimit text_limit group_how group group-new

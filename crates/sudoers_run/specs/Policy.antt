@@ -19,12 +19,12 @@ result_after_gathering next (Ok found) = next found
 result_after_gathering next (Err fault) = Err (layer.Gather fault)
 
 -- the outcome `next` of loading files that are gathered, or why they cannot be gathered
-abbrev pub result_after_loading : {A : Type 0} → (Result LoadedPolicy LoadFault → Result A LayerFault) → Result (List NamedFile) GatherFault → Result A LayerFault
-result_after_loading next = result_after_gathering (λ found. next (policy_or_load_fault found))
+abbrev pub result_after_loading_gathered_files : {A : Type 0} → (Result LoadedPolicy LoadFault → Result A LayerFault) → Result (List NamedFile) GatherFault → Result A LayerFault
+result_after_loading_gathered_files next = result_after_gathering (λ found. next (policy_or_load_fault found))
 
 -- the outcome `next` of the policy that these files are from `root` on, or why they cannot be gathered
-abbrev pub result_of_files_from_root : {A : Type 0} → (Result LoadedPolicy LoadFault → Result A LayerFault) → List ℕ → List NamedFile → Result A LayerFault
-result_of_files_from_root next root known = result_after_loading next (gathered_files_or_fault known root)
+abbrev pub result_after_loading_from_root : {A : Type 0} → (Result LoadedPolicy LoadFault → Result A LayerFault) → List ℕ → List NamedFile → Result A LayerFault
+result_after_loading_from_root next root known = result_after_loading_gathered_files next (gathered_files_or_fault known root)
 
 -- The files are gathered from `root` on, and this is the outcome of loading them.
 pub record IsPolicyFromRoot (root : List ℕ) (policy : Result LoadedPolicy LoadFault) (known : List NamedFile) : Type 0 where
@@ -33,14 +33,14 @@ pub record IsPolicyFromRoot (root : List ℕ) (policy : Result LoadedPolicy Load
   pub loads : policy_or_load_fault files ≡ policy
 
 -- an error of a device or of memory, which may come whatever the files and the words are
-abbrev pub IsDeviceOrMemoryLayerFault : LayerFault → Type 0
-IsDeviceOrMemoryLayerFault layer.NoMemory = Unit {0}
-IsDeviceOrMemoryLayerFault (layer.Gather (gather.Device fault)) = Unit {0}
-IsDeviceOrMemoryLayerFault fault = ⊥
+abbrev pub IsLayerFaultOfDeviceOrMemory : LayerFault → Type 0
+IsLayerFaultOfDeviceOrMemory layer.NoMemory = Unit {0}
+IsLayerFaultOfDeviceOrMemory (layer.Gather (gather.Device fault)) = Unit {0}
+IsLayerFaultOfDeviceOrMemory fault = ⊥
 
 -- the stated error, or one of a device or of memory
 abbrev pub IsStatedOrOutsideFault : {A : Type 0} → LayerFault → Result A LayerFault → Type 0
-IsStatedOrOutsideFault fault wanted = IsDeviceOrMemoryLayerFault fault ⊎ (wanted ≡ Err fault)
+IsStatedOrOutsideFault fault wanted = IsLayerFaultOfDeviceOrMemory fault ⊎ (wanted ≡ Err fault)
 
 -- an error of gathering other than want of memory
 abbrev pub IsGatherFaultNotMemory : GatherFault → Type 0
@@ -55,8 +55,8 @@ IsFaultBeforeLoading (layer.Gather fault) = IsGatherFaultNotMemory fault
 IsFaultBeforeLoading fault = ⊥
 
 -- the stated error of gathering, or one of a device or of memory
-abbrev pub IsStatedGatherFault : List ℕ → LayerFault → List NamedFile → Type 0
-IsStatedGatherFault root fault known = IsDeviceOrMemoryLayerFault fault ⊎ ((why : GatherFault) × (fault ≡ layer.Gather why) × (gathered_files_or_fault known root ≡ Err why))
+abbrev pub IsStatedOrOutsideGatherFault : List ℕ → LayerFault → List NamedFile → Type 0
+IsStatedOrOutsideGatherFault root fault known = IsLayerFaultOfDeviceOrMemory fault ⊎ ((why : GatherFault) × (fault ≡ layer.Gather why) × (gathered_files_or_fault known root ≡ Err why))
 
 -- A command does not change its files. Its error is `Device` only if a call of them has failed or reported no end. With any other result no
 -- call has.

@@ -7,22 +7,22 @@ use Rattle.sudoers_run.specs.declared.fault.LayerFault.{LayerFault}
 use Rattle.sudoers_run.specs.declared.fault.LayerFault.TheVariants as layer
 use Rattle.sudoers_run.specs.declared.fault.ToolFault.{ToolFault}
 use Rattle.sudoers_edit.specs.Memory.{IsMemoryFreeLoadFault}
-use Rattle.sudoers_run.specs.Policy.{IsFaultBeforeLoading, IsStatedOrOutsideFault, result_of_files_from_root}
+use Rattle.sudoers_run.specs.Policy.{IsFaultBeforeLoading, IsStatedOrOutsideFault, result_after_loading_from_root}
 use Rattle.sudoers_run.specs.Faults.{IsWriteFaultOr}
 use Rattle.sudoers_run.specs.Shown.{shown_policy_text}
 
 -- what is shown of a policy, or the fault of files that are no policy
-abbrev pub show_output_of_loading : Result LoadedPolicy LoadFault → Result (List ℕ) LayerFault
-show_output_of_loading (Ok policy) = Ok (shown_policy_text policy.files)
-show_output_of_loading (Err fault) = Err (layer.Load fault)
+abbrev pub show_output_or_load_fault : Result LoadedPolicy LoadFault → Result (List ℕ) LayerFault
+show_output_or_load_fault (Ok policy) = Ok (shown_policy_text policy.files)
+show_output_or_load_fault (Err fault) = Err (layer.Load fault)
 
 -- the same of the policy that these files are from `root` on
 abbrev pub show_output : List ℕ → List NamedFile → Result (List ℕ) LayerFault
-show_output root known = result_of_files_from_root show_output_of_loading root known
+show_output root known = result_after_loading_from_root show_output_or_load_fault root known
 
 -- The fault is the one that the files have. Faults of devices and of memory may come whatever the files are.
-abbrev pub IsShowFaultOfFiles : List ℕ → ToolFault → List NamedFile → Type 0
-IsShowFaultOfFiles root fault known = IsWriteFaultOr (λ (said : LayerFault). IsStatedOrOutsideFault said (show_output root known)) fault
+abbrev pub IsStatedOrOutsideShowFault : List ℕ → ToolFault → List NamedFile → Type 0
+IsStatedOrOutsideShowFault root fault known = IsWriteFaultOr (λ (said : LayerFault). IsStatedOrOutsideFault said (show_output root known)) fault
 
 -- the faults of loading files that are gathered
 abbrev pub IsLoadOrMemoryFault : LayerFault → Type 0

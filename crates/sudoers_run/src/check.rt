@@ -1,25 +1,27 @@
 //! Checking a policy.
 ghost use Rattle.std.specs.Prelude.{◌≡◌, ◌≢◌, ◌+◌, ◌<◌, ◌≤◌, ◌++◌, true, false, codes, length, List, Ok, Err, Some, IfOk, IfErr, IfSome, IsOkAnd, OnErr, OnOk, min, ◌-◌, ◌^◌};
 ghost use Rattle.std.specs.Io.KnownBytes.{Keeps, Appends};
-ghost use Rattle.sudoers_run.specs.Device.{IsWriteEffect, AppendsPrefixOfBytes, IsCountRaised};
+ghost use Rattle.sudoers_files.specs.Device.{AppendsPrefixOfBytes, IsCountHigherOrAtMaximum};
+ghost use Rattle.sudoers_run.specs.Writing.{IsWriterStateAfterCommand};
 ghost use Rattle.sudoers_tree.specs.declared.named_files.NamedFile.{NamedFile as NamedFileOf};
 ghost use Rattle.sudoers_tree.specs.Load.{policy_or_load_fault};
-ghost use Rattle.sudoers_run.specs.Policy.{IsDeviceOrMemoryLayerFault, CommandLeavesFilesUnchanged};
+ghost use Rattle.sudoers_run.specs.Policy.{IsLayerFaultOfDeviceOrMemory, CommandLeavesFilesUnchanged};
 ghost use Rattle.sudoers_run.specs.FaultText.{load_fault_message};
-ghost use Rattle.sudoers_run.specs.Check.{check_report_text as text_of_check, check_exit_status, check_output, check_text_of_found, unread_line_unless_found, check_status_from_root, text_unless_quiet, not_read_line, unread_lines_text, unread_reason_of_name, IsCheckFault, IsCheckFaultOfFiles};
-ghost use Rattle.sudoers_run.specs.internal.LayerOf.{tool_result_of_layer_result};
+ghost use Rattle.sudoers_run.specs.Check.{check_report_text as text_of_check, check_exit_status, check_output, check_text_of_found, unread_line_unless_found, check_status_from_root, text_unless_quiet, not_read_line, unread_lines_text, unread_reason_of_name, IsCheckFault, IsStatedOrOutsideCheckFault};
+ghost use Rattle.sudoers_run.specs.Edit.{layer_result_with_tool_fault};
 
 use crate::command_words::CheckWords;
-use crate::counting_devices::Sink;
 use crate::fault::{LayerFault, ToolFault};
 use crate::fault_texts::make_load_fault_text;
 use crate::loading::{gather_policy_files, load_gathered_files};
-use crate::output::{CommandOutput, write_all_to_sink};
+use crate::output::{OutputTextAndStatus, write_all_to_sink};
 use std::alloc::{AllocError, Global};
 use sudoers_check::{check, report_text};
-use sudoers_files::{Files, UnreadInclude, find_unread_includes};
+use sudoers_files::{
+    Files, MissingFolderOrSkippedFile, Sink, find_missing_folders_and_skipped_files,
+};
 use sudoers_tree::{
-    LoadFault, NamedFile, Policy, base_name_of, has_file_named, is_included_base_name,
+    LoadFault, NamedFile, Policy, base_name_of_path, has_file_named, is_included_base_name,
 };
 
 /// Reads the policy `root` with the files that it includes, and writes the notes on its aliases. If the files are no policy, writes the
@@ -41,7 +43,7 @@ pub fn run_check<F: Files, W: Sink>(
     ensures ok { IfOk result (λ status. IfSome (F.shelf files.old).files (λ known.
         IsOkAnd (check_output words.now root.now known) (Appends (W.contents writer.old) (W.contents writer.new)))) }
     // A fault of gathering the files is the stated one.
-    ensures fault { IfErr result (λ fault. IfSome (F.shelf files.old).files (IsCheckFaultOfFiles words.now.strict root.now fault)) }
+    ensures fault { IfErr result (λ fault. IfSome (F.shelf files.old).files (IsStatedOrOutsideCheckFault words.now.strict root.now fault)) }
     // There are no other faults.
     ensures named { IfErr result IsCheckFault }
     // After `Write`, what was written is a beginning of the output.
@@ -49,7 +51,7 @@ pub fn run_check<F: Files, W: Sink>(
         IsOkAnd (check_output words.now root.now known) (AppendsPrefixOfBytes (W.contents writer.old) (W.contents writer.new))) }
     // What the counts of the files show, and that nothing is written before a fault, as the counts of the writer show.
     ensures searches { CommandLeavesFilesUnchanged result (F.shelf files.old) (F.shelf files.new) }
-    ensures writes { IsWriteEffect result (W.Sink.failures writer.old) (W.Sink.failures writer.new)
+    ensures writes { IsWriterStateAfterCommand result (W.Sink.failures writer.old) (W.Sink.failures writer.new)
         (W.contents writer.old) (W.contents writer.new) }
     ensures statuses { IfOk result (λ status. status ≤ 1) }
     // With `quiet`, nothing is written.
@@ -57,16 +59,20 @@ pub fn run_check<F: Files, W: Sink>(
 {
     let found = gather_policy_files(alloc, files, root)?;
     let output = check_gathered_files(alloc, files, found.as_slice(), words)?;
-    write_unless_quiet(writer, words.quiet, output.text.as_slice())?;
+    write_to_sink_unless_quiet(writer, words.quiet, output.text.as_slice())?;
     Ok(output.status)
 }
 
 /// Writes `text`, or nothing if `quiet`.
-fn write_unless_quiet<W: Sink>(writer: &mut W, quiet: bool, text: &[u8]) -> Result<(), ToolFault>
+fn write_to_sink_unless_quiet<W: Sink>(
+    writer: &mut W,
+    quiet: bool,
+    text: &[u8],
+) -> Result<(), ToolFault>
     ensures all { OnOk result (Appends (W.contents writer.old) (W.contents writer.new) (text_unless_quiet quiet text.now)) }
     ensures part { OnErr result (AppendsPrefixOfBytes (W.contents writer.old) (W.contents writer.new) (text_unless_quiet quiet text.now)) }
     ensures fault { IfErr result (λ fault. (fault ≡ ToolFault.Write) × (quiet ≡ false)
-        × IsCountRaised (W.Sink.failures writer.old) (W.Sink.failures writer.new)) }
+        × IsCountHigherOrAtMaximum (W.Sink.failures writer.old) (W.Sink.failures writer.new)) }
     ensures well { OnOk result (W.Sink.failures writer.new ≡ W.Sink.failures writer.old) }
     ensures silent { quiet ≡ true → Keeps (W.contents writer.old) (W.contents writer.new) }
 {
@@ -82,15 +88,15 @@ fn check_gathered_files<F: Files>(
     files: &mut F,
     found: &[NamedFile],
     words: &CheckWords,
-) -> Result<CommandOutput, LayerFault>
+) -> Result<OutputTextAndStatus, LayerFault>
     ensures text { IfOk result (λ output. IfSome (F.shelf files.old).files (λ known. output.text.items ≡ check_text_of_found words.now known found.now)) }
     ensures status { IfOk result (λ output. output.status ≡ check_exit_status words.now.strict (policy_or_load_fault found.now)) }
-    ensures outside { IfErr result IsDeviceOrMemoryLayerFault }
-    ensures searches { CommandLeavesFilesUnchanged (tool_result_of_layer_result result) (F.shelf files.old) (F.shelf files.new) }
+    ensures outside { IfErr result IsLayerFaultOfDeviceOrMemory }
+    ensures searches { CommandLeavesFilesUnchanged (layer_result_with_tool_fault result) (F.shelf files.old) (F.shelf files.new) }
 {
     let mut output = make_check_output(alloc, load_gathered_files(alloc, found)?, words.strict)?;
     if words.skipped {
-        let all = find_unread_includes(alloc, files, found)?;
+        let all = find_missing_folders_and_skipped_files(alloc, files, found)?;
         append_unread_lines(&mut output.text, found, all.as_slice())?;
     }
     Ok(output)
@@ -100,7 +106,7 @@ fn check_gathered_files<F: Files>(
 fn append_unread_lines(
     out: &mut Vec<u8>,
     found: &[NamedFile],
-    all: &[UnreadInclude],
+    all: &[MissingFolderOrSkippedFile],
 ) -> Result<(), AllocError>
     ensures { OnOk result (out.new.items ≡ out.old.items ++ unread_lines_text found.now all.now) }
 {
@@ -114,18 +120,18 @@ fn append_unread_lines(
 fn append_unread_file_line(
     out: &mut Vec<u8>,
     found: &[NamedFile],
-    one: &UnreadInclude,
+    one: &MissingFolderOrSkippedFile,
 ) -> Result<(), AllocError>
     ensures { OnOk result (out.new.items ≡ out.old.items ++ unread_line_unless_found found.now one.now) }
 {
     match one {
-        UnreadInclude::Folder(dir) => append_not_read_reason(
+        MissingFolderOrSkippedFile::Folder(dir) => append_not_read_reason(
             out,
             dir.as_slice(),
             b"no such folder",
         ),
-        UnreadInclude::File(name) if has_file_named(found, name.as_slice()) => Ok(()),
-        UnreadInclude::File(name) => append_not_read_reason(
+        MissingFolderOrSkippedFile::File(name) if has_file_named(found, name.as_slice()) => Ok(()),
+        MissingFolderOrSkippedFile::File(name) => append_not_read_reason(
             out,
             name.as_slice(),
             choose_unread_reason(name.as_slice()),
@@ -147,7 +153,7 @@ fn append_not_read_reason(out: &mut Vec<u8>, name: &[u8], reason: &[u8]) -> Resu
 fn choose_unread_reason(name: &[u8]) -> &'static [u8]
     ensures { result.now ≡ unread_reason_of_name name.now }
 {
-    let base = base_name_of(name);
+    let base = base_name_of_path(name);
     if is_included_base_name(base) {
         b"no regular file"
     } else if base.contains(&b'.') {
@@ -162,7 +168,7 @@ fn make_check_output(
     alloc: Global,
     policy: Result<Policy, LoadFault>,
     strict: bool,
-) -> Result<CommandOutput, AllocError>
+) -> Result<OutputTextAndStatus, AllocError>
     ensures text { IfOk result (λ output. output.text.items ≡ text_of_check strict policy) }
     ensures status { IfOk result (λ output. output.status ≡ check_exit_status strict policy) }
 {
@@ -172,16 +178,19 @@ fn make_check_output(
     };
     let report = check(alloc, &policy)?;
     let text = report_text(alloc, &policy, &report, strict)?;
-    let status = if report.has_no_faults(strict) { 0 } else { 1 };
-    Ok(CommandOutput { text, status })
+    let status = if report.is_parsed_ok(strict) { 0 } else { 1 };
+    Ok(OutputTextAndStatus { text, status })
 }
 
 /// Returns the text of `fault`, and status 1.
-fn make_load_fault_output(alloc: Global, fault: &LoadFault) -> Result<CommandOutput, AllocError>
+fn make_load_fault_output(
+    alloc: Global,
+    fault: &LoadFault,
+) -> Result<OutputTextAndStatus, AllocError>
     ensures text { IfOk result (λ output. output.text.items ≡ load_fault_message fault.now ++ codes "\n") }
     ensures status { IfOk result (λ output. output.status ≡ 1) }
 {
     let mut text = make_load_fault_text(alloc, fault)?;
     text.extend_from_slice(b"\n")?;
-    Ok(CommandOutput { text, status: 1 })
+    Ok(OutputTextAndStatus { text, status: 1 })
 }

@@ -1,26 +1,26 @@
 //! Printing the rules of a policy in another form.
 ghost use Rattle.std.specs.Prelude.{ℕ, List, ◌≡◌, ◌≢◌, ◌⊎◌, ◌+◌, ◌<◌, ◌≤◌, length, Ok, Err, IfOk, IfErr, IfSome, IsOkAnd, MatchResult, min, ◌-◌, ◌^◌};
 ghost use Rattle.std.specs.Io.KnownBytes.{Keeps, Appends};
-ghost use Rattle.sudoers_run.specs.Device.{IsWriteEffect, AppendsPrefixOfBytes};
+ghost use Rattle.sudoers_files.specs.Device.{AppendsPrefixOfBytes};
+ghost use Rattle.sudoers_run.specs.Writing.{IsWriterStateAfterCommand};
 ghost use Rattle.sudoers_edit.specs.Memory.{IsMemoryFreeLoadFault};
 ghost use Rattle.sudoers_run.specs.Policy.{CommandLeavesFilesUnchanged};
-ghost use Rattle.sudoers_run.specs.Edit.{IsLayerFaultOrMemory};
+ghost use Rattle.sudoers_run.specs.Edit.{IsStatedLayerFaultOrMemory};
 ghost use Rattle.std.specs.Borrow.{Bor};
 ghost use Rattle.std.specs.Option.{option_map};
 ghost use Rattle.sudoers_cvt_rewrite.specs.Changed.{changes_of_view};
-ghost use Rattle.sudoers_run.specs.Convert.{convert_output_of_lines, convert_output, convert_output_of_loading, rules_text_in_form, filter_of_optional_text, fault_of_output_form, rewritten_rules_text, IsConvertFaultOfFiles, IsConvertFault, IsFilterFault, IsRewriteFault, IsGatheredConvertFault};
+ghost use Rattle.sudoers_run.specs.Convert.{convert_output_of_lines, convert_output, convert_output_of_loading, rules_text_in_form, optional_filter_of_optional_text, fault_of_output_form, rewritten_rules_text, IsStatedOrOutsideConvertFault, IsConvertFault, IsFilterFault, IsRewriteFault, IsGatheredConvertFault};
 
 use crate::command_words::ConvertWords;
-use crate::counting_devices::Sink;
 use crate::fault::{LayerFault, ToolFault};
-use crate::loading::load_policy;
+use crate::loading::gather_and_load_policy;
 use crate::output::write_all_to_sink;
 use crate::output_form::OutputForm;
 use std::alloc::Global;
 use sudoers_cvt_json::json;
 use sudoers_cvt_rewrite::{Filter, RewriteChanges, read_filter, rewrite_policy_lines};
 use sudoers_cvt_rules::{Rules, print};
-use sudoers_files::Files;
+use sudoers_files::{Files, Sink};
 use sudoers_tree::{LoadFault, Policy};
 
 /// Reads the policy `root` with the files that it includes, and writes its rules as `words` ask for (cvtsudoers(1)). As the text of a
@@ -42,7 +42,7 @@ pub fn run_convert<F: Files, W: Sink>(
     ensures ok { IfOk result (λ status. (status ≡ 0) × IfSome (F.shelf files.old).files (λ known.
         IsOkAnd (convert_output words.now root.now known) (Appends (W.contents writer.old) (W.contents writer.new)))) }
     // A fault of the files and of the filter is the stated one.
-    ensures fault { IfErr result (λ fault. IfSome (F.shelf files.old).files (IsConvertFaultOfFiles words.now root.now fault)) }
+    ensures fault { IfErr result (λ fault. IfSome (F.shelf files.old).files (IsStatedOrOutsideConvertFault words.now root.now fault)) }
     // There are no other faults.
     ensures named { IfErr result (IsConvertFault words.now) }
     // After `Write`, what was written is a beginning of the output.
@@ -50,10 +50,10 @@ pub fn run_convert<F: Files, W: Sink>(
         IsOkAnd (convert_output words.now root.now known) (AppendsPrefixOfBytes (W.contents writer.old) (W.contents writer.new))) }
     // What the counts of the files show, and that nothing is written before a fault, as the counts of the writer show.
     ensures searches { CommandLeavesFilesUnchanged result (F.shelf files.old) (F.shelf files.new) }
-    ensures writes { IsWriteEffect result (W.Sink.failures writer.old) (W.Sink.failures writer.new)
+    ensures writes { IsWriterStateAfterCommand result (W.Sink.failures writer.old) (W.Sink.failures writer.new)
         (W.contents writer.old) (W.contents writer.new) }
 {
-    let policy = load_policy(alloc, files, root)?;
+    let policy = gather_and_load_policy(alloc, files, root)?;
     let text = make_converted_text(alloc, policy, words)?;
     write_all_to_sink(writer, text.as_slice())?;
     Ok(0)
@@ -67,7 +67,7 @@ fn make_converted_text(
 ) -> Result<Vec<u8>, LayerFault>
     requires { IfErr policy IsMemoryFreeLoadFault }
     ensures { MatchResult result (λ text. convert_output_of_loading words.now policy ≡ Ok text.items)
-        (λ fault. IsLayerFaultOrMemory fault (convert_output_of_loading words.now policy) × IsGatheredConvertFault words.now fault) }
+        (λ fault. IsStatedLayerFaultOrMemory fault (convert_output_of_loading words.now policy) × IsGatheredConvertFault words.now fault) }
 {
     let policy = policy?;
     convert_policy(alloc, &policy, words)
@@ -75,8 +75,8 @@ fn make_converted_text(
 
 /// Returns the filter with the text `text`, if there is a text.
 fn read_optional_filter(alloc: Global, text: Option<&[u8]>) -> Result<Option<Filter>, LayerFault>
-    ensures { MatchResult result (λ filter. filter_of_optional_text (option_map (λ (text : Bor (List ℕ)). text.now) text.entry) ≡ Ok filter)
-        (λ fault. (fault ≡ LayerFault.NoMemory) ⊎ ((filter_of_optional_text (option_map (λ (text : Bor (List ℕ)). text.now) text.entry) ≡ Err fault) × IsFilterFault fault)) }
+    ensures { MatchResult result (λ filter. optional_filter_of_optional_text (option_map (λ (text : Bor (List ℕ)). text.now) text.entry) ≡ Ok filter)
+        (λ fault. (fault ≡ LayerFault.NoMemory) ⊎ ((optional_filter_of_optional_text (option_map (λ (text : Bor (List ℕ)). text.now) text.entry) ≡ Err fault) × IsFilterFault fault)) }
 {
     match text {
         None => Ok(None),

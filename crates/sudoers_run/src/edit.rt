@@ -5,11 +5,12 @@ ghost use Rattle.std.specs.Option.{option_map};
 ghost use Rattle.std.specs.Io.KnownBytes.{Keeps, Appends};
 ghost use Rattle.sudoers_tree.specs.Load.{single_file_named_policy as the_one_file};
 ghost use Rattle.sudoers_edit.specs.Named.{HaveSpellableNames};
-ghost use Rattle.sudoers_run.specs.Device.{IsWriteEffect, AppendsPrefixOfBytes};
-ghost use Rattle.sudoers_run.specs.Reading.{IsFileReadingEffect, reading_end_of_result};
-ghost use Rattle.sudoers_run.specs.Edit.{given_files_result as the_files_given, files_in_given_shape, is_bundle_header_line as is_header_line, is_end_mark_line as is_mark_text, script_and_policy_text, edit_output_of_files as output_of_edit, edit_output_after_undo_redo, edit_output_of_input, inverse_and_files_text, edit_input_limit, IsLayerFaultOrMemory, IsFaultOfEditInput, IsReadInputFault, IsEditFault, IsEditInputFault};
+ghost use Rattle.sudoers_files.specs.Device.{AppendsPrefixOfBytes};
+ghost use Rattle.sudoers_run.specs.Writing.{IsWriterStateAfterCommand};
+ghost use Rattle.sudoers_files.specs.Reading.{IsMeterAfterReadingUpToLimit};
+ghost use Rattle.sudoers_run.specs.Reading.{reading_end_of_result};
+ghost use Rattle.sudoers_run.specs.Edit.{files_of_text_in_shape as the_files_given, files_in_given_shape, is_bundle_header_line as is_header_line, is_end_mark_line as is_mark_text, script_shape_and_policy_text, edit_output_of_files as output_of_edit, edit_output_after_undo_redo, edit_output_of_input, inverse_and_files_text, edit_input_limit, IsStatedLayerFaultOrMemory, IsStatedOrOutsideEditFault, IsFaultOfInputAfterReading, IsEditFault, IsScriptFilesOrEditFault};
 
-use crate::counting_devices::{Sink, Source};
 use crate::fault::{LayerFault, ToolFault};
 use crate::input::read_all_within_limit;
 use crate::input_shape::EditInputShape;
@@ -19,6 +20,7 @@ use crate::undo_and_redo::{redo_up_to, undo_up_to};
 use std::alloc::{AllocError, Global};
 use sudoers_bundle::{append_bundle, read_bundle};
 use sudoers_edit::{Edit, Editor, Edits, first_physical_line_len, read_script, write_script};
+use sudoers_files::{Sink, Source};
 use sudoers_text::ends_in_lf;
 use sudoers_tree::{Items, NamedFile, Policy};
 
@@ -53,15 +55,15 @@ pub fn run_edit<R: Source, W: Sink>(
     ensures ok { IfOk result (λ status. (status ≡ 0) × IfSome (R.meter reader.old).remaining (λ input.
         IsOkAnd (edit_output_of_input undo redo input) (Appends (W.contents writer.old) (W.contents writer.new)))) }
     // A fault of the input is the stated one.
-    ensures fault { IfErr result (λ fault. IfSome (R.meter reader.old).remaining (IsFaultOfEditInput undo redo fault)) }
+    ensures fault { IfErr result (λ fault. IfSome (R.meter reader.old).remaining (IsStatedOrOutsideEditFault undo redo fault)) }
     // There are no other faults.
     ensures named { IfErr result IsEditFault }
     // After `Write`, what was written is a beginning of the output.
     ensures front { result ≡ Err ToolFault.Write → IfSome (R.meter reader.old).remaining (λ input.
         IsOkAnd (edit_output_of_input undo redo input) (AppendsPrefixOfBytes (W.contents writer.old) (W.contents writer.new))) }
     // How the input was read, and that nothing is written before a fault, as the counts of the devices show.
-    ensures reads { IsFileReadingEffect edit_input_limit (reading_end_of_result result) (R.meter reader.old) (R.meter reader.new) }
-    ensures writes { IsWriteEffect result (W.Sink.failures writer.old) (W.Sink.failures writer.new)
+    ensures reads { IsMeterAfterReadingUpToLimit edit_input_limit (reading_end_of_result result) (R.meter reader.old) (R.meter reader.new) }
+    ensures writes { IsWriterStateAfterCommand result (W.Sink.failures writer.old) (W.Sink.failures writer.new)
         (W.contents writer.old) (W.contents writer.new) }
 {
     let input = read_all_within_limit(alloc, reader, INPUT_LIMIT)?;
@@ -75,20 +77,20 @@ pub fn run_edit<R: Source, W: Sink>(
 fn edit_input(alloc: Global, input: &[u8], undo: u32, redo: u32) -> Result<Vec<u8>, ToolFault>
     requires { length input.now ≤ edit_input_limit }
     ensures ok { IfOk result (λ out. edit_output_of_input undo redo input.now ≡ Ok out.items) }
-    ensures fault { IfErr result (λ fault. IsFaultOfEditInput undo redo fault input.now × IsReadInputFault fault) }
+    ensures fault { IfErr result (λ fault. IsStatedOrOutsideEditFault undo redo fault input.now × IsFaultOfInputAfterReading fault) }
 {
-    let Some((script, shape, text)) = split_script_from_policy(input) else {
+    let Some((script, shape, text)) = split_script_shape_and_policy(input) else {
         return Err(ToolFault::NoMark);
     };
-    let files = read_given_files(alloc, shape, text)?;
-    let out = edit_given_files(alloc, script, shape, files.as_slice(), undo, redo)?;
+    let files = read_files_of_text_in_shape(alloc, shape, text)?;
+    let out = make_edit_output_of_files(alloc, script, shape, files.as_slice(), undo, redo)?;
     Ok(out)
 }
 
 /// Returns the script before the first line of `input` that is the mark or a header, the shape in which the policy is given, and its text.
 /// Returns nothing if there is no such line.
-fn split_script_from_policy(input: &[u8]) -> Option<(&[u8], EditInputShape, &[u8])>
-    ensures { option_map (λ parts. (parts.0.now, parts.1, parts.2.now)) result ≡ script_and_policy_text input.now }
+fn split_script_shape_and_policy(input: &[u8]) -> Option<(&[u8], EditInputShape, &[u8])>
+    ensures { option_map (λ parts. (parts.0.now, parts.1, parts.2.now)) result ≡ script_shape_and_policy_text input.now }
 {
     let mut at = 0;
     while at < input.len() {
@@ -113,7 +115,7 @@ fn is_bundle_header(line: &[u8]) -> bool
 }
 
 /// Returns the files that are given in the shape `shape` by the text `text`.
-fn read_given_files(
+fn read_files_of_text_in_shape(
     alloc: Global,
     shape: EditInputShape,
     text: &[u8],
@@ -157,7 +159,7 @@ fn is_script_end_mark(line: &[u8]) -> bool
 /// # Errors
 ///
 /// [`LayerFault`]: of the script, then of the policy, the edits and the inverse; or of memory.
-pub fn edit_given_files(
+pub fn make_edit_output_of_files(
     alloc: Global,
     script: &[u8],
     shape: EditInputShape,
@@ -166,17 +168,17 @@ pub fn edit_given_files(
     redo: u32,
 ) -> Result<Vec<u8>, LayerFault>
     ensures output { MatchResult result (λ out. output_of_edit shape undo redo script.now files.now ≡ Ok out.items)
-        (λ fault. IsLayerFaultOrMemory fault (output_of_edit shape undo redo script.now files.now)) }
-    ensures named { IfErr result IsEditInputFault }
+        (λ fault. IsStatedLayerFaultOrMemory fault (output_of_edit shape undo redo script.now files.now)) }
+    ensures named { IfErr result IsScriptFilesOrEditFault }
 {
     let edits = read_script(alloc, script)?;
     let policy = load_gathered_files(alloc, files)??;
-    apply_edits_and_undo(alloc, shape, edits.as_slice(), policy, undo, redo)
+    make_edit_output_after_undo_redo(alloc, shape, edits.as_slice(), policy, undo, redo)
 }
 
 /// Applies `edits` to `policy`, takes back up to `undo` of them, and makes up to `redo` of these again. Returns the inverse script of
 /// the edits that then stand, and the edited policy.
-fn apply_edits_and_undo(
+fn make_edit_output_after_undo_redo(
     alloc: Global,
     shape: EditInputShape,
     edits: &[Edit],
@@ -186,8 +188,8 @@ fn apply_edits_and_undo(
 ) -> Result<Vec<u8>, LayerFault>
     requires { HaveSpellableNames edits.now }
     ensures output { MatchResult result (λ out. edit_output_after_undo_redo shape undo redo edits.now policy ≡ Ok out.items)
-        (λ fault. IsLayerFaultOrMemory fault (edit_output_after_undo_redo shape undo redo edits.now policy)) }
-    ensures named { IfErr result IsEditInputFault }
+        (λ fault. IsStatedLayerFaultOrMemory fault (edit_output_after_undo_redo shape undo redo edits.now policy)) }
+    ensures named { IfErr result IsScriptFilesOrEditFault }
 {
     let mut editor = Editor::new(policy);
     editor.apply_all(edits)?;
@@ -206,8 +208,8 @@ fn make_edit_output(
 ) -> Result<Vec<u8>, LayerFault>
     requires { HaveSpellableNames inverse.now }
     ensures output { MatchResult result (λ out. inverse_and_files_text shape inverse.now policy.now ≡ Ok out.items)
-        (λ fault. IsLayerFaultOrMemory fault (inverse_and_files_text shape inverse.now policy.now)) }
-    ensures named { IfErr result IsEditInputFault }
+        (λ fault. IsStatedLayerFaultOrMemory fault (inverse_and_files_text shape inverse.now policy.now)) }
+    ensures named { IfErr result IsScriptFilesOrEditFault }
 {
     let mut out = write_script(alloc, inverse.as_slice())?;
     let files = policy.copy_named_files()?;
@@ -227,14 +229,14 @@ fn append_files_in_shape(
     match shape {
         EditInputShape::OneText => {
             out.extend_from_slice(MARK)?;
-            append_file_bytes(out, files)
+            append_bytes_of_all_files(out, files)
         }
         EditInputShape::Bundle => append_bundle(alloc, out, files),
     }
 }
 
 /// Appends the bytes of the files `files`.
-fn append_file_bytes(out: &mut Vec<u8>, files: &[NamedFile]) -> Result<(), AllocError>
+fn append_bytes_of_all_files(out: &mut Vec<u8>, files: &[NamedFile]) -> Result<(), AllocError>
     ensures { OnOk result (out.new.items ≡ out.old.items ++ flat_map (λ file. file.bytes) files.now) }
 {
     for file in files {

@@ -1,7 +1,7 @@
 //! The texts of the program's faults.
 ghost use Rattle.std.specs.Prelude.{◌≡◌, ◌+◌, ◌<◌, ◌^◌, ◌++◌, IfOk, OnOk};
 ghost use Rattle.std.specs.Fmt.{decimal};
-ghost use Rattle.sudoers_run.specs.FaultText.{ask_fault_name, convert_fault_name, people_file_name, filter_fault_name, gather_fault_name, include_line_text, load_fault_message, people_fault_message, tool_fault_message, layer_fault_message, read_fault_message, text_fault_message, script_fault_message, edit_fault_message, script_line_message, numbered_edit_message, alias_name_in_file_text, who_fault_name, syntax_reason_name};
+ghost use Rattle.sudoers_run.specs.FaultText.{ask_fault_name, convert_fault_name, people_file_name, filter_fault_name, gather_fault_name, include_line_text, load_fault_message, people_fault_message, tool_fault_message, layer_fault_message, policy_file_fault_message, text_fault_message, script_fault_message, edit_fault_message, script_line_message, numbered_edit_message, alias_name_in_file_text, who_fault_name, syntax_reason_name};
 
 use crate::fault::{LayerFault, ToolFault};
 use std::alloc::{AllocError, Global};
@@ -125,12 +125,12 @@ fn name_of_filter_fault(fault: FilterFault) -> &'static [u8]
 }
 
 /// Returns the text of a fault of the policy file `file`.
-fn make_read_fault_text(
+fn make_policy_file_fault_text(
     alloc: Global,
     fault: &ReadFault,
     file: &[u8],
 ) -> Result<Vec<u8>, AllocError>
-    ensures { IfOk result (λ text. text.items ≡ read_fault_message fault.now file.now) }
+    ensures { IfOk result (λ text. text.items ≡ policy_file_fault_message fault.now file.now) }
 {
     match fault {
         ReadFault::Text(fault) => make_text_fault_text(alloc, fault, file),
@@ -138,10 +138,16 @@ fn make_read_fault_text(
             alloc, *line, *col, *why, file,
         ),
         ReadFault::Reserved { kind, name } => {
-            make_alias_name_fault_text(alloc, *kind, name.as_slice(), b" reserved", file)
+            make_reserved_or_duplicate_alias_text(alloc, *kind, name.as_slice(), b" reserved", file)
         }
         ReadFault::Duplicate { kind, name } => {
-            make_alias_name_fault_text(alloc, *kind, name.as_slice(), b" defined twice", file)
+            make_reserved_or_duplicate_alias_text(
+                alloc,
+                *kind,
+                name.as_slice(),
+                b" defined twice",
+                file,
+            )
         }
         ReadFault::TooMany { kind } => {
             let mut text = join_two_texts(alloc, file, b": too many ")?;
@@ -171,7 +177,11 @@ pub fn make_load_fault_text(alloc: Global, fault: &LoadFault) -> Result<Vec<u8>,
     match fault {
         LoadFault::TooManyFiles => Vec::from_slice(alloc, b"TooManyFiles"),
         LoadFault::SameName { .. } => Vec::from_slice(alloc, b"SameName"),
-        LoadFault::InFile { file, fault } => make_read_fault_text(alloc, fault, file.as_slice()),
+        LoadFault::InFile { file, fault } => make_policy_file_fault_text(
+            alloc,
+            fault,
+            file.as_slice(),
+        ),
         LoadFault::NoMemory => Vec::from_slice(alloc, b"NoMemory"),
     }
 }
@@ -196,7 +206,7 @@ fn make_syntax_fault_text(
     why: Why,
     file: &[u8],
 ) -> Result<Vec<u8>, AllocError>
-    ensures { IfOk result (λ text. text.items ≡ read_fault_message (ReadFault.Syntax line col why) file.now) }
+    ensures { IfOk result (λ text. text.items ≡ policy_file_fault_message (ReadFault.Syntax line col why) file.now) }
 {
     let mut text = join_two_texts(alloc, file, b":")?;
     append_decimal_number(alloc, &mut text, line)?;
@@ -226,7 +236,7 @@ fn make_include_fault_text(
 }
 
 /// Returns the file `file`, the kind `kind`, the name `name`, and what is wrong with it.
-fn make_alias_name_fault_text(
+fn make_reserved_or_duplicate_alias_text(
     alloc: Global,
     kind: Kind,
     name: &[u8],

@@ -1,14 +1,12 @@
 //! Reading an input whole.
 ghost use Rattle.std.specs.Prelude.{◌≡◌, ◌+◌, ◌<◌, ◌≤◌, length, IfOk, IfErr, MatchResult, min, ◌-◌, ◌^◌};
 ghost use Rattle.sudoers_run.specs.Edit.{edit_input_limit};
-ghost use Rattle.sudoers_run.specs.Reading.{IsTextReadUpToLimit, IsLimitedReadingFault, IsWholeReadingFault, IsTextOfReader, IsFileReadingEffect, reading_end_of_read_bytes, reading_end_of_result};
+ghost use Rattle.sudoers_files.specs.Reading.{IsReadToEndOrBytePastLimit, IsTextOfReader, IsMeterAfterReadingUpToLimit};
+ghost use Rattle.sudoers_run.specs.Reading.{IsFaultOfReadingUpToLimit, IsFaultOfReadingWholeInput, reading_end_of_read_bytes, reading_end_of_result};
 
-use crate::counting_devices::{DeviceFailed, PullOutcome, Source};
-use crate::fault::ToolFault;
+use crate::fault::{LayerFault, ToolFault};
 use std::alloc::Global;
-
-/// How many reads one reader gets at most.
-pub const PULL_LIMIT: usize = 4_194_304;
+use sudoers_files::{FileFault, Source, read_to_end_or_byte_past_limit};
 
 /// Reads all that `reader` gives, and returns it. With the first byte past `limit` bytes the input is too large.
 ///
@@ -22,10 +20,10 @@ pub fn read_all_within_limit<R: Source>(
 ) -> Result<Vec<u8>, ToolFault>
     requires { limit ≤ edit_input_limit }
     ensures all { IfOk result (λ input. (length input.items ≤ limit) × IsTextOfReader (R.meter reader.old) input.items) }
-    ensures faults { IfErr result IsWholeReadingFault }
-    ensures reads { IsFileReadingEffect limit (reading_end_of_result result) (R.meter reader.old) (R.meter reader.new) }
+    ensures faults { IfErr result IsFaultOfReadingWholeInput }
+    ensures reads { IsMeterAfterReadingUpToLimit limit (reading_end_of_result result) (R.meter reader.old) (R.meter reader.new) }
 {
-    let input = read_up_to_limit(alloc, reader, limit)?;
+    let input = read_up_to_byte_past_limit(alloc, reader, limit)?;
     if input.len() > limit {
         return Err(ToolFault::InputTooLarge);
     }
@@ -37,34 +35,20 @@ pub fn read_all_within_limit<R: Source>(
 /// # Errors
 ///
 /// Of reading, and want of memory.
-pub fn read_up_to_limit<R: Source>(
+pub fn read_up_to_byte_past_limit<R: Source>(
     alloc: Global,
     reader: &mut R,
     limit: usize,
 ) -> Result<Vec<u8>, ToolFault>
     requires { limit ≤ edit_input_limit }
-    ensures front { IfOk result (λ front. IsTextReadUpToLimit limit (R.meter reader.old) (R.meter reader.new) front.items) }
-    ensures faults { IfErr result IsLimitedReadingFault }
-    ensures reads { IsFileReadingEffect limit (reading_end_of_read_bytes limit result) (R.meter reader.old) (R.meter reader.new) }
+    ensures front { IfOk result (λ front. IsReadToEndOrBytePastLimit limit (R.meter reader.old) (R.meter reader.new) front.items) }
+    ensures faults { IfErr result IsFaultOfReadingUpToLimit }
+    ensures reads { IsMeterAfterReadingUpToLimit limit (reading_end_of_read_bytes limit result) (R.meter reader.old) (R.meter reader.new) }
 {
-    let mut input = Vec::new(alloc);
-    let mut buffer = [0u8; 65_536];
-    for pull in 0..PULL_LIMIT {
-        // Only the proof uses this number.
-        let _ = pull;
-        let room = buffer.len().min(limit + 1 - input.len());
-        let n = match reader.pull(&mut buffer[..room]) {
-            Ok(PullOutcome::Bytes(n)) => n,
-            Ok(PullOutcome::Interrupted) => continue,
-            Err(DeviceFailed) => return Err(ToolFault::Read),
-        };
-        if n == 0 {
-            return Ok(input);
-        }
-        input.extend_from_slice(&buffer[..n])?;
-        if input.len() > limit {
-            return Ok(input);
-        }
+    match read_to_end_or_byte_past_limit(alloc, reader, limit) {
+        Ok(front) => Ok(front),
+        Err(FileFault::Failed) => Err(ToolFault::Read),
+        Err(FileFault::NoEnd) => Err(ToolFault::NoEnd),
+        Err(FileFault::NoMemory) => Err(ToolFault::Layer(LayerFault::NoMemory)),
     }
-    Err(ToolFault::NoEnd)
 }

@@ -4,28 +4,30 @@ ghost use Rattle.std.specs.Io.KnownBytes.{Keeps, Appends};
 ghost use Rattle.std.specs.Option.{option_map, is_some};
 ghost use Rattle.sudoers_edit.specs.Memory.{IsMemoryFreeLoadFault};
 ghost use Rattle.sudoers_run.specs.Policy.{CommandLeavesFilesUnchanged};
-ghost use Rattle.sudoers_check.specs.Chains.{HasReachableCycle};
+ghost use Rattle.sudoers_check.specs.Chains.{HasCyclicAliasReachedFromSpecOrDefaults};
 ghost use Rattle.sudoers_match.specs.Answer.{IsAnswerToRequest};
 ghost use Rattle.sudoers_match.specs.Default.{IsRunasDefault};
-ghost use Rattle.sudoers_match.specs.Found.{answer_of_found};
+ghost use Rattle.sudoers_match.specs.Found.{answer_without_member_and_settings};
 ghost use Rattle.sudoers_list_people.specs.People.{people_read_result};
 ghost use Rattle.sudoers_list_people.specs.Person.{who_or_who_fault};
 ghost use Rattle.sudoers_list_people.specs.Asked.{request_or_who_fault};
-ghost use Rattle.sudoers_run.specs.Device.{IsWriteEffect, AppendsPrefixOfBytes};
-ghost use Rattle.sudoers_run.specs.List.{IsListOutcomeForPolicy, HoldsOfPeopleTexts, IsListAnswerOutcome, IsListAnswerText, IsListOutcomeForQuestion, IsListOutcome, IsListFault, IsListWordsOrFilesFault, ListCommandOutcome, ReadsPeopleFiles, IsListFaultOfFiles, IsWhoFaultOfResult, status_of_answer, text_of_allowed_command, optional_text_of_view};
+ghost use Rattle.sudoers_files.specs.Device.{AppendsPrefixOfBytes};
+ghost use Rattle.sudoers_run.specs.Writing.{IsWriterStateAfterCommand};
+ghost use Rattle.sudoers_run.specs.List.{IsListOutcomeForPolicy, HoldsOfPeopleTexts, IsListAnswerOutcome, IsListAnswerText, IsListOutcomeForQuestion, IsListOutcome, IsListFault, IsListWordsOrFilesFault, ListCommandOutcome, AreMetersAfterReadingPeopleFiles, IsStatedOrOutsideListFault, IsWhoFaultOfResult, status_of_answer, text_of_allowed_command, optional_text_of_view};
 
 use crate::command_words::ListWords;
-use crate::counting_devices::{Sink, Source};
 use crate::fault::{LayerFault, ToolFault};
-use crate::input::read_up_to_limit;
-use crate::loading::load_policy;
-use crate::output::{CommandOutput, write_all_to_sink};
+use crate::input::read_up_to_byte_past_limit;
+use crate::loading::gather_and_load_policy;
+use crate::output::{OutputTextAndStatus, write_all_to_sink};
 use std::alloc::{AllocError, Global};
-use sudoers_files::Files;
+use sudoers_files::{Files, Sink, Source};
 use sudoers_grammar::Items;
-use sudoers_list::{explain_answer, list};
+use sudoers_list::{explain_found_answer, list};
 use sudoers_list_people::{People, request_for, who_for};
-use sudoers_match::{AnswerWithCommand, Request, find_answer, find_runas_default_for, join_words};
+use sudoers_match::{
+    AnswerWithMemberAndSettings, Request, find_answer, find_runas_default_for, join_words,
+};
 use sudoers_match_list::AcyclicWalk;
 use sudoers_match_member::Who;
 use sudoers_text::TEXT_LIMIT;
@@ -53,7 +55,7 @@ pub fn run_list<F: Files, U: Source, G: Source, W: Sink>(
         (text : List ℕ) × IsListOutcome words.now root.now known u g (Ok (text, status)) × Appends (W.contents writer.old) (W.contents writer.new) text))) }
     ensures statuses { IfOk result (λ status. status ≤ 1) }
     // A fault of the files or of the words is their outcome.
-    ensures fault { IfErr result (λ fault. IfSome (F.shelf files.old).files (λ known. HoldsOfPeopleTexts (U.meter passwd.old) (G.meter group.old) (IsListFaultOfFiles words.now root.now known fault))) }
+    ensures fault { IfErr result (λ fault. IfSome (F.shelf files.old).files (λ known. HoldsOfPeopleTexts (U.meter passwd.old) (G.meter group.old) (IsStatedOrOutsideListFault words.now root.now known fault))) }
     // There are no other faults.
     ensures named { IfErr result IsListFault }
     // After `Write`, what was written is a beginning of the output.
@@ -62,13 +64,13 @@ pub fn run_list<F: Files, U: Source, G: Source, W: Sink>(
     // What the counts of the files show, how passwd and group were read, and that nothing is written before a fault, as the counts of the
     // devices show.
     ensures searches { CommandLeavesFilesUnchanged result (F.shelf files.old) (F.shelf files.new) }
-    ensures reads { ReadsPeopleFiles result (U.meter passwd.old) (U.meter passwd.new) (G.meter group.old) (G.meter group.new) }
-    ensures writes { IsWriteEffect result (W.Sink.failures writer.old) (W.Sink.failures writer.new)
+    ensures reads { AreMetersAfterReadingPeopleFiles result (U.meter passwd.old) (U.meter passwd.new) (G.meter group.old) (G.meter group.new) }
+    ensures writes { IsWriterStateAfterCommand result (W.Sink.failures writer.old) (W.Sink.failures writer.new)
         (W.contents writer.old) (W.contents writer.new) }
 {
-    let policy = load_policy(alloc, files, root)?;
-    let passwd = read_up_to_limit(alloc, passwd, TEXT_LIMIT)?;
-    let group = read_up_to_limit(alloc, group, TEXT_LIMIT)?;
+    let policy = gather_and_load_policy(alloc, files, root)?;
+    let passwd = read_up_to_byte_past_limit(alloc, passwd, TEXT_LIMIT)?;
+    let group = read_up_to_byte_past_limit(alloc, group, TEXT_LIMIT)?;
     let output = make_list_output(alloc, policy, passwd.as_slice(), group.as_slice(), words)?;
     write_all_to_sink(writer, output.text.as_slice())?;
     Ok(output.status)
@@ -81,7 +83,7 @@ fn make_list_output(
     passwd: &[u8],
     group: &[u8],
     words: &ListWords<'_>,
-) -> Result<CommandOutput, LayerFault>
+) -> Result<OutputTextAndStatus, LayerFault>
     requires { IfErr policy IsMemoryFreeLoadFault }
     ensures outcome { MatchResult result (λ output. IsListOutcomeForPolicy words.now (people_read_result passwd.now group.now) policy (Ok (output.text.items, output.status)))
         (λ fault. (fault ≡ LayerFault.NoMemory) ⊎ IsListOutcomeForPolicy words.now (people_read_result passwd.now group.now) policy (Err fault)) }
@@ -93,19 +95,19 @@ fn make_list_output(
     let who = who_for(alloc, &people, words.user, words.host, words.interfaces)?;
     if words.words.is_empty() {
         let text = list(alloc, &policy, &who)?;
-        return Ok(CommandOutput { text, status: 0 });
+        return Ok(OutputTextAndStatus { text, status: 0 });
     }
-    make_command_output(alloc, &policy, &people, who, words)
+    make_list_output_for_command(alloc, &policy, &people, who, words)
 }
 
 /// Returns what is written for the command of `words`, and the exit status.
-fn make_command_output(
+fn make_list_output_for_command(
     alloc: Global,
     policy: &Policy,
     people: &People,
     who: Who,
     words: &ListWords<'_>,
-) -> Result<CommandOutput, LayerFault>
+) -> Result<OutputTextAndStatus, LayerFault>
     ensures asked { MatchResult result (λ output. IsListOutcomeForQuestion words.now policy.now people.now who (optional_text_of_view words.now.target) (optional_text_of_view words.now.group) (Ok (output.text.items, output.status)))
         (λ fault. (fault ≡ LayerFault.NoMemory) ⊎ IsListOutcomeForQuestion words.now policy.now people.now who (optional_text_of_view words.now.target) (optional_text_of_view words.now.group) (Err fault)) }
     ensures statuses { IfOk result (λ output. output.status ≤ 1) }
@@ -116,10 +118,10 @@ fn make_command_output(
     let acyclic = AcyclicWalk::new(alloc, policy.walk())?;
     let default = find_runas_default_for(alloc, &acyclic, &first.who)?;
     if words.target.is_some() || words.group.is_some() {
-        return make_answer_output(alloc, policy, &acyclic, &first, default, words);
+        return make_list_output_for_request(alloc, policy, &acyclic, &first, default, words);
     }
     let request = make_request_as_user(alloc, people, first.who, default, words)?;
-    make_answer_output(alloc, policy, &acyclic, &request, default, words)
+    make_list_output_for_request(alloc, policy, &acyclic, &request, default, words)
 }
 
 /// Returns the request to run the command of `words` as the user `target`.
@@ -147,14 +149,14 @@ fn make_request_as_user(
 
 /// Returns what is written for `request`, and the exit status. `acyclic` is the walk of `policy`. `default` is the user as whom a command
 /// runs without a Runas_Spec.
-fn make_answer_output(
+fn make_list_output_for_request(
     alloc: Global,
     policy: &Policy,
     acyclic: &AcyclicWalk<'_>,
     request: &Request,
     default: &[u8],
     words: &ListWords<'_>,
-) -> Result<CommandOutput, LayerFault>
+) -> Result<OutputTextAndStatus, LayerFault>
     requires walk { acyclic.now ≡ policy.now.walk.lines }
     requires default { IsRunasDefault policy.now.walk.lines request.now.who default.now }
     ensures answered { MatchResult result (λ output. IsListAnswerOutcome words.now policy.now request.now (Ok (output.text.items, output.status)))
@@ -167,16 +169,16 @@ fn make_answer_output(
     let found = find_answer(alloc, acyclic, request, default)?;
     let status = choose_allowed_status(found);
     if words.why {
-        let text = explain_answer(alloc, policy, acyclic, request, default, found)?;
-        return Ok(CommandOutput { text, status });
+        let text = explain_found_answer(alloc, policy, acyclic, request, default, found)?;
+        return Ok(OutputTextAndStatus { text, status });
     }
-    let text = make_allowed_text(alloc, words.words, found)?;
-    Ok(CommandOutput { text, status })
+    let text = make_text_of_allowed_command(alloc, words.words, found)?;
+    Ok(OutputTextAndStatus { text, status })
 }
 
 /// Returns the exit status of the answer `found`.
-fn choose_allowed_status(found: Option<AnswerWithCommand<'_>>) -> u8
-    ensures { result ≡ status_of_answer (option_map answer_of_found found.entry) }
+fn choose_allowed_status(found: Option<AnswerWithMemberAndSettings<'_>>) -> u8
+    ensures { result ≡ status_of_answer (option_map answer_without_member_and_settings found.entry) }
 {
     match found {
         Some(found) if found.answer.allow => 0,
@@ -185,12 +187,12 @@ fn choose_allowed_status(found: Option<AnswerWithCommand<'_>>) -> u8
 }
 
 /// Returns the command `words` with an LF if it is allowed, and else no bytes.
-fn make_allowed_text(
+fn make_text_of_allowed_command(
     alloc: Global,
     words: &[Items<u8>],
-    found: Option<AnswerWithCommand<'_>>,
+    found: Option<AnswerWithMemberAndSettings<'_>>,
 ) -> Result<Vec<u8>, AllocError>
-    ensures { IfOk result (λ text. text.items ≡ text_of_allowed_command words.now (option_map answer_of_found found.entry)) }
+    ensures { IfOk result (λ text. text.items ≡ text_of_allowed_command words.now (option_map answer_without_member_and_settings found.entry)) }
 {
     match found {
         Some(found) if found.answer.allow => {

@@ -4,8 +4,8 @@ ghost use Rattle.std.specs.Prelude.{◌≡◌, false, Ok, IfErr, IfOk, IfSome, M
 ghost use Rattle.sudoers_files.specs.Gather.{gathered_files_or_fault};
 ghost use Rattle.sudoers_tree.specs.Load.{policy_or_load_fault};
 ghost use Rattle.sudoers_edit.specs.Memory.{IsMemoryFreeLoadFault};
-ghost use Rattle.sudoers_run.specs.Policy.{IsPolicyFromRoot, IsFaultBeforeLoading, CommandLeavesFilesUnchanged, IsStatedGatherFault};
-ghost use Rattle.sudoers_run.specs.internal.LayerOf.{tool_result_of_layer_result};
+ghost use Rattle.sudoers_run.specs.Policy.{IsPolicyFromRoot, IsFaultBeforeLoading, CommandLeavesFilesUnchanged, IsStatedOrOutsideGatherFault};
+ghost use Rattle.sudoers_run.specs.Edit.{layer_result_with_tool_fault};
 
 use crate::fault::LayerFault;
 use std::alloc::{AllocError, Global};
@@ -18,15 +18,15 @@ use sudoers_tree::{LoadFault, NamedFile, Policy, ReadFault};
 /// # Errors
 ///
 /// `Gather`: the files cannot be gathered. `NoMemory`: memory ran out.
-pub fn load_policy<F: Files>(
+pub fn gather_and_load_policy<F: Files>(
     alloc: Global,
     files: &mut F,
     root: &[u8],
 ) -> Result<Result<Policy, LoadFault>, LayerFault>
     ensures policy { IfOk result (λ policy. IfSome (F.shelf files.old).files (IsPolicyFromRoot root.now policy)) }
-    ensures fault { IfErr result (λ fault. IfSome (F.shelf files.old).files (IsStatedGatherFault root.now fault)) }
+    ensures fault { IfErr result (λ fault. IfSome (F.shelf files.old).files (IsStatedOrOutsideGatherFault root.now fault)) }
     ensures named { MatchResult result (λ policy. IfErr policy IsMemoryFreeLoadFault) IsFaultBeforeLoading }
-    ensures searches { CommandLeavesFilesUnchanged (tool_result_of_layer_result result) (F.shelf files.old) (F.shelf files.new) }
+    ensures searches { CommandLeavesFilesUnchanged (layer_result_with_tool_fault result) (F.shelf files.old) (F.shelf files.new) }
 {
     let found = gather_policy_files(alloc, files, root)?;
     Ok(load_gathered_files(alloc, found.as_slice())?)
@@ -43,9 +43,9 @@ pub fn gather_policy_files<F: Files>(
     root: &[u8],
 ) -> Result<Vec<NamedFile>, LayerFault>
     ensures found { IfOk result (λ found. IfSome (F.shelf files.old).files (λ known. gathered_files_or_fault known root.now ≡ Ok found.items)) }
-    ensures fault { IfErr result (λ fault. IfSome (F.shelf files.old).files (IsStatedGatherFault root.now fault)) }
+    ensures fault { IfErr result (λ fault. IfSome (F.shelf files.old).files (IsStatedOrOutsideGatherFault root.now fault)) }
     ensures named { IfErr result IsFaultBeforeLoading }
-    ensures searches { CommandLeavesFilesUnchanged (tool_result_of_layer_result result) (F.shelf files.old) (F.shelf files.new) }
+    ensures searches { CommandLeavesFilesUnchanged (layer_result_with_tool_fault result) (F.shelf files.old) (F.shelf files.new) }
 {
     Ok(gather(alloc, root, files)?)
 }

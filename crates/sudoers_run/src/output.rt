@@ -1,14 +1,14 @@
 //! Writing the output of a command.
 ghost use Rattle.std.specs.Prelude.{◌≡◌, ◌+◌, ◌<◌, ◌≤◌, length, IfErr, OnOk, OnErr, min, ◌-◌, ◌^◌};
 ghost use Rattle.std.specs.Io.KnownBytes.{Appends};
-ghost use Rattle.sudoers_run.specs.Device.{IsCountRaised, AppendsPrefixOfBytes};
+ghost use Rattle.sudoers_files.specs.Device.{IsCountHigherOrAtMaximum, AppendsPrefixOfBytes};
 
-use crate::counting_devices::{DeviceFailed, Sink};
 use crate::fault::ToolFault;
+use sudoers_files::{DeviceFailed, Sink};
 
 /// The output of a command, and its exit status.
 #[derive(Drop)]
-pub struct CommandOutput {
+pub struct OutputTextAndStatus {
     pub text: Vec<u8>,
     pub status: u8,
 }
@@ -22,7 +22,7 @@ pub fn write_all_to_sink<W: Sink>(writer: &mut W, bytes: &[u8]) -> Result<(), To
     ensures all { OnOk result (Appends (W.contents writer.old) (W.contents writer.new) bytes.now) }
     ensures part { OnErr result (AppendsPrefixOfBytes (W.contents writer.old) (W.contents writer.new) bytes.now) }
     ensures fault { IfErr result (λ fault. (fault ≡ ToolFault.Write)
-        × IsCountRaised (W.Sink.failures writer.old) (W.Sink.failures writer.new)) }
+        × IsCountHigherOrAtMaximum (W.Sink.failures writer.old) (W.Sink.failures writer.new)) }
     ensures well { OnOk result (W.Sink.failures writer.new ≡ W.Sink.failures writer.old) }
 {
     let mut at = 0;

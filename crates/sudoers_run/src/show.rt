@@ -5,20 +5,20 @@ ghost use Rattle.sudoers_text.specs.Fault.{text_limit};
 ghost use Rattle.sudoers_text.specs.Line.{join};
 ghost use Rattle.sudoers_tree.specs.Line.{lines_of_rows};
 ghost use Rattle.sudoers_tree.specs.Policy.{texts_of_lines};
-ghost use Rattle.sudoers_run.specs.Device.{IsWriteEffect, AppendsPrefixOfBytes};
+ghost use Rattle.sudoers_files.specs.Device.{AppendsPrefixOfBytes};
+ghost use Rattle.sudoers_run.specs.Writing.{IsWriterStateAfterCommand};
 ghost use Rattle.sudoers_edit.specs.Memory.{IsMemoryFreeLoadFault};
 ghost use Rattle.sudoers_run.specs.Policy.{CommandLeavesFilesUnchanged};
-ghost use Rattle.sudoers_run.specs.Edit.{IsLayerFaultOrMemory};
+ghost use Rattle.sudoers_run.specs.Edit.{IsStatedLayerFaultOrMemory};
 ghost use Rattle.sudoers_line_rows.specs.View.{alias_definition_of_view, alias_definitions_of_view, node_of_view};
 ghost use Rattle.sudoers_run.specs.Shown.{file_heading_text, line_kind_word as word_of_kind, shown_policy_text as shown_policy, shown_alias_definition, shown_alias_definitions, shown_line, shown_lines_of_file};
-ghost use Rattle.sudoers_run.specs.Show.{show_output, show_output_of_loading, IsShowFaultOfFiles, IsLoadOrMemoryFault, IsShowFault};
+ghost use Rattle.sudoers_run.specs.Show.{show_output, show_output_or_load_fault, IsStatedOrOutsideShowFault, IsLoadOrMemoryFault, IsShowFault};
 
-use crate::counting_devices::Sink;
 use crate::fault::{LayerFault, ToolFault};
-use crate::loading::load_policy;
+use crate::loading::gather_and_load_policy;
 use crate::output::write_all_to_sink;
 use std::alloc::{AllocError, Global};
-use sudoers_files::Files;
+use sudoers_files::{Files, Sink};
 use sudoers_grammar::alias_keyword_of_kind;
 use sudoers_text::append_decimal_number;
 use sudoers_tree::{
@@ -43,7 +43,7 @@ pub fn run_show<F: Files, W: Sink>(
     ensures ok { IfOk result (λ status. (status ≡ 0) × IfSome (F.shelf files.old).files (λ known.
         IsOkAnd (show_output root.now known) (Appends (W.contents writer.old) (W.contents writer.new)))) }
     // A fault of the files is the stated one.
-    ensures fault { IfErr result (λ fault. IfSome (F.shelf files.old).files (IsShowFaultOfFiles root.now fault)) }
+    ensures fault { IfErr result (λ fault. IfSome (F.shelf files.old).files (IsStatedOrOutsideShowFault root.now fault)) }
     // There are no other faults.
     ensures named { IfErr result IsShowFault }
     // After `Write`, what was written is a beginning of the output.
@@ -51,20 +51,23 @@ pub fn run_show<F: Files, W: Sink>(
         IsOkAnd (show_output root.now known) (AppendsPrefixOfBytes (W.contents writer.old) (W.contents writer.new))) }
     // What the counts of the files show, and that nothing is written before a fault, as the counts of the writer show.
     ensures searches { CommandLeavesFilesUnchanged result (F.shelf files.old) (F.shelf files.new) }
-    ensures writes { IsWriteEffect result (W.Sink.failures writer.old) (W.Sink.failures writer.new)
+    ensures writes { IsWriterStateAfterCommand result (W.Sink.failures writer.old) (W.Sink.failures writer.new)
         (W.contents writer.old) (W.contents writer.new) }
 {
-    let policy = load_policy(alloc, files, root)?;
-    let text = make_show_text(alloc, policy)?;
+    let policy = gather_and_load_policy(alloc, files, root)?;
+    let text = make_show_output_or_load_fault(alloc, policy)?;
     write_all_to_sink(writer, text.as_slice())?;
     Ok(0)
 }
 
 /// Returns what is shown of `policy`, or its error.
-fn make_show_text(alloc: Global, policy: Result<Policy, LoadFault>) -> Result<Vec<u8>, LayerFault>
+fn make_show_output_or_load_fault(
+    alloc: Global,
+    policy: Result<Policy, LoadFault>,
+) -> Result<Vec<u8>, LayerFault>
     requires { IfErr policy IsMemoryFreeLoadFault }
-    ensures { MatchResult result (λ text. show_output_of_loading policy ≡ Ok text.items)
-        (λ fault. IsLayerFaultOrMemory fault (show_output_of_loading policy) × IsLoadOrMemoryFault fault) }
+    ensures { MatchResult result (λ text. show_output_or_load_fault policy ≡ Ok text.items)
+        (λ fault. IsStatedLayerFaultOrMemory fault (show_output_or_load_fault policy) × IsLoadOrMemoryFault fault) }
 {
     let policy = policy?;
     Ok(make_shown_policy_text(alloc, &policy)?)

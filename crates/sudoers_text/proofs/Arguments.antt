@@ -5,7 +5,7 @@ use Rattle.std.proofs.lemmas.List.{length-drop, length-take-le, take-append-drop
 use Rattle.std.proofs.lemmas.Bool.{eqb-true}
 use Rattle.std.proofs.lemmas.Bool.Decides.{nat_tests}
 use Rattle.sudoers_text.specs.declared.part.ByteRunKind.TheVariants as rule
-use Rattle.sudoers_text.specs.Part.{run_unit_size, reach_of_units, leading_run_size, quoted_run_size, closed_quote_size, argument_unit_size, argument_units_size, quote_before_separator_size}
+use Rattle.sudoers_text.specs.Part.{run_unit_size, reach_of_units, leading_run_size, quotes_and_run_between_size, closed_quote_size, argument_unit_size, argument_units_size, quoted_front_to_inner_separator_size}
 use Rattle.sudoers_text.specs.Piece.{is_argument_of_size}
 use Rattle.sudoers_text.specs.Found.{argument_size}
 use Rattle.sudoers_text.proofs.Units.{true_conjunction_has_two_true_parts}
@@ -17,67 +17,67 @@ use Rattle.sudoers_text.proofs.Sizes.{bytes_begin_with_quoted_run_or_none, argum
 record BeginsWithQuoteBeforeSeparator (bytes : List ℕ) : Type 0 where
   rest : List ℕ
   parts : bytes ≡ 34 ∷ rest
-  unclosed : quoted_run_size rule.Clean (34 ∷ rest) ≡ 0
-  size : quote_before_separator_size bytes ≡ leading_run_size rule.Clean rest + 1
+  unclosed : quotes_and_run_between_size rule.Clean (34 ∷ rest) ≡ 0
+  size : quoted_front_to_inner_separator_size bytes ≡ leading_run_size rule.Clean rest + 1
 
-positive_quote_size_implies_broken_quote : (rest : List ℕ) (n m : ℕ) → quoted_run_size rule.Clean (34 ∷ rest) ≡ n → closed_quote_size (34 ∷ rest) ≡ m → 0 < quote_before_separator_size (34 ∷ rest) → BeginsWithQuoteBeforeSeparator (34 ∷ rest)
-unfolding quote_before_separator_size
-positive_quote_size_implies_broken_quote rest zero zero e f some = absurd (let none : quote_before_separator_size (34 ∷ rest) ≡ 0 = rw e (rw f refl) in omega (arith, none, some))
+positive_quote_size_implies_broken_quote : (rest : List ℕ) (n m : ℕ) → quotes_and_run_between_size rule.Clean (34 ∷ rest) ≡ n → closed_quote_size (34 ∷ rest) ≡ m → 0 < quoted_front_to_inner_separator_size (34 ∷ rest) → BeginsWithQuoteBeforeSeparator (34 ∷ rest)
+unfolding quoted_front_to_inner_separator_size
+positive_quote_size_implies_broken_quote rest zero zero e f some = absurd (let none : quoted_front_to_inner_separator_size (34 ∷ rest) ≡ 0 = rw e (rw f refl) in omega (arith, none, some))
 positive_quote_size_implies_broken_quote rest zero (suc m) e f some =
     let apart : (suc m == 0) ≡ false = grind (arith, nat_tests) in
     record { rest = rest; parts = refl; unclosed = e; size = rw e (rw f (rw apart refl)) }
 positive_quote_size_implies_broken_quote rest (suc n) m e f some =
     let apart : (suc n == 0) ≡ false = grind (arith, nat_tests) in
-    absurd (let none : quote_before_separator_size (34 ∷ rest) ≡ 0 = rw e (rw apart refl) in omega (arith, none, some))
+    absurd (let none : quoted_front_to_inner_separator_size (34 ∷ rest) ≡ 0 = rw e (rw apart refl) in omega (arith, none, some))
 
-unclosed_start_has_no_quote_before_separator : (b : ℕ) (rest : List ℕ) → closed_quote_size (b ∷ rest) ≡ 0 → quote_before_separator_size (b ∷ rest) ≡ 0
-unfolding quote_before_separator_size
-unclosed_start_has_no_quote_before_separator b rest none = by_test (quoted_run_size rule.Clean (b ∷ rest) == 0)
+unclosed_start_has_no_quote_before_separator : (b : ℕ) (rest : List ℕ) → closed_quote_size (b ∷ rest) ≡ 0 → quoted_front_to_inner_separator_size (b ∷ rest) ≡ 0
+unfolding quoted_front_to_inner_separator_size
+unclosed_start_has_no_quote_before_separator b rest none = by_test (quotes_and_run_between_size rule.Clean (b ∷ rest) == 0)
   where
     by_test : (t : Bool) → (if t && not (closed_quote_size (b ∷ rest) == 0) then leading_run_size rule.Clean rest + 1 else 0) ≡ 0
     by_test true = rw none refl
     by_test false = refl
 
-empty_bytes_have_no_quote_before_separator : quote_before_separator_size [] ≡ 0
-unfolding quote_before_separator_size
+empty_bytes_have_no_quote_before_separator : quoted_front_to_inner_separator_size [] ≡ 0
+unfolding quoted_front_to_inner_separator_size
 empty_bytes_have_no_quote_before_separator = refl
 
-positive_broken_quote_size_implies_one : (bytes : List ℕ) → 0 < quote_before_separator_size bytes → BeginsWithQuoteBeforeSeparator bytes
+positive_broken_quote_size_implies_one : (bytes : List ℕ) → 0 < quoted_front_to_inner_separator_size bytes → BeginsWithQuoteBeforeSeparator bytes
 positive_broken_quote_size_implies_one [] some = absurd (omega (arith, empty_bytes_have_no_quote_before_separator, some))
 positive_broken_quote_size_implies_one (b ∷ rest) some =
     elim (bytes_begin_with_quoted_run_or_none rule.Quote (b ∷ rest)) [
       | inl none ↦ absurd (omega (arith, unclosed_start_has_no_quote_before_separator b rest none, some))
       | inr x ↦
           let inner = x.inner ++ 34 ∷ x.more in
-          subst (λ (t : List ℕ). 0 < quote_before_separator_size t → BeginsWithQuoteBeforeSeparator t) (sym x.parts)
-          (λ more. positive_quote_size_implies_broken_quote inner (quoted_run_size rule.Clean (34 ∷ inner)) (closed_quote_size (34 ∷ inner)) refl refl more) some
+          subst (λ (t : List ℕ). 0 < quoted_front_to_inner_separator_size t → BeginsWithQuoteBeforeSeparator t) (sym x.parts)
+          (λ more. positive_quote_size_implies_broken_quote inner (quotes_and_run_between_size rule.Clean (34 ∷ inner)) (closed_quote_size (34 ∷ inner)) refl refl more) some
     ]
 
-quote_before_separator_is_within_bytes : (bytes : List ℕ) → quote_before_separator_size bytes ≤ length bytes
-unfolding quote_before_separator_size
+quote_before_separator_is_within_bytes : (bytes : List ℕ) → quoted_front_to_inner_separator_size bytes ≤ length bytes
+unfolding quoted_front_to_inner_separator_size
 quote_before_separator_is_within_bytes [] = omega arith
 quote_before_separator_is_within_bytes (b ∷ rest) =
-    choice_of_bounded_sizes_is_within_bound (quoted_run_size rule.Clean (b ∷ rest) == 0 && not (closed_quote_size (b ∷ rest) == 0)) (leading_run_size rule.Clean rest + 1) 0 (length (b ∷ rest))
+    choice_of_bounded_sizes_is_within_bound (quotes_and_run_between_size rule.Clean (b ∷ rest) == 0 && not (closed_quote_size (b ∷ rest) == 0)) (leading_run_size rule.Clean rest + 1) 0 (length (b ∷ rest))
     (omega (arith, leading_run_size_is_within_bytes rule.Clean rest)) (omega arith)
 
 -- no unit of an argument begins with a quoted part that is not closed without a `,`, `:` or `=`
-broken_quote_begins_no_argument_unit : (rest : List ℕ) → quoted_run_size rule.Clean (34 ∷ rest) ≡ 0 → reach_of_units argument_unit_size 0 (34 ∷ rest) ≡ 0
+broken_quote_begins_no_argument_unit : (rest : List ℕ) → quotes_and_run_between_size rule.Clean (34 ∷ rest) ≡ 0 → reach_of_units argument_unit_size 0 (34 ∷ rest) ≡ 0
 broken_quote_begins_no_argument_unit rest none = reach_without_first_unit_is_zero argument_unit_size (34 ∷ rest) none
 
 -- a clean run that is not closed
-unclosed_clean_run_is_no_quoted_run : (rest : List ℕ) → quoted_run_size rule.Clean (34 ∷ take (leading_run_size rule.Clean rest) rest) ≡ 0
-unfolding quoted_run_size leading_run_size
+unclosed_clean_run_is_no_quoted_run : (rest : List ℕ) → quotes_and_run_between_size rule.Clean (34 ∷ take (leading_run_size rule.Clean rest) rest) ≡ 0
+unfolding quotes_and_run_between_size leading_run_size
 unclosed_clean_run_is_no_quoted_run rest =
     let n = reach_of_units (run_unit_size rule.Clean) 0 rest in
     let run : reach_of_units (run_unit_size rule.Clean) 0 (take n rest) ≡ n = reach_of_own_prefix_is_same (run_unit_size rule.Clean) (run_unit_size_is_steady rule.Clean) 0 rest (omega arith) in
     let size : length (take n rest) ≡ n = length-take-le n rest (reach_of_units_is_within_bytes (run_unit_size rule.Clean) (run_unit_size_is_steady rule.Clean).within 0 rest (omega arith)) in
     rw run (rw (drop_all n (take n rest) (omega (arith, size))) refl)
 
-broken_quote_keeps_argument_units_size : (bytes : List ℕ) → 0 < quote_before_separator_size (drop (argument_units_size bytes) bytes) → argument_units_size (take (argument_units_size bytes + quote_before_separator_size (drop (argument_units_size bytes) bytes)) bytes) ≡ argument_units_size bytes
+broken_quote_keeps_argument_units_size : (bytes : List ℕ) → 0 < quoted_front_to_inner_separator_size (drop (argument_units_size bytes) bytes) → argument_units_size (take (argument_units_size bytes + quoted_front_to_inner_separator_size (drop (argument_units_size bytes) bytes)) bytes) ≡ argument_units_size bytes
 unfolding argument_units_size
 broken_quote_keeps_argument_units_size bytes some =
     let w = reach_of_units argument_unit_size 0 bytes in
-    let k = quote_before_separator_size (drop w bytes) in
+    let k = quoted_front_to_inner_separator_size (drop w bytes) in
     let x = positive_broken_quote_size_implies_one (drop w bytes) some in
     let within : w ≤ length bytes = argument_units_size_is_within_bytes bytes in
     let size : length (take w bytes) ≡ w = length-take-le w bytes within in
@@ -116,23 +116,23 @@ argument_units_size_keeps_in_own_prefix : (bytes : List ℕ) → argument_units_
 unfolding argument_units_size
 argument_units_size_keeps_in_own_prefix bytes = reach_of_own_prefix_is_same argument_unit_size argument_unit_size_is_steady 0 bytes (omega arith)
 
-units_with_broken_quote_are_argument : (bytes : List ℕ) (k : ℕ) → quote_before_separator_size (drop (argument_units_size bytes) bytes) ≡ k → is_argument_of_size bytes (argument_units_size bytes + k) ≡ true
+units_with_broken_quote_are_argument : (bytes : List ℕ) (k : ℕ) → quoted_front_to_inner_separator_size (drop (argument_units_size bytes) bytes) ≡ k → is_argument_of_size bytes (argument_units_size bytes + k) ≡ true
 units_with_broken_quote_are_argument bytes zero e =
     let n : argument_units_size bytes + 0 ≡ argument_units_size bytes = omega arith in
     let is : argument_units_size (take (argument_units_size bytes) bytes) ≡ argument_units_size bytes = argument_units_size_keeps_in_own_prefix bytes in
     ap (is_argument_of_size bytes) n ∙ disjunction_of_true_left_part_is_true (argument_units_size (take (argument_units_size bytes) bytes) == argument_units_size bytes)
-    (nat_lt 0 (quote_before_separator_size (drop (argument_units_size (take (argument_units_size bytes) bytes)) bytes)) && (argument_units_size (take (argument_units_size bytes) bytes) + quote_before_separator_size (drop (argument_units_size (take (argument_units_size bytes) bytes)) bytes) == argument_units_size bytes))
+    (nat_lt 0 (quoted_front_to_inner_separator_size (drop (argument_units_size (take (argument_units_size bytes) bytes)) bytes)) && (argument_units_size (take (argument_units_size bytes) bytes) + quoted_front_to_inner_separator_size (drop (argument_units_size (take (argument_units_size bytes) bytes)) bytes) == argument_units_size bytes))
     (equal_numbers_pass_equality_test (argument_units_size (take (argument_units_size bytes) bytes)) (argument_units_size bytes) is)
 units_with_broken_quote_are_argument bytes (suc k) e =
     let w = argument_units_size bytes in
     let is : argument_units_size (take (w + suc k) bytes) ≡ w =
     ap (λ (n : ℕ). argument_units_size (take (w + n) bytes)) (sym e) ∙ broken_quote_keeps_argument_units_size bytes (omega (arith, e)) in
     disjunction_of_true_right_part_is_true (argument_units_size (take (w + suc k) bytes) == w + suc k)
-    (nat_lt 0 (quote_before_separator_size (drop (argument_units_size (take (w + suc k) bytes)) bytes)) && (argument_units_size (take (w + suc k) bytes) + quote_before_separator_size (drop (argument_units_size (take (w + suc k) bytes)) bytes) == w + suc k))
+    (nat_lt 0 (quoted_front_to_inner_separator_size (drop (argument_units_size (take (w + suc k) bytes)) bytes)) && (argument_units_size (take (w + suc k) bytes) + quoted_front_to_inner_separator_size (drop (argument_units_size (take (w + suc k) bytes)) bytes) == w + suc k))
     (rw is (rw e (two_true_values_are_true_together (nat_lt 0 (suc k)) (w + suc k == w + suc k) (positive_number_passes_positive_test (suc k) (omega arith)) (equal_numbers_pass_equality_test (w + suc k) (w + suc k) refl))))
 
 -- Units that end before a broken quoted part are all that begin the bytes.
-units_ending_before_broken_quote_are_all : (bytes : List ℕ) (m : ℕ) → m ≤ length bytes → 0 < quote_before_separator_size (drop (argument_units_size (take m bytes)) bytes) → argument_units_size (take m bytes) ≡ argument_units_size bytes
+units_ending_before_broken_quote_are_all : (bytes : List ℕ) (m : ℕ) → m ≤ length bytes → 0 < quoted_front_to_inner_separator_size (drop (argument_units_size (take m bytes)) bytes) → argument_units_size (take m bytes) ≡ argument_units_size bytes
 unfolding argument_units_size
 units_ending_before_broken_quote_are_all bytes m inside some =
     let v = reach_of_units argument_unit_size 0 (take m bytes) in
@@ -164,17 +164,17 @@ argument_units_size_is_largest bytes m inside is =
     let all : reach_of_units argument_unit_size 0 (take m bytes ++ drop m bytes) ≡ reach_of_units argument_unit_size 0 bytes = ap (reach_of_units argument_unit_size 0) (take-append-drop m bytes) in
     omega (arith, more, len, all)
 
-argument_is_within_units_and_quote : (bytes : List ℕ) (m : ℕ) → m ≤ length bytes → is_argument_of_size bytes m ≡ true → m ≤ argument_units_size bytes + quote_before_separator_size (drop (argument_units_size bytes) bytes)
+argument_is_within_units_and_quote : (bytes : List ℕ) (m : ℕ) → m ≤ length bytes → is_argument_of_size bytes m ≡ true → m ≤ argument_units_size bytes + quoted_front_to_inner_separator_size (drop (argument_units_size bytes) bytes)
 argument_is_within_units_and_quote bytes m inside h =
     let v = argument_units_size (take m bytes) in
-    let k = quote_before_separator_size (drop v bytes) in
+    let k = quoted_front_to_inner_separator_size (drop v bytes) in
     elim (true_disjunction_has_one_true_part (v == m) (nat_lt 0 k && (v + k == m)) h) [
       | inl e ↦ let is : v ≡ m = eqb-true v m e in omega (arith, argument_units_size_is_largest bytes m inside is)
       | inr e ↦
           let parts = true_conjunction_has_two_true_parts (nat_lt 0 k) (v + k == m) e in
           let size : v + k ≡ m = eqb-true (v + k) m parts.1 in
           let same : v ≡ argument_units_size bytes = units_ending_before_broken_quote_are_all bytes m inside (positive_by_test_is_positive k parts.0) in
-          let there : k ≡ quote_before_separator_size (drop (argument_units_size bytes) bytes) = ap (λ (n : ℕ). quote_before_separator_size (drop n bytes)) same in
+          let there : k ≡ quoted_front_to_inner_separator_size (drop (argument_units_size bytes) bytes) = ap (λ (n : ℕ). quoted_front_to_inner_separator_size (drop n bytes)) same in
           omega (arith, size, same, there)
     ]
 
@@ -182,6 +182,6 @@ pub argument_size_is_that_of_longest_argument : (bytes : List ℕ) → IsArgumen
 unfolding argument_size
 argument_size_is_that_of_longest_argument bytes = record {
   inside = omega (arith, argument_units_size_is_within_bytes bytes, quote_before_separator_is_within_bytes (drop (argument_units_size bytes) bytes), length-drop (argument_units_size bytes) bytes);
-  sound = λ some. units_with_broken_quote_are_argument bytes (quote_before_separator_size (drop (argument_units_size bytes) bytes)) refl;
+  sound = λ some. units_with_broken_quote_are_argument bytes (quoted_front_to_inner_separator_size (drop (argument_units_size bytes) bytes)) refl;
   most = λ m below h. argument_is_within_units_and_quote bytes m below h;
 }

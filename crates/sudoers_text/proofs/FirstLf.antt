@@ -4,7 +4,7 @@ use Rattle.std.specs.Prelude.{◌==◌, if◌then◌else◌, slice_range}
 use Rattle.std.proofs.lemmas.List.{length-append, append_assoc, append_cancel_left, drop-drop, take-append-drop, take_at, drop_at, length-take-le}
 use Rattle.std.proofs.lemmas.Bool.{eqb-true}
 use Rattle.sudoers_text.specs.Unit.{LineUnit, Quoted, Comment, Byte, bytes_of_unit, bytes_of_reversed_units, AreUnitsBefore, unit_at, begins_line_end, is_hash_of_comment, rest_of_quoted_part, bytes_up_to_line_end}
-use Rattle.sudoers_text.specs.Line.{IsLogicalLineBefore, IsUnfinishedLine, HasLineEnding, by_lf, by_crlf, at_end}
+use Rattle.sudoers_text.specs.Line.{IsLogicalLineBefore, IsUnfinishedLine, IsLineEndingOrTextEnd, by_lf, by_crlf, at_end}
 use Rattle.sudoers_text.specs.Cut.{first_line_size}
 use Rattle.sudoers_text.proofs.Units.{true_conjunction_has_two_true_parts, untrue_disjunction_has_false_parts}
 use Rattle.sudoers_text.proofs.Reading.{IsUnitAtStartOf, choice_is_one_of_its_sides}
@@ -84,7 +84,7 @@ units_of_text_end_before_first_lf (u ∷ us) after xs r simple each e =
     }
 
 -- a line end behind them ends with the LF
-line_end_before_lf_ends_with_it : {us : List LineUnit} {ending rest : List ℕ} → HasLineEnding us ending rest → (ys r : List ℕ) → HasNoLfOrBackslash ys → ending ++ rest ≡ ys ++ 10 ∷ r → (ending ≡ ys ++ 10 ∷ []) × (rest ≡ r)
+line_end_before_lf_ends_with_it : {us : List LineUnit} {ending rest : List ℕ} → IsLineEndingOrTextEnd us ending rest → (ys r : List ℕ) → HasNoLfOrBackslash ys → ending ++ rest ≡ ys ++ 10 ∷ r → (ending ≡ ys ++ 10 ∷ []) × (rest ≡ r)
 line_end_before_lf_ends_with_it by_lf [] r simple e = (refl, cc)
 line_end_before_lf_ends_with_it by_lf (y ∷ ys) r simple e =
     let lf : y ≡ 10 = cc in

@@ -5,9 +5,9 @@ use Rattle.std.specs.Prelude.{◌==◌, if◌then◌else◌, nat_lt, nat_eq}
 use Rattle.std.specs.List.{starts_with}
 use Rattle.std.proofs.lemmas.Bool.{eqb-true}
 use Rattle.sudoers_text.specs.declared.part.ByteRunKind.TheVariants as rule
-use Rattle.sudoers_text.specs.Unit.{LineUnit, Byte, is_id_position_after_units, bytes_after_leading_gap, is_empty, is_hash_of_comment, is_rest_of_hash_include, bytes_up_to_line_end, includedir_word, include_word, has_blanks_and_path, defaults_word}
+use Rattle.sudoers_text.specs.Unit.{LineUnit, Byte, is_id_position_after_units, bytes_of_units_after_leading_gap, is_empty, is_hash_of_comment, is_rest_of_hash_include, bytes_up_to_line_end, includedir_word, include_word, has_blanks_and_path, defaults_word}
 use Rattle.sudoers_text.specs.Part.{size_of_one_matching_byte, leading_run_size, is_nonempty_run, has_given_first_byte, closed_quote_size}
-use Rattle.sudoers_text.specs.Piece.{TokenForm, Mark, Operator, Number, NonUnixGroup, Run, CommandPath, QuotedPart, CommentPart, IncludeWord, FirstWord, Argument, QuotedRest, is_piece_of_form, is_hash_id, is_optional_colon_id, is_numeric_id, is_colon_and_word, is_non_unix_group_word, plus_or_minus_equals_size, comment_size, hash_include_word_size, leading_keyword_size, quoted_argument_rest_size, has_host_or_runas_sign, is_argument_of_size}
+use Rattle.sudoers_text.specs.Piece.{TokenForm, Mark, Operator, Number, NonUnixGroup, Run, CommandPath, QuotedPart, CommentPart, IncludeWord, FirstWord, Argument, QuotedRest, is_piece_of_form, is_hash_id, is_optional_colon_id, is_numeric_id, is_colon_and_word, is_non_unix_group_word, plus_or_minus_equals_size, comment_size, hash_include_word_size, defaults_or_at_include_word_size, quoted_argument_rest_size, has_host_or_runas_sign, is_argument_of_size}
 use Rattle.sudoers_text.specs.Word.{is_among, at_include_words}
 use Rattle.sudoers_text.specs.Found.{size_with_prefix, hash_id_size, optional_colon_id_size, numeric_id_size, colon_and_word_size, non_unix_group_size, command_path_size, comment_size_at, hash_include_size_at, argument_size, longest_piece_size}
 use Rattle.sudoers_text.proofs.Units.{true_conjunction_has_two_true_parts}
@@ -172,7 +172,7 @@ command_path_size_is_longest_path_size before bytes = by_test (has_given_first_b
 
 -- ---- pieces that begin with `#`
 
-comment_size_by_flags_is_comment_size : (before : List LineUnit) (bytes : List ℕ) → comment_size_at (is_id_position_after_units before) (is_empty (bytes_after_leading_gap before)) bytes ≡ comment_size before bytes
+comment_size_by_flags_is_comment_size : (before : List LineUnit) (bytes : List ℕ) → comment_size_at (is_id_position_after_units before) (is_empty (bytes_of_units_after_leading_gap before)) bytes ≡ comment_size before bytes
 unfolding comment_size_at
 comment_size_by_flags_is_comment_size before [] = refl
 comment_size_by_flags_is_comment_size before (b ∷ rest) = refl
@@ -181,7 +181,7 @@ comment_size_is_within_bytes : (before : List LineUnit) (bytes : List ℕ) → c
 comment_size_is_within_bytes before [] = omega arith
 comment_size_is_within_bytes before (b ∷ rest) = choice_with_zero_is_within_bound (b == 35 && is_hash_of_comment before rest) (length (bytes_up_to_line_end rest) + 1) (length (b ∷ rest)) (λ t. omega (arith, line_end_search_is_within_bytes rest))
 
-include_size_by_flag_is_include_size : (before : List LineUnit) (bytes : List ℕ) → hash_include_size_at (is_empty (bytes_after_leading_gap before)) bytes ≡ hash_include_word_size before bytes
+include_size_by_flag_is_include_size : (before : List LineUnit) (bytes : List ℕ) → hash_include_size_at (is_empty (bytes_of_units_after_leading_gap before)) bytes ≡ hash_include_word_size before bytes
 unfolding hash_include_size_at
 include_size_by_flag_is_include_size before [] = refl
 include_size_by_flag_is_include_size before (b ∷ rest) = refl
@@ -197,15 +197,15 @@ hash_include_word_fits_into_bytes rest h = by_test (starts_with nat_eq rest incl
 hash_include_word_size_is_within_bytes : (before : List LineUnit) (bytes : List ℕ) → hash_include_word_size before bytes ≤ length bytes
 hash_include_word_size_is_within_bytes before [] = omega arith
 hash_include_word_size_is_within_bytes before (b ∷ rest) =
-    choice_with_zero_is_within_bound (b == 35 && (is_empty (bytes_after_leading_gap before) && is_rest_of_hash_include rest)) (if starts_with nat_eq rest includedir_word then 11 else 8) (length (b ∷ rest))
+    choice_with_zero_is_within_bound (b == 35 && (is_empty (bytes_of_units_after_leading_gap before) && is_rest_of_hash_include rest)) (if starts_with nat_eq rest includedir_word then 11 else 8) (length (b ∷ rest))
     (λ t.
-    let parts = true_conjunction_has_two_true_parts (b == 35) (is_empty (bytes_after_leading_gap before) && is_rest_of_hash_include rest) t in
-    hash_include_word_fits_into_bytes rest (true_conjunction_has_two_true_parts (is_empty (bytes_after_leading_gap before)) (is_rest_of_hash_include rest) parts.1).1)
+    let parts = true_conjunction_has_two_true_parts (b == 35) (is_empty (bytes_of_units_after_leading_gap before) && is_rest_of_hash_include rest) t in
+    hash_include_word_fits_into_bytes rest (true_conjunction_has_two_true_parts (is_empty (bytes_of_units_after_leading_gap before)) (is_rest_of_hash_include rest) parts.1).1)
 
 -- ---- others
 
-leading_keyword_size_is_within_bytes : (bytes : List ℕ) → leading_keyword_size bytes ≤ length bytes
-unfolding leading_keyword_size
+leading_keyword_size_is_within_bytes : (bytes : List ℕ) → defaults_or_at_include_word_size bytes ≤ length bytes
+unfolding defaults_or_at_include_word_size
 leading_keyword_size_is_within_bytes bytes =
     let word = leading_run_size rule.Word bytes in
     let defaults = starts_with nat_eq bytes defaults_word in
@@ -221,7 +221,7 @@ quoted_argument_rest_is_within_bytes bytes =
     choice_of_bounded_numbers_is_within_bound (has_given_first_byte 34 (drop clean bytes)) (clean + 1) clean (length bytes)
     (λ t. omega (arith, place_with_first_byte_is_within_bytes 34 clean bytes t)) (leading_run_size_is_within_bytes rule.Clean bytes)
 
-pub computed_form_size_is_longest : (form : TokenForm) (before : List LineUnit) (bytes : List ℕ) → IsLongestFormPieceSize form before bytes (longest_piece_size form (is_id_position_after_units before) (is_empty (bytes_after_leading_gap before)) bytes)
+pub computed_form_size_is_longest : (form : TokenForm) (before : List LineUnit) (bytes : List ℕ) → IsLongestFormPieceSize form before bytes (longest_piece_size form (is_id_position_after_units before) (is_empty (bytes_of_units_after_leading_gap before)) bytes)
 computed_form_size_is_longest (Mark test) before bytes = one_byte_size_is_longest_mark_size test before bytes
 computed_form_size_is_longest Operator before bytes = only_possible_size_is_longest_form_size Operator before bytes (plus_or_minus_equals_size bytes) (operator_size_is_within_bytes bytes) (λ m. refl)
 computed_form_size_is_longest Number before bytes = longest_text_piece_is_longest_form_piece Number before bytes (numeric_id_size (is_id_position_after_units before) bytes) (is_numeric_id before) (λ m. refl) (numeric_id_size_is_longest before bytes)
@@ -233,7 +233,7 @@ computed_form_size_is_longest CommentPart before bytes =
     subst (IsLongestFormPieceSize CommentPart before bytes) (sym (comment_size_by_flags_is_comment_size before bytes)) (only_possible_size_is_longest_form_size CommentPart before bytes (comment_size before bytes) (comment_size_is_within_bytes before bytes) (λ m. refl))
 computed_form_size_is_longest IncludeWord before bytes =
     subst (IsLongestFormPieceSize IncludeWord before bytes) (sym (include_size_by_flag_is_include_size before bytes)) (only_possible_size_is_longest_form_size IncludeWord before bytes (hash_include_word_size before bytes) (hash_include_word_size_is_within_bytes before bytes) (λ m. refl))
-computed_form_size_is_longest FirstWord before bytes = only_possible_size_is_longest_form_size FirstWord before bytes (leading_keyword_size bytes) (leading_keyword_size_is_within_bytes bytes) (λ m. refl)
+computed_form_size_is_longest FirstWord before bytes = only_possible_size_is_longest_form_size FirstWord before bytes (defaults_or_at_include_word_size bytes) (leading_keyword_size_is_within_bytes bytes) (λ m. refl)
 computed_form_size_is_longest Argument before bytes =
     let size = argument_size_is_that_of_longest_argument bytes in
     record {

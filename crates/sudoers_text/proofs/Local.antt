@@ -3,8 +3,8 @@ use Rattle.std.proofs.Common.{◌≡◌, ◌≢◌, ℕ, Bool, true, false, not,
 use Rattle.std.specs.Prelude.{◌==◌, if◌then◌else◌, nat_eq}
 use Rattle.std.specs.List.{starts_with}
 use Rattle.std.proofs.lemmas.List.{append_assoc}
-use Rattle.sudoers_text.specs.Unit.{LineUnit, Continuation, Pair, Quoted, Comment, Byte, bytes_of_unit, bytes_of_reversed_units, AreUnitsBefore, unit_at, unit_after_backslash, begins_line_end, begins_lf, begins_digit, has_path_after_blanks, has_blanks_and_path, is_rest_of_hash_include, include_word, includedir_word, is_hash_of_comment, is_id_position_after_units, bytes_after_leading_gap, is_empty, is_blank, bytes_up_to_line_end, rest_of_quoted_part}
-use Rattle.sudoers_text.specs.Line.{IsLogicalLineBefore, HasLineEnding, by_lf, by_crlf, at_end}
+use Rattle.sudoers_text.specs.Unit.{LineUnit, Continuation, Pair, Quoted, Comment, Byte, bytes_of_unit, bytes_of_reversed_units, AreUnitsBefore, unit_at, unit_after_backslash, begins_line_end, begins_lf, begins_digit, has_path_after_blanks, has_blanks_and_path, is_rest_of_hash_include, include_word, includedir_word, is_hash_of_comment, is_id_position_after_units, bytes_of_units_after_leading_gap, is_empty, is_blank, bytes_up_to_line_end, rest_of_quoted_part}
+use Rattle.sudoers_text.specs.Line.{IsLogicalLineBefore, IsLineEndingOrTextEnd, by_lf, by_crlf, at_end}
 use Rattle.std.proofs.lemmas.Bool.Decides.{eqb_tells}
 use Rattle.sudoers_text.proofs.Reading.{choice_is_one_of_its_sides}
 
@@ -63,8 +63,8 @@ include_rest_ignores_text_after_lf k r s =
 
 comment_hash_ignores_text_after_lf : (before : List LineUnit) (k r s : List ℕ) → is_hash_of_comment before (k ++ 10 ∷ r) ≡ is_hash_of_comment before (k ++ 10 ∷ s)
 comment_hash_ignores_text_after_lf before k r s =
-    ap (λ (t : Bool). not (is_id_position_after_units before && t) && not (is_empty (bytes_after_leading_gap before) && is_rest_of_hash_include (k ++ 10 ∷ r))) (digit_start_ignores_text_after_lf k r s)
-    ∙ ap (λ (t : Bool). not (is_id_position_after_units before && begins_digit (k ++ 10 ∷ s)) && not (is_empty (bytes_after_leading_gap before) && t)) (include_rest_ignores_text_after_lf k r s)
+    ap (λ (t : Bool). not (is_id_position_after_units before && t) && not (is_empty (bytes_of_units_after_leading_gap before) && is_rest_of_hash_include (k ++ 10 ∷ r))) (digit_start_ignores_text_after_lf k r s)
+    ∙ ap (λ (t : Bool). not (is_id_position_after_units before && begins_digit (k ++ 10 ∷ s)) && not (is_empty (bytes_of_units_after_leading_gap before) && t)) (include_rest_ignores_text_after_lf k r s)
 
 lf_past_bytes_ignores_text_after_lf : (bytes m r s : List ℕ) → begins_lf (bytes ++ (m ++ 10 ∷ r)) ≡ begins_lf (bytes ++ (m ++ 10 ∷ s))
 lf_past_bytes_ignores_text_after_lf [] m r s = lf_start_ignores_text_after_lf m r s
@@ -141,7 +141,7 @@ units_ignore_text_after_lf (u ∷ us) m r s each = (
 )
 
 -- a line that has a line end is a line before anything
-pub line_with_ending_is_line_anywhere : (line : List ℕ) (units : List LineUnit) (ending rest other : List ℕ) → line ≡ bytes_of_reversed_units units ++ ending → AreUnitsBefore units (ending ++ rest) → HasLineEnding units ending rest → (rest ≡ [] → ending ≡ [] → ⊥) → IsLogicalLineBefore line other
+pub line_with_ending_is_line_anywhere : (line : List ℕ) (units : List LineUnit) (ending rest other : List ℕ) → line ≡ bytes_of_reversed_units units ++ ending → AreUnitsBefore units (ending ++ rest) → IsLineEndingOrTextEnd units ending rest → (rest ≡ [] → ending ≡ [] → ⊥) → IsLogicalLineBefore line other
 line_with_ending_is_line_anywhere line units ending rest other text each by_lf ended = record {
   units = units;
   ending = 10 ∷ [];

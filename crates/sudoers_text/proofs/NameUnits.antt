@@ -3,7 +3,7 @@ use Rattle.std.proofs.Common.{◌≡◌, ℕ, Bool, true, false, ◌&&◌, ◌||
 use Rattle.std.specs.Prelude.{◌==◌, if◌then◌else◌, nat_eq, Option}
 use Rattle.std.specs.Str.{bytes_eq}
 use Rattle.std.proofs.lemmas.List.{append_assoc}
-use Rattle.sudoers_text.specs.Unit.{LineUnit, Quoted, Comment, Byte, bytes_of_unit, bytes_of_reversed_units, unit_after_backslash, bytes_after_leading_gap, is_empty, is_gap_unit, defaults_word, begins_line_end, begins_lf, is_hash_of_comment, rest_of_quoted_part, bytes_up_to_line_end, unit_at, AreUnitsBefore}
+use Rattle.sudoers_text.specs.Unit.{LineUnit, Quoted, Comment, Byte, bytes_of_unit, bytes_of_reversed_units, unit_after_backslash, bytes_of_units_after_leading_gap, is_empty, is_gap_unit, defaults_word, begins_line_end, begins_lf, is_hash_of_comment, rest_of_quoted_part, bytes_up_to_line_end, unit_at, AreUnitsBefore}
 use Rattle.sudoers_text.specs.Line.{has_open_last_unit, ends_in_unpaired_backslash}
 use Rattle.sudoers_text.specs.Ended.{ends_in_lf}
 use Rattle.sudoers_text.specs.Part.{is_upper}
@@ -84,28 +84,28 @@ text_with_lacking_byte_is_not_word (c ∷ word) (d ∷ q) b xs lacks = by_test (
     by_test true e = e
     by_test false e = refl
 
-non_gap_unit_extends_begun_line : (w : LineUnit) (b : List LineUnit) → is_gap_unit w ≡ false → bytes_after_leading_gap (w ∷ b) ≡ bytes_after_leading_gap b ++ bytes_of_unit w
-non_gap_unit_extends_begun_line w b h = by_test (is_empty (bytes_after_leading_gap b)) (is_gap_unit w) h
+non_gap_unit_extends_begun_line : (w : LineUnit) (b : List LineUnit) → is_gap_unit w ≡ false → bytes_of_units_after_leading_gap (w ∷ b) ≡ bytes_of_units_after_leading_gap b ++ bytes_of_unit w
+non_gap_unit_extends_begun_line w b h = by_test (is_empty (bytes_of_units_after_leading_gap b)) (is_gap_unit w) h
   where
-    by_test : (s t : Bool) → t ≡ false → (if s && t then [] else bytes_after_leading_gap b ++ bytes_of_unit w) ≡ bytes_after_leading_gap b ++ bytes_of_unit w
+    by_test : (s t : Bool) → t ≡ false → (if s && t then [] else bytes_of_units_after_leading_gap b ++ bytes_of_unit w) ≡ bytes_of_units_after_leading_gap b ++ bytes_of_unit w
     by_test true false e = refl
     by_test false false e = refl
     by_test s true e = absurd (cc)
 
 -- what a quoted part or a comment leaves behind it
 record HasBegunAndIsNeverDefaults (b : List LineUnit) (rest : List ℕ) : Type 0 where
-  some : is_empty (bytes_after_leading_gap b) ≡ false
-  never : IsNeverDefaultsWithMore (bytes_after_leading_gap b) rest
+  some : is_empty (bytes_of_units_after_leading_gap b) ≡ false
+  never : IsNeverDefaultsWithMore (bytes_of_units_after_leading_gap b) rest
 
 marked_unit_begins_line_never_defaults : (w : LineUnit) (b : List LineUnit) (m : ℕ) (t rest : List ℕ) → is_gap_unit w ≡ false → bytes_of_unit w ≡ m ∷ t → WordLacksByte m defaults_word
     → HasBegunAndIsNeverDefaults (w ∷ b) rest
 marked_unit_begins_line_never_defaults w b m t rest gap text lacks =
-    let is : bytes_after_leading_gap (w ∷ b) ≡ bytes_after_leading_gap b ++ m ∷ t = non_gap_unit_extends_begun_line w b gap ∙ ap (λ (x : List ℕ). bytes_after_leading_gap b ++ x) text in
+    let is : bytes_of_units_after_leading_gap (w ∷ b) ≡ bytes_of_units_after_leading_gap b ++ m ∷ t = non_gap_unit_extends_begun_line w b gap ∙ ap (λ (x : List ℕ). bytes_of_units_after_leading_gap b ++ x) text in
     record {
-      some = ap is_empty is ∙ some_behind (bytes_after_leading_gap b);
+      some = ap is_empty is ∙ some_behind (bytes_of_units_after_leading_gap b);
       never = λ p more e. ap (λ (x : List ℕ). bytes_eq (x ++ p) defaults_word) is
-          ∙ ap (λ (x : List ℕ). bytes_eq x defaults_word) (append_assoc (bytes_after_leading_gap b) (m ∷ t) p)
-          ∙ text_with_lacking_byte_is_not_word defaults_word (bytes_after_leading_gap b) m (t ++ p) lacks;
+          ∙ ap (λ (x : List ℕ). bytes_eq x defaults_word) (append_assoc (bytes_of_units_after_leading_gap b) (m ∷ t) p)
+          ∙ text_with_lacking_byte_is_not_word defaults_word (bytes_of_units_after_leading_gap b) m (t ++ p) lacks;
     }
   where
     some_behind : (xs : List ℕ) → is_empty (xs ++ m ∷ t) ≡ false

@@ -4,7 +4,7 @@ use Rattle.std.proofs.Common.{◌≡◌, inl, inr, ℕ, suc, ◌+◌, ◌<◌, B
 use Rattle.std.specs.Prelude.{◌==◌, if◌then◌else◌}
 use Rattle.std.proofs.lemmas.List.{length-drop, drop-append-le}
 use Rattle.sudoers_text.specs.declared.part.ByteRunKind.TheVariants as rule
-use Rattle.sudoers_text.specs.Part.{unclosed_quote_unit_size, reach_of_units, leading_run_size, is_upper, has_given_first_byte, quoted_run_size, argument_units_size, closed_quote_size, quote_before_separator_size}
+use Rattle.sudoers_text.specs.Part.{unclosed_quote_unit_size, reach_of_units, leading_run_size, is_upper, has_given_first_byte, quotes_and_run_between_size, argument_units_size, closed_quote_size, quoted_front_to_inner_separator_size}
 use Rattle.sudoers_text.specs.Piece.{quoted_argument_rest_size}
 use Rattle.sudoers_text.specs.Token.{bad_token_size}
 use Rattle.sudoers_text.specs.Found.{command_path_size, argument_size}
@@ -21,17 +21,17 @@ command_path_sizes_agree_before_letters q u v xs ys is =
     (leading_run_size rule.Path (q ++ v ∷ ys)) 0 0
     (byte_at_place_is_same_before_letters 47 refl q 0 u v xs ys is (omega arith)) (leading_run_sizes_agree_before_letters rule.Path q u v xs ys is) (zero_sizes_agree_up_to_place (length q))
 
-pub upper_case_letter_begins_no_quoted_run : (w : ℕ) (zs : List ℕ) → is_upper w ≡ true → quoted_run_size rule.Quote (w ∷ zs) ≡ 0
-unfolding quoted_run_size
+pub upper_case_letter_begins_no_quoted_run : (w : ℕ) (zs : List ℕ) → is_upper w ≡ true → quotes_and_run_between_size rule.Quote (w ∷ zs) ≡ 0
+unfolding quotes_and_run_between_size
 upper_case_letter_begins_no_quoted_run w zs h = let a : (w == 34) ≡ false = bytes_told_apart_by_test_are_unequal is_upper 34 w h refl in rw a refl
 
 broken_quote_sizes_agree_before_names : (u v : ℕ) (x y s : List ℕ) → IsNameByFirstAndOthers u x → IsNameByFirstAndOthers v y → (q : List ℕ)
-    → AgreeUpToPlace (length q) (quote_before_separator_size (q ++ u ∷ (x ++ s))) (quote_before_separator_size (q ++ v ∷ (y ++ s)))
-unfolding quote_before_separator_size
+    → AgreeUpToPlace (length q) (quoted_front_to_inner_separator_size (q ++ u ∷ (x ++ s))) (quoted_front_to_inner_separator_size (q ++ v ∷ (y ++ s)))
+unfolding quoted_front_to_inner_separator_size
 broken_quote_sizes_agree_before_names u v x y s nx ny [] =
-    let a : quoted_run_size rule.Quote (u ∷ (x ++ s)) ≡ 0 = upper_case_letter_begins_no_quoted_run u (x ++ s) nx.first in
-    let b : quoted_run_size rule.Quote (v ∷ (y ++ s)) ≡ 0 = upper_case_letter_begins_no_quoted_run v (y ++ s) ny.first in
-    rw (a, b) (by_tests (quoted_run_size rule.Clean (u ∷ (x ++ s)) == 0) (quoted_run_size rule.Clean (v ∷ (y ++ s)) == 0)
+    let a : quotes_and_run_between_size rule.Quote (u ∷ (x ++ s)) ≡ 0 = upper_case_letter_begins_no_quoted_run u (x ++ s) nx.first in
+    let b : quotes_and_run_between_size rule.Quote (v ∷ (y ++ s)) ≡ 0 = upper_case_letter_begins_no_quoted_run v (y ++ s) ny.first in
+    rw (a, b) (by_tests (quotes_and_run_between_size rule.Clean (u ∷ (x ++ s)) == 0) (quotes_and_run_between_size rule.Clean (v ∷ (y ++ s)) == 0)
     (leading_run_size rule.Clean (x ++ s) + 1) (leading_run_size rule.Clean (y ++ s) + 1))
   where
     by_tests : (s t : Bool) (a b : ℕ) → AgreeUpToPlace 0 (if s && false then a else 0) (if t && false then b else 0)
@@ -42,12 +42,12 @@ broken_quote_sizes_agree_before_names u v x y s nx ny [] =
 broken_quote_sizes_agree_before_names u v x y s nx ny (b ∷ q) =
     let X = b ∷ q ++ u ∷ (x ++ s) in
     let Y = b ∷ q ++ v ∷ (y ++ s) in
-    equal_tests_choose_agreeing_sizes (quoted_run_size rule.Clean X == 0 && not (closed_quote_size X == 0)) (quoted_run_size rule.Clean Y == 0 && not (closed_quote_size Y == 0))
+    equal_tests_choose_agreeing_sizes (quotes_and_run_between_size rule.Clean X == 0 && not (closed_quote_size X == 0)) (quotes_and_run_between_size rule.Clean Y == 0 && not (closed_quote_size Y == 0))
     (suc (length q)) (leading_run_size rule.Clean (q ++ u ∷ (x ++ s)) + 1) (leading_run_size rule.Clean (q ++ v ∷ (y ++ s)) + 1) 0 0
     (ap (λ (t : Bool). t && not (closed_quote_size X == 0))
-    (agreeing_sizes_are_zero_together (suc (length q)) (quoted_run_size rule.Clean X) (quoted_run_size rule.Clean Y)
+    (agreeing_sizes_are_zero_together (suc (length q)) (quotes_and_run_between_size rule.Clean X) (quotes_and_run_between_size rule.Clean Y)
     (quoted_run_sizes_agree_before_names rule.Clean clean_rule_goes_through_names u v x y s nx ny (b ∷ q)))
-    ∙ ap (λ (t : Bool). quoted_run_size rule.Clean Y == 0 && not t)
+    ∙ ap (λ (t : Bool). quotes_and_run_between_size rule.Clean Y == 0 && not t)
     (agreeing_sizes_are_zero_together (suc (length q)) (closed_quote_size X) (closed_quote_size Y) (quoted_run_sizes_agree_before_names rule.Quote quote_rule_goes_through_names u v x y s nx ny (b ∷ q))))
     (added_byte_keeps_sizes_agreeing (length q) (leading_run_size rule.Clean (q ++ u ∷ (x ++ s))) (leading_run_size rule.Clean (q ++ v ∷ (y ++ s)))
     (leading_run_sizes_agree_before_letters rule.Clean q u v (x ++ s) (y ++ s) (record { one = nx.first; another = ny.first })))
@@ -59,19 +59,19 @@ unfolding argument_size
 argument_sizes_agree_before_names u v x y s nx ny q = by_whole (argument_units_size (q ++ u ∷ (x ++ s))) (argument_units_size (q ++ v ∷ (y ++ s))) (argument_units_sizes_agree_before_names u v x y s nx ny q)
   where
     by_whole : (n m : ℕ) → AgreeUpToPlace (length q) n m
-        → AgreeUpToPlace (length q) (n + quote_before_separator_size (drop n (q ++ u ∷ (x ++ s)))) (m + quote_before_separator_size (drop m (q ++ v ∷ (y ++ s))))
+        → AgreeUpToPlace (length q) (n + quoted_front_to_inner_separator_size (drop n (q ++ u ∷ (x ++ s)))) (m + quoted_front_to_inner_separator_size (drop m (q ++ v ∷ (y ++ s))))
     by_whole n m (inr e) = inr (omega (arith, e.0), omega (arith, e.1))
     by_whole n m (inl e) =
         let one : drop n (q ++ u ∷ (x ++ s)) ≡ drop n q ++ u ∷ (x ++ s) = drop-append-le n q (u ∷ (x ++ s)) e.0 in
         let other : drop m (q ++ v ∷ (y ++ s)) ≡ drop n q ++ v ∷ (y ++ s) =
         ap (λ (k : ℕ). drop k (q ++ v ∷ (y ++ s))) e.1 ∙ drop-append-le n q (v ∷ (y ++ s)) e.0 in
         let place : n + length (drop n q) ≡ length q = omega (arith, e.0, length-drop n q) in
-        subst (λ (p : ℕ). AgreeUpToPlace p (n + quote_before_separator_size (drop n (q ++ u ∷ (x ++ s)))) (m + quote_before_separator_size (drop m (q ++ v ∷ (y ++ s))))) place
-        (subst (λ (k : ℕ). AgreeUpToPlace (n + length (drop n q)) (n + quote_before_separator_size (drop n (q ++ u ∷ (x ++ s))))
-        (k + quote_before_separator_size (drop m (q ++ v ∷ (y ++ s))))) (sym e.1)
-        (subst (λ (t : List ℕ). AgreeUpToPlace (n + length (drop n q)) (n + quote_before_separator_size (drop n (q ++ u ∷ (x ++ s)))) (n + quote_before_separator_size t)) (sym other)
-        (subst (λ (t : List ℕ). AgreeUpToPlace (n + length (drop n q)) (n + quote_before_separator_size t) (n + quote_before_separator_size (drop n q ++ v ∷ (y ++ s)))) (sym one)
-        (added_count_keeps_sizes_agreeing n (length (drop n q)) (quote_before_separator_size (drop n q ++ u ∷ (x ++ s))) (quote_before_separator_size (drop n q ++ v ∷ (y ++ s)))
+        subst (λ (p : ℕ). AgreeUpToPlace p (n + quoted_front_to_inner_separator_size (drop n (q ++ u ∷ (x ++ s)))) (m + quoted_front_to_inner_separator_size (drop m (q ++ v ∷ (y ++ s))))) place
+        (subst (λ (k : ℕ). AgreeUpToPlace (n + length (drop n q)) (n + quoted_front_to_inner_separator_size (drop n (q ++ u ∷ (x ++ s))))
+        (k + quoted_front_to_inner_separator_size (drop m (q ++ v ∷ (y ++ s))))) (sym e.1)
+        (subst (λ (t : List ℕ). AgreeUpToPlace (n + length (drop n q)) (n + quoted_front_to_inner_separator_size (drop n (q ++ u ∷ (x ++ s)))) (n + quoted_front_to_inner_separator_size t)) (sym other)
+        (subst (λ (t : List ℕ). AgreeUpToPlace (n + length (drop n q)) (n + quoted_front_to_inner_separator_size t) (n + quoted_front_to_inner_separator_size (drop n q ++ v ∷ (y ++ s)))) (sym one)
+        (added_count_keeps_sizes_agreeing n (length (drop n q)) (quoted_front_to_inner_separator_size (drop n q ++ u ∷ (x ++ s))) (quoted_front_to_inner_separator_size (drop n q ++ v ∷ (y ++ s)))
         (broken_quote_sizes_agree_before_names u v x y s nx ny (drop n q))))))
 
 pub quoted_rest_sizes_agree_before_names : (u v : ℕ) (x y s : List ℕ) → IsNameByFirstAndOthers u x → IsNameByFirstAndOthers v y → (q : List ℕ)

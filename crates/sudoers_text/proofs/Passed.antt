@@ -6,7 +6,7 @@ use Rattle.std.proofs.lemmas.Bool.{eqb-true}
 use Rattle.sudoers_text.specs.declared.text_units.LeftContext.{LeftContext}
 use Rattle.sudoers_text.specs.Unit.{LineUnit, Byte, bytes_of_unit, unit_after_backslash}
 use Rattle.sudoers_text.specs.internal.Left.{LeftDescribesUnits, UnitStandsAt}
-use Rattle.sudoers_text.specs.Token.{byte_or_escape_unit, units_with_those_of_bytes, units_with_rest_of_bytes}
+use Rattle.sudoers_text.specs.Token.{byte_or_escape_unit, units_with_those_of_bytes, units_with_those_after_skipped_bytes}
 use Rattle.sudoers_text.specs.internal.Run.{is_plain_unit_byte, plain_prefix_of_bytes}
 use Rattle.sudoers_text.proofs.Reading.{unit_at_text_is_prefix_of_it, unit_size_is_positive}
 use Rattle.sudoers_text.proofs.Runs.{IsOrdinaryByte, IsLeftContextAfterRun, IsCarriedByOrdinaryBytes, carried_fact_keeps_after_passed_run, context_after_ordinary_byte_describes_units, context_after_empty_run_describes_units}
@@ -17,7 +17,7 @@ pub record AreUnitsLeftLeadingToUnits (text : List ℕ) (at to : ℕ) (left : Le
   pub knows : LeftDescribesUnits text at left units
   pub same : units_with_those_of_bytes units (slice_range text at to) ≡ whole
 
-pub units_past_bytes_are_units_of_rest : (k : ℕ) (units : List LineUnit) (bytes : List ℕ) → units_with_rest_of_bytes k units bytes ≡ units_with_those_of_bytes units (drop k bytes)
+pub units_past_bytes_are_units_of_rest : (k : ℕ) (units : List LineUnit) (bytes : List ℕ) → units_with_those_after_skipped_bytes k units bytes ≡ units_with_those_of_bytes units (drop k bytes)
 units_past_bytes_are_units_of_rest zero units bytes = refl
 units_past_bytes_are_units_of_rest (suc k) units [] = refl
 units_past_bytes_are_units_of_rest (suc k) units (b ∷ bytes) = units_past_bytes_are_units_of_rest k units bytes

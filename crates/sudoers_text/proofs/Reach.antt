@@ -5,7 +5,7 @@ use Rattle.std.proofs.lemmas.List.{length-drop, length-append, take_all, drop-dr
 use Rattle.sudoers_text.specs.declared.part.ByteRunKind.{ByteRunKind}
 use Rattle.sudoers_text.specs.declared.part.ByteRunKind.TheVariants as rule
 use Rattle.sudoers_text.specs.Unit.{LineUnit, Continuation, Pair, Quoted, Comment, Byte, bytes_of_unit, begins_line_end, unit_after_backslash, is_blank, is_digit, bytes_up_to_line_end}
-use Rattle.sudoers_text.specs.Part.{size_of_one_matching_byte, first_nonzero_number, pair_size_of_unit, continuation_size_of_unit, escape_size_of_unit, backslash_unit_size_by, unclosed_quote_unit_size, run_unit_size, reach_past_first_byte, reach_of_units, leading_run_size, is_word_byte, is_byte_of_include_path, is_path_byte, is_value_byte, is_quoted_byte, is_quoted_byte_but_separator, is_byte_of_parameter_name, is_digest_byte, has_given_first_byte, quoted_run_size, argument_unit_size, argument_units_size}
+use Rattle.sudoers_text.specs.Part.{size_of_one_matching_byte, first_nonzero_number, pair_size_of_unit, continuation_size_of_unit, pair_or_continuation_size_of_unit, backslash_unit_size_by, unclosed_quote_unit_size, run_unit_size, reach_past_first_byte, reach_of_units, leading_run_size, is_word_byte, is_byte_of_include_path, is_path_byte, is_value_byte, is_quoted_byte, is_quoted_byte_but_separator, is_byte_of_parameter_name, is_digest_byte, has_given_first_byte, quotes_and_run_between_size, argument_unit_size, argument_units_size}
 use Rattle.sudoers_text.proofs.Reading.{unit_at_text_is_prefix_of_it}
 
 -- a unit lies within the bytes
@@ -47,7 +47,7 @@ continuation_size_is_within_unit_bytes (Quoted bytes) = omega arith
 continuation_size_is_within_unit_bytes (Comment bytes) = omega arith
 continuation_size_is_within_unit_bytes (Byte b) = omega arith
 
-pub escape_size_is_within_unit_bytes : IsMeasureWithinUnitBytes escape_size_of_unit
+pub escape_size_is_within_unit_bytes : IsMeasureWithinUnitBytes pair_or_continuation_size_of_unit
 escape_size_is_within_unit_bytes (Continuation crlf) = omega arith
 escape_size_is_within_unit_bytes (Pair b) = choice_of_bounded_sizes_is_within_bound (b == 13) 0 2 2 (omega arith) (omega arith)
 escape_size_is_within_unit_bytes (Quoted bytes) = omega arith
@@ -78,8 +78,8 @@ run_unit_size_is_within_bytes rule.Word bytes = byte_or_backslash_size_is_within
 run_unit_size_is_within_bytes rule.IncludePath bytes = byte_or_backslash_size_is_within_bytes is_byte_of_include_path pair_size_of_unit pair_size_is_within_unit_bytes bytes
 run_unit_size_is_within_bytes rule.Path bytes = byte_or_backslash_size_is_within_bytes is_path_byte pair_size_of_unit pair_size_is_within_unit_bytes bytes
 run_unit_size_is_within_bytes rule.Value bytes = byte_or_backslash_size_is_within_bytes is_value_byte pair_size_of_unit pair_size_is_within_unit_bytes bytes
-run_unit_size_is_within_bytes rule.Quote bytes = byte_or_backslash_size_is_within_bytes is_quoted_byte escape_size_of_unit escape_size_is_within_unit_bytes bytes
-run_unit_size_is_within_bytes rule.Clean bytes = byte_or_backslash_size_is_within_bytes is_quoted_byte_but_separator escape_size_of_unit escape_size_is_within_unit_bytes bytes
+run_unit_size_is_within_bytes rule.Quote bytes = byte_or_backslash_size_is_within_bytes is_quoted_byte pair_or_continuation_size_of_unit escape_size_is_within_unit_bytes bytes
+run_unit_size_is_within_bytes rule.Clean bytes = byte_or_backslash_size_is_within_bytes is_quoted_byte_but_separator pair_or_continuation_size_of_unit escape_size_is_within_unit_bytes bytes
 
 -- in the middle of a unit, what is left of it is passed first
 pub reach_past_unit_is_sum_of_parts : (unit : List ℕ → ℕ) (k : ℕ) (bytes : List ℕ) → k ≤ length bytes → reach_of_units unit k bytes ≡ k + reach_of_units unit 0 (drop k bytes)
@@ -153,8 +153,8 @@ doubly_tested_size_is_within_bound true true m n h = h refl
 doubly_tested_size_is_within_bound true false m n h = omega arith
 doubly_tested_size_is_within_bound false t m n h = omega arith
 
-pub quoted_run_size_is_within_bytes : (r : ByteRunKind) → IsSizeWithinBytes (quoted_run_size r)
-unfolding quoted_run_size
+pub quoted_run_size_is_within_bytes : (r : ByteRunKind) → IsSizeWithinBytes (quotes_and_run_between_size r)
+unfolding quotes_and_run_between_size
 quoted_run_size_is_within_bytes r [] = omega arith
 quoted_run_size_is_within_bytes r (b ∷ rest) =
     doubly_tested_size_is_within_bound (b == 34) (has_given_first_byte 34 (drop (leading_run_size r rest) rest)) (leading_run_size r rest + 2) (length (b ∷ rest))
@@ -162,7 +162,7 @@ quoted_run_size_is_within_bytes r (b ∷ rest) =
 
 pub argument_unit_size_is_within_bytes : IsSizeWithinBytes argument_unit_size
 argument_unit_size_is_within_bytes bytes =
-    first_nonzero_of_bounded_is_within_bound (run_unit_size rule.Path bytes) (quoted_run_size rule.Clean bytes) (length bytes) (run_unit_size_is_within_bytes rule.Path bytes) (quoted_run_size_is_within_bytes rule.Clean bytes)
+    first_nonzero_of_bounded_is_within_bound (run_unit_size rule.Path bytes) (quotes_and_run_between_size rule.Clean bytes) (length bytes) (run_unit_size_is_within_bytes rule.Path bytes) (quoted_run_size_is_within_bytes rule.Clean bytes)
 
 pub argument_units_size_is_within_bytes : (bytes : List ℕ) → argument_units_size bytes ≤ length bytes
 unfolding argument_units_size

@@ -6,10 +6,10 @@ use Rattle.std.proofs.lemmas.Bool.Decides.{eqb_tells}
 use Rattle.sudoers_text.specs.declared.token.TokenKind.{TokenKind}
 use Rattle.std.proofs.lemmas.List.{length-append}
 use Rattle.sudoers_text.specs.declared.text_units.LeftContext.{LeftContext}
-use Rattle.sudoers_text.specs.Unit.{LineUnit, bytes_of_unit, begins_lf, is_id_position_after_units, bytes_after_leading_gap, is_empty, unit_after_backslash}
+use Rattle.sudoers_text.specs.Unit.{LineUnit, bytes_of_unit, begins_lf, is_id_position_after_units, bytes_of_units_after_leading_gap, is_empty, unit_after_backslash}
 use Rattle.sudoers_text.specs.internal.Left.{LeftDescribesUnits, ends_without_backslash_or_cr, has_leading_hash_or_percent}
 use Rattle.sudoers_text.specs.Piece.{TokenForm, Mark, Operator, Number, NonUnixGroup, Run, CommandPath, QuotedPart, CommentPart, IncludeWord, FirstWord, Argument, QuotedRest, kind_of_form}
-use Rattle.sudoers_text.specs.Token.{byte_or_escape_unit, units_with_those_of_bytes, units_with_rest_of_bytes, units_left_of_place}
+use Rattle.sudoers_text.specs.Token.{byte_or_escape_unit, units_with_those_of_bytes, units_with_those_after_skipped_bytes, units_left_of_place}
 use Rattle.sudoers_text.specs.Found.{hash_id_size, numeric_id_size, comment_size_at, hash_include_size_at, longest_piece_size, kind_and_size_of_token, kind_and_size_after_units}
 use Rattle.sudoers_text.proofs.Units.{emptiness_test_is_zero_length_test}
 use Rattle.sudoers_text.proofs.Passed.{bytes_begin_with_byte_or_escape_unit}
@@ -48,14 +48,14 @@ byte_or_escape_unit_is_within_bytes b rest =
     omega (arith, ap length front.1, length-append (bytes_of_unit (byte_or_escape_unit b rest)) front.0)
 
 -- What a text is read as stands before more, where its last byte is part of no longer unit.
-units_of_longer_text_continue_its_front : (k : ℕ) (before : List LineUnit) (text more : List ℕ) → k ≤ length text → ends_without_backslash_or_cr text ≡ true → units_with_rest_of_bytes k before (text ++ more) ≡ units_with_those_of_bytes (units_with_rest_of_bytes k before text) more
+units_of_longer_text_continue_its_front : (k : ℕ) (before : List LineUnit) (text more : List ℕ) → k ≤ length text → ends_without_backslash_or_cr text ≡ true → units_with_those_after_skipped_bytes k before (text ++ more) ≡ units_with_those_of_bytes (units_with_those_after_skipped_bytes k before text) more
 units_of_longer_text_continue_its_front zero before [] more h e = refl
 units_of_longer_text_continue_its_front (suc k) before [] more h e = absurd (omega arith)
 units_of_longer_text_continue_its_front (suc k) before (b ∷ text) more h e = units_of_longer_text_continue_its_front k before text more (omega arith) (tail_ends_without_backslash_or_cr b text e)
 units_of_longer_text_continue_its_front zero before (b ∷ text) more h e =
     let u = byte_or_escape_unit b text in
     let same : byte_or_escape_unit b (text ++ more) ≡ u = plain_unit_is_same_in_longer_text b text more e in
-    ap (λ (v : LineUnit). units_with_rest_of_bytes (length (bytes_of_unit v) - 1) (v ∷ before) (text ++ more)) same
+    ap (λ (v : LineUnit). units_with_those_after_skipped_bytes (length (bytes_of_unit v) - 1) (v ∷ before) (text ++ more)) same
     ∙ units_of_longer_text_continue_its_front (length (bytes_of_unit u) - 1) (u ∷ before) text more (omega (arith, byte_or_escape_unit_is_within_bytes b text)) (tail_ends_without_backslash_or_cr b text e)
 
 -- the last byte tells
@@ -112,10 +112,10 @@ found_token_is_same_without_sign (form ∷ fs) i j f g bytes h =
 
 -- What is found does not ask for what stands left, unless `#` or `%` begins the bytes.
 pub any_units_find_token_without_sign : (fs : List TokenForm) (known : LeftContext) (before : List LineUnit) (bytes : List ℕ) → has_leading_hash_or_percent bytes ≡ false → kind_and_size_of_token fs known.item (known.begun == 0) bytes ≡ kind_and_size_after_units fs before bytes
-any_units_find_token_without_sign fs known before bytes h = found_token_is_same_without_sign fs known.item (is_id_position_after_units before) (known.begun == 0) (is_empty (bytes_after_leading_gap before)) bytes h
+any_units_find_token_without_sign fs known before bytes h = found_token_is_same_without_sign fs known.item (is_id_position_after_units before) (known.begun == 0) (is_empty (bytes_of_units_after_leading_gap before)) bytes h
 
 -- what is found by what is known is found by the units
 pub context_finds_token_found_by_units : (fs : List TokenForm) (line bytes : List ℕ) (at : ℕ) (known : LeftContext) (before : List LineUnit) → LeftDescribesUnits line at known before → kind_and_size_of_token fs known.item (known.begun == 0) bytes ≡ kind_and_size_after_units fs before bytes
 context_finds_token_found_by_units fs line bytes at known before knows =
-    let first : (known.begun == 0) ≡ is_empty (bytes_after_leading_gap before) = ap (λ (n : ℕ). n == 0) (sym knows.size) ∙ sym (emptiness_test_is_zero_length_test (bytes_after_leading_gap before)) in
+    let first : (known.begun == 0) ≡ is_empty (bytes_of_units_after_leading_gap before) = ap (λ (n : ℕ). n == 0) (sym knows.size) ∙ sym (emptiness_test_is_zero_length_test (bytes_of_units_after_leading_gap before)) in
     ap (λ (t : Bool). kind_and_size_of_token fs t (known.begun == 0) bytes) knows.item ∙ ap (λ (t : Bool). kind_and_size_of_token fs (is_id_position_after_units before) t bytes) first

@@ -5,9 +5,9 @@ use Rattle.std.proofs.lemmas.Bool.{eqb-true}
 use Rattle.std.proofs.lemmas.Bool.Decides.{eqb_tells}
 use Rattle.std.specs.Prelude.{slice_range, ◌==◌, if◌then◌else◌}
 use Rattle.sudoers_text.specs.declared.text_units.LeftContext.{LeftContext}
-use Rattle.sudoers_text.specs.Unit.{LineUnit, bytes_of_unit, Continuation, Pair, Quoted, Comment, Byte, bytes_of_reversed_units, AreUnitsBefore, unit_at, begins_line_end, line_end_size, bytes_up_to_line_end, rest_of_quoted_part, begins_lf, unit_after_backslash, is_hash_of_comment, bytes_after_leading_gap}
+use Rattle.sudoers_text.specs.Unit.{LineUnit, bytes_of_unit, Continuation, Pair, Quoted, Comment, Byte, bytes_of_reversed_units, AreUnitsBefore, unit_at, begins_line_end, line_end_size, bytes_up_to_line_end, rest_of_quoted_part, begins_lf, unit_after_backslash, is_hash_of_comment, bytes_of_units_after_leading_gap}
 use Rattle.sudoers_text.specs.internal.Left.{LeftDescribesUnits, UnitStandsAt, LeftAgreesWithUnits}
-use Rattle.sudoers_text.specs.Line.{IsLogicalLineBefore, IsUnfinishedLine, HasLineEnding, at_end}
+use Rattle.sudoers_text.specs.Line.{IsLogicalLineBefore, IsUnfinishedLine, IsLineEndingOrTextEnd, at_end}
 use Rattle.sudoers_text.proofs.Units.{emptiness_test_is_zero_length_test, BeginsWithLineEnd, line_end_test_implies_line_end}
 
 -- from start up to at these units have been read
@@ -101,7 +101,7 @@ unit_at_text_is_prefix_of_it before (b ∷ xs) u h =
 pub context_describing_units_agrees_with_them : (text : List ℕ) (at : ℕ) (left : LeftContext) (before : List LineUnit) → LeftDescribesUnits text at left before → LeftAgreesWithUnits left before
 context_describing_units_agrees_with_them text at left before knows = record {
   item = knows.item;
-  first = ap (λ (n : ℕ). n == 0) (sym knows.size) ∙ sym (emptiness_test_is_zero_length_test (bytes_after_leading_gap before));
+  first = ap (λ (n : ℕ). n == 0) (sym knows.size) ∙ sym (emptiness_test_is_zero_length_test (bytes_of_units_after_leading_gap before));
 }
 
 pub unit_at_place_has_its_bytes : (text : List ℕ) (at : ℕ) (before : List LineUnit) (u : LineUnit) → at ≤ length text → unit_at before (drop at text) ≡ Some u → UnitStandsAt text at u
@@ -189,7 +189,7 @@ slice_to_line_end_is_logical_line text start at left reading inside none =
       ending = here.ending;
       text = slice_to_ending_is_units_and_ending text start at left reading here;
       each = subst (λ (xs : List ℕ). AreUnitsBefore reading.before xs) (here.whole ∙ ap (λ (xs : List ℕ). here.ending ++ xs) (sym behind)) reading.each;
-      ends = subst (λ (xs : List ℕ). HasLineEnding reading.before here.ending xs) (sym behind) (here.ends reading.before);
+      ends = subst (λ (xs : List ℕ). IsLineEndingOrTextEnd reading.before here.ending xs) (sym behind) (here.ends reading.before);
     }
 
 -- the whole rest of the text has been read
@@ -199,7 +199,7 @@ slice_read_to_text_end_is_units text start at left reading past =
     let whole : drop start text ≡ bytes_of_reversed_units reading.before = sym reading.whole ∙ ap (λ (xs : List ℕ). bytes_of_reversed_units reading.before ++ xs) done ∙ append-nil (bytes_of_reversed_units reading.before) in
     take_all (at - start) (drop start text) (omega (arith, reading.from, length-drop start text)) ∙ whole
 
-pub nonempty_units_have_empty_ending_at_end : (units : List LineUnit) → 0 < length (bytes_of_reversed_units units) → HasLineEnding units [] []
+pub nonempty_units_have_empty_ending_at_end : (units : List LineUnit) → 0 < length (bytes_of_reversed_units units) → IsLineEndingOrTextEnd units [] []
 nonempty_units_have_empty_ending_at_end [] h = absurd (omega arith)
 nonempty_units_have_empty_ending_at_end (u ∷ units) h = at_end
 
@@ -212,7 +212,7 @@ line_read_to_end_is_logical_line text start at left reading inside past =
       ending = [];
       text = slice_read_to_text_end_is_units text start at left reading past ∙ sym (append-nil (bytes_of_reversed_units reading.before));
       each = reading.each;
-      ends = subst (λ (xs : List ℕ). HasLineEnding reading.before [] xs) (sym done) (nonempty_units_have_empty_ending_at_end reading.before (omega (arith, size)));
+      ends = subst (λ (xs : List ℕ). IsLineEndingOrTextEnd reading.before [] xs) (sym done) (nonempty_units_have_empty_ending_at_end reading.before (omega (arith, size)));
     }
 
 pub continuing_text_at_end_is_unfinished : (text : List ℕ) (start at : ℕ) (left : LeftContext) (reading : HasReadUnitsFromStart text start at left) → length text ≤ at → left.continues ≡ true → IsUnfinishedLine (slice_range text start at)

@@ -6,23 +6,23 @@ use Rattle.std.proofs.lemmas.Bool.{not-true, or_parts, and_right, ne_eqb, cases_
 use Rattle.std.proofs.lemmas.Bool.Decides.{eqb_tells}
 use Rattle.sudoers_text.specs.declared.text_units.LeftContext.{LeftContext}
 use Rattle.std.specs.Str.{bytes_eq}
-use Rattle.sudoers_text.specs.Unit.{LineUnit, Byte, unit_at, is_id_position_after_units, bytes_after_leading_gap, defaults_word, is_separator, is_empty, is_gap_unit}
+use Rattle.sudoers_text.specs.Unit.{LineUnit, Byte, unit_at, is_id_position_after_units, bytes_of_units_after_leading_gap, defaults_word, is_comma_colon_or_equals, is_empty, is_gap_unit}
 use Rattle.sudoers_text.specs.internal.Left.{LeftDescribesUnits, UnitStandsAt}
 use Rattle.sudoers_text.specs.internal.Run.{is_plain_unit_byte, plain_prefix_of_bytes, is_blank_or_sign_byte, is_id_position_after_run}
 use Rattle.sudoers_text.proofs.Units.{AreLastBytesBeforePlace, begun_line_extends_or_stays_empty}
 use Rattle.sudoers_text.proofs.Reading.{HasReadUnitsFromStart, unit_at_place_has_its_bytes, reading_extends_by_unit_at_place}
 
-last_byte_tells_id_position_after_run : (item : Bool) (xs : List ℕ) (n : ℕ) → n < length xs → is_id_position_after_run item (take (suc n) xs) ≡ (if is_blank_or_sign_byte (get_or xs n 0) then is_id_position_after_run item (take n xs) else is_separator (get_or xs n 0))
+last_byte_tells_id_position_after_run : (item : Bool) (xs : List ℕ) (n : ℕ) → n < length xs → is_id_position_after_run item (take (suc n) xs) ≡ (if is_blank_or_sign_byte (get_or xs n 0) then is_id_position_after_run item (take n xs) else is_comma_colon_or_equals (get_or xs n 0))
 last_byte_tells_id_position_after_run item [] n l = absurd (omega arith)
 last_byte_tells_id_position_after_run item (b ∷ xs) zero l = refl
-last_byte_tells_id_position_after_run item (b ∷ xs) (suc n) l = last_byte_tells_id_position_after_run (if is_blank_or_sign_byte b then item else is_separator b) xs n (omega arith)
+last_byte_tells_id_position_after_run item (b ∷ xs) (suc n) l = last_byte_tells_id_position_after_run (if is_blank_or_sign_byte b then item else is_comma_colon_or_equals b) xs n (omega arith)
 
 -- One byte more: it keeps what the others tell, or it alone tells whether an ID may begin behind it.
-pub last_byte_tells_id_position_after_prefix : (item : Bool) (xs : List ℕ) (n : ℕ) → 0 < n → n ≤ length xs → is_id_position_after_run item (take n xs) ≡ (if is_blank_or_sign_byte (get_or xs (n - 1) 0) then is_id_position_after_run item (take (n - 1) xs) else is_separator (get_or xs (n - 1) 0))
+pub last_byte_tells_id_position_after_prefix : (item : Bool) (xs : List ℕ) (n : ℕ) → 0 < n → n ≤ length xs → is_id_position_after_run item (take n xs) ≡ (if is_blank_or_sign_byte (get_or xs (n - 1) 0) then is_id_position_after_run item (take (n - 1) xs) else is_comma_colon_or_equals (get_or xs (n - 1) 0))
 last_byte_tells_id_position_after_prefix item xs zero some l = absurd (omega arith)
 last_byte_tells_id_position_after_prefix item xs (suc n) some l =
     let same : n ≡ suc n - 1 = omega arith in
-    subst (λ (k : ℕ). is_id_position_after_run item (take (suc n) xs) ≡ (if is_blank_or_sign_byte (get_or xs k 0) then is_id_position_after_run item (take k xs) else is_separator (get_or xs k 0))) same
+    subst (λ (k : ℕ). is_id_position_after_run item (take (suc n) xs) ≡ (if is_blank_or_sign_byte (get_or xs k 0) then is_id_position_after_run item (take k xs) else is_comma_colon_or_equals (get_or xs k 0))) same
     (last_byte_tells_id_position_after_run item xs n (omega arith))
 
 -- a plain byte passes none of the tests
@@ -74,12 +74,12 @@ pub context_after_ordinary_byte_describes_units : (text : List ℕ) (at b : ℕ)
 context_after_ordinary_byte_describes_units text at b before left next is some stands knows passes =
     let same : (if left.begun == 0 && is_gap_unit (Byte b) then 0 else left.begun + 1) ≡ next.begun =
     ap (λ (t : Bool). if t && is_gap_unit (Byte b) then 0 else left.begun + 1) (ne_eqb left.begun 0 (λ none. omega arith)) ∙ sym passes.begun in
-    let family : ℕ → Type 0 = λ m. AreLastBytesBeforePlace text (at + 1) m (bytes_after_leading_gap (Byte b ∷ before)) in
+    let family : ℕ → Type 0 = λ m. AreLastBytesBeforePlace text (at + 1) m (bytes_of_units_after_leading_gap (Byte b ∷ before)) in
     let begins = subst family same (begun_line_extends_or_stays_empty text at left.begun (Byte b) before (knows.within, knows.size, knows.begins) stands) in
     record {
       item = passes.item
-          ∙ ap (λ (t : Bool). if is_blank_or_sign_byte b then t else is_separator b) knows.item
-          ∙ ap (λ (t : Bool). if is_blank_or_sign_byte b then is_id_position_after_units before else t) (disjunction_with_false_conjunct_is_same (is_separator b) (b == 62) (bytes_eq (bytes_after_leading_gap before) defaults_word) is.greater);
+          ∙ ap (λ (t : Bool). if is_blank_or_sign_byte b then t else is_comma_colon_or_equals b) knows.item
+          ∙ ap (λ (t : Bool). if is_blank_or_sign_byte b then is_id_position_after_units before else t) (disjunction_with_false_conjunct_is_same (is_comma_colon_or_equals b) (b == 62) (bytes_eq (bytes_of_units_after_leading_gap before) defaults_word) is.greater);
       continues = λ _. passes.continues ∙ sym is.backslash;
       within = begins.0;
       size = begins.1;
@@ -90,7 +90,7 @@ context_after_ordinary_byte_describes_units text at b before left next is some s
 pub context_after_empty_run_describes_units : (text : List ℕ) (at : ℕ) (before : List LineUnit) (left next : LeftContext) → LeftDescribesUnits text at left before → IsLeftContextAfterRun left [] next → LeftDescribesUnits text at next before
 context_after_empty_run_describes_units text at before left next knows passes =
     let same : left.begun ≡ next.begun = omega (arith, passes.begun) in
-    let begins = subst (λ (m : ℕ). AreLastBytesBeforePlace text at m (bytes_after_leading_gap before)) same (knows.within, knows.size, knows.begins) in
+    let begins = subst (λ (m : ℕ). AreLastBytesBeforePlace text at m (bytes_of_units_after_leading_gap before)) same (knows.within, knows.size, knows.begins) in
     record {
       item = passes.item ∙ knows.item;
       continues = λ all. passes.continues ∙ knows.continues all;
@@ -114,7 +114,7 @@ carried_fact_keeps_after_empty_run P bytes carried at left next holds passes =
 -- one plain byte, and then those behind it
 carried_fact_goes_on_through_run : (P : ℕ → LeftContext → Type 0) (at : ℕ) (left next : LeftContext) (b : ℕ) (run : List ℕ) → IsLeftContextAfterRun left (b ∷ run) next → ((middle : LeftContext) → IsLeftContextAfterRun left (b ∷ []) middle → 0 < middle.begun → IsLeftContextAfterRun middle run next → P (at + 1 + length run) next) → P (at + length (b ∷ run)) next
 carried_fact_goes_on_through_run P at left next b run passes read =
-    let middle : LeftContext = record { item = if is_blank_or_sign_byte b then left.item else is_separator b; continues = false; begun = left.begun + 1 } in
+    let middle : LeftContext = record { item = if is_blank_or_sign_byte b then left.item else is_comma_colon_or_equals b; continues = false; begun = left.begun + 1 } in
     let place : at + 1 + length run ≡ at + length (b ∷ run) = omega arith in
     let here : IsLeftContextAfterRun left (b ∷ []) middle = record { item = refl; continues = refl; begun = refl } in
     let later : IsLeftContextAfterRun middle run next = record {

@@ -6,7 +6,7 @@ use Rattle.std.proofs.lemmas.Bool.{eqb-true}
 use Rattle.std.proofs.lemmas.Bool.Decides.{eqb_tells, nat_tests}
 use Rattle.sudoers_text.specs.declared.part.ByteRunKind.{ByteRunKind}
 use Rattle.sudoers_text.specs.declared.part.ByteRunKind.TheVariants as rule
-use Rattle.sudoers_text.specs.Part.{run_unit_size, reach_past_first_byte, reach_of_units, leading_run_size, is_entire_run, is_nonempty_run, has_given_first_byte, quoted_run_size, argument_unit_size}
+use Rattle.sudoers_text.specs.Part.{run_unit_size, reach_past_first_byte, reach_of_units, leading_run_size, is_entire_run, is_nonempty_run, has_given_first_byte, quotes_and_run_between_size, argument_unit_size}
 use Rattle.sudoers_text.proofs.Units.{true_conjunction_has_two_true_parts}
 use Rattle.sudoers_text.proofs.Reach.{leading_run_size_is_within_bytes, quoted_run_size_is_within_bytes}
 use Rattle.sudoers_text.proofs.Steady.{IsSteadyUnitSize, AreExclusiveUnitSizes, run_unit_size_is_steady, first_nonzero_of_steady_sizes_is_steady, reach_through_run_adds_rest_reach, entire_run_is_within_longer_reach, reach_of_own_prefix_is_same}
@@ -74,13 +74,13 @@ pub record BeginsWithQuotedRun (r : ByteRunKind) (bytes : List ℕ) : Type 0 whe
   pub more : List ℕ
   pub parts : bytes ≡ 34 ∷ (inner ++ 34 ∷ more)
   pub run : reach_of_units (run_unit_size r) 0 inner ≡ length inner
-  pub size : quoted_run_size r bytes ≡ length inner + 2
+  pub size : quotes_and_run_between_size r bytes ≡ length inner + 2
 
 -- no unit of the rule begins with `"`
 abbrev pub BeginsNoUnitWithQuoteSign : ByteRunKind → Type 0
 BeginsNoUnitWithQuoteSign r = (bytes : List ℕ) → run_unit_size r (34 ∷ bytes) ≡ 0
 
-quote_after_leading_run_is_quoted_run : (r : ByteRunKind) (rest : List ℕ) (n : ℕ) → n ≡ leading_run_size r rest → (after : List ℕ) → drop n rest ≡ after → has_given_first_byte 34 after ≡ true → quoted_run_size r (34 ∷ rest) ≡ n + 2 → BeginsWithQuotedRun r (34 ∷ rest)
+quote_after_leading_run_is_quoted_run : (r : ByteRunKind) (rest : List ℕ) (n : ℕ) → n ≡ leading_run_size r rest → (after : List ℕ) → drop n rest ≡ after → has_given_first_byte 34 after ≡ true → quotes_and_run_between_size r (34 ∷ rest) ≡ n + 2 → BeginsWithQuotedRun r (34 ∷ rest)
 unfolding leading_run_size
 quote_after_leading_run_is_quoted_run r rest n is [] e h size = absurd (cc)
 quote_after_leading_run_is_quoted_run r rest n is (c ∷ more) e h size =
@@ -98,22 +98,22 @@ quote_after_leading_run_is_quoted_run r rest n is (c ∷ more) e h size =
     }
 
 -- The bytes begin with quotes and a run between them, or with none.
-pub bytes_begin_with_quoted_run_or_none : (r : ByteRunKind) (bytes : List ℕ) → (quoted_run_size r bytes ≡ 0) ⊎ BeginsWithQuotedRun r bytes
-unfolding quoted_run_size
+pub bytes_begin_with_quoted_run_or_none : (r : ByteRunKind) (bytes : List ℕ) → (quotes_and_run_between_size r bytes ≡ 0) ⊎ BeginsWithQuotedRun r bytes
+unfolding quotes_and_run_between_size
 bytes_begin_with_quoted_run_or_none r [] = inl refl
 bytes_begin_with_quoted_run_or_none r (b ∷ rest) =
     elim (eqb_tells b 34) [
-      | inl w ↦ subst (λ (c : ℕ). (quoted_run_size r (c ∷ rest) ≡ 0) ⊎ BeginsWithQuotedRun r (c ∷ rest)) (sym w.1) (by_end (has_given_first_byte 34 (drop (leading_run_size r rest) rest)) refl)
+      | inl w ↦ subst (λ (c : ℕ). (quotes_and_run_between_size r (c ∷ rest) ≡ 0) ⊎ BeginsWithQuotedRun r (c ∷ rest)) (sym w.1) (by_end (has_given_first_byte 34 (drop (leading_run_size r rest) rest)) refl)
       | inr w ↦ let other : (b == 34) ≡ false = w.0 in inl (rw other refl)
     ]
   where
-    by_end : (t : Bool) → has_given_first_byte 34 (drop (leading_run_size r rest) rest) ≡ t → (quoted_run_size r (34 ∷ rest) ≡ 0) ⊎ BeginsWithQuotedRun r (34 ∷ rest)
+    by_end : (t : Bool) → has_given_first_byte 34 (drop (leading_run_size r rest) rest) ≡ t → (quotes_and_run_between_size r (34 ∷ rest) ≡ 0) ⊎ BeginsWithQuotedRun r (34 ∷ rest)
     by_end true e = inr (quote_after_leading_run_is_quoted_run r rest (leading_run_size r rest) refl (drop (leading_run_size r rest) rest) refl e (rw e refl))
     by_end false e = inl (rw e refl)
 
 -- Quotes with a run between them are told as such.
-pub quoted_run_is_two_longer_than_inner : (r : ByteRunKind) → BeginsNoUnitWithQuoteSign r → (inner more : List ℕ) → reach_of_units (run_unit_size r) 0 inner ≡ length inner → quoted_run_size r (34 ∷ (inner ++ 34 ∷ more)) ≡ length inner + 2
-unfolding quoted_run_size leading_run_size
+pub quoted_run_is_two_longer_than_inner : (r : ByteRunKind) → BeginsNoUnitWithQuoteSign r → (inner more : List ℕ) → reach_of_units (run_unit_size r) 0 inner ≡ length inner → quotes_and_run_between_size r (34 ∷ (inner ++ 34 ∷ more)) ≡ length inner + 2
+unfolding quotes_and_run_between_size leading_run_size
 quoted_run_is_two_longer_than_inner r outside inner more run =
     let size : reach_of_units (run_unit_size r) 0 (inner ++ 34 ∷ more) ≡ length inner =
     reach_through_run_adds_rest_reach (run_unit_size r) (run_unit_size_is_steady r) inner (34 ∷ more) 0 (omega arith) run ∙ none (run_unit_size r (34 ∷ more)) (outside more) in
@@ -123,18 +123,18 @@ quoted_run_is_two_longer_than_inner r outside inner more run =
     none zero e = omega arith
     none (suc n) e = absurd (omega arith)
 
-quoted_run_size_keeps_with_more_bytes : (r : ByteRunKind) → BeginsNoUnitWithQuoteSign r → (p q : List ℕ) → 0 < quoted_run_size r p → quoted_run_size r (p ++ q) ≡ quoted_run_size r p
+quoted_run_size_keeps_with_more_bytes : (r : ByteRunKind) → BeginsNoUnitWithQuoteSign r → (p q : List ℕ) → 0 < quotes_and_run_between_size r p → quotes_and_run_between_size r (p ++ q) ≡ quotes_and_run_between_size r p
 quoted_run_size_keeps_with_more_bytes r outside p q some =
     elim (bytes_begin_with_quoted_run_or_none r p) [
       | inl none ↦ absurd (omega arith)
       | inr x ↦
-          ap (λ (t : List ℕ). quoted_run_size r (t ++ q)) x.parts
-          ∙ ap (λ (t : List ℕ). quoted_run_size r (34 ∷ t)) (append_assoc x.inner (34 ∷ x.more) q)
+          ap (λ (t : List ℕ). quotes_and_run_between_size r (t ++ q)) x.parts
+          ∙ ap (λ (t : List ℕ). quotes_and_run_between_size r (34 ∷ t)) (append_assoc x.inner (34 ∷ x.more) q)
           ∙ quoted_run_is_two_longer_than_inner r outside x.inner (x.more ++ q) x.run ∙ sym x.size
     ]
 
-empty_bytes_have_no_quoted_run : (r : ByteRunKind) → quoted_run_size r [] ≡ 0
-unfolding quoted_run_size
+empty_bytes_have_no_quoted_run : (r : ByteRunKind) → quotes_and_run_between_size r [] ≡ 0
+unfolding quotes_and_run_between_size
 empty_bytes_have_no_quoted_run r = refl
 
 quoted_run_prefix_is_its_bytes : (inner more : List ℕ) → take (length inner + 2) (34 ∷ (inner ++ 34 ∷ more)) ≡ 34 ∷ (inner ++ 34 ∷ [])
@@ -143,23 +143,23 @@ quoted_run_prefix_is_its_bytes inner more =
     ap (take (length inner + 2)) whole
     ∙ take_at (34 ∷ (inner ++ 34 ∷ [])) more (length inner + 2) (omega (arith, length-append inner (34 ∷ [])))
 
-quoted_run_size_keeps_in_own_prefix : (r : ByteRunKind) → BeginsNoUnitWithQuoteSign r → (bytes : List ℕ) → quoted_run_size r (take (quoted_run_size r bytes) bytes) ≡ quoted_run_size r bytes
+quoted_run_size_keeps_in_own_prefix : (r : ByteRunKind) → BeginsNoUnitWithQuoteSign r → (bytes : List ℕ) → quotes_and_run_between_size r (take (quotes_and_run_between_size r bytes) bytes) ≡ quotes_and_run_between_size r bytes
 quoted_run_size_keeps_in_own_prefix r outside bytes =
     elim (bytes_begin_with_quoted_run_or_none r bytes) [
-      | inl none ↦ ap (λ (n : ℕ). quoted_run_size r (take n bytes)) none ∙ empty_bytes_have_no_quoted_run r ∙ sym none
+      | inl none ↦ ap (λ (n : ℕ). quotes_and_run_between_size r (take n bytes)) none ∙ empty_bytes_have_no_quoted_run r ∙ sym none
       | inr x ↦
-          ap (λ (n : ℕ). quoted_run_size r (take n bytes)) x.size
-          ∙ ap (λ (t : List ℕ). quoted_run_size r (take (length x.inner + 2) t)) x.parts
-          ∙ ap (λ (t : List ℕ). quoted_run_size r t) (quoted_run_prefix_is_its_bytes x.inner x.more)
+          ap (λ (n : ℕ). quotes_and_run_between_size r (take n bytes)) x.size
+          ∙ ap (λ (t : List ℕ). quotes_and_run_between_size r (take (length x.inner + 2) t)) x.parts
+          ∙ ap (λ (t : List ℕ). quotes_and_run_between_size r t) (quoted_run_prefix_is_its_bytes x.inner x.more)
           ∙ quoted_run_is_two_longer_than_inner r outside x.inner [] x.run ∙ sym x.size
     ]
 
-quoted_run_size_is_steady : (r : ByteRunKind) → BeginsNoUnitWithQuoteSign r → IsSteadyUnitSize (quoted_run_size r)
+quoted_run_size_is_steady : (r : ByteRunKind) → BeginsNoUnitWithQuoteSign r → IsSteadyUnitSize (quotes_and_run_between_size r)
 quoted_run_size_is_steady r outside = record { within = quoted_run_size_is_within_bytes r; stable = quoted_run_size_keeps_with_more_bytes r outside; own = quoted_run_size_keeps_in_own_prefix r outside }
 
 -- ---- arguments
 
-path_unit_and_quoted_run_are_exclusive : AreExclusiveUnitSizes (run_unit_size rule.Path) (quoted_run_size rule.Clean)
+path_unit_and_quoted_run_are_exclusive : AreExclusiveUnitSizes (run_unit_size rule.Path) (quotes_and_run_between_size rule.Clean)
 path_unit_and_quoted_run_are_exclusive p q some =
     elim (bytes_begin_with_quoted_run_or_none rule.Clean p) [
       | inl none ↦ absurd (omega arith)
@@ -167,4 +167,4 @@ path_unit_and_quoted_run_are_exclusive p q some =
     ]
 
 pub argument_unit_size_is_steady : IsSteadyUnitSize argument_unit_size
-argument_unit_size_is_steady = first_nonzero_of_steady_sizes_is_steady (run_unit_size rule.Path) (quoted_run_size rule.Clean) (run_unit_size_is_steady rule.Path) (quoted_run_size_is_steady rule.Clean (λ bytes. refl)) path_unit_and_quoted_run_are_exclusive
+argument_unit_size_is_steady = first_nonzero_of_steady_sizes_is_steady (run_unit_size rule.Path) (quotes_and_run_between_size rule.Clean) (run_unit_size_is_steady rule.Path) (quoted_run_size_is_steady rule.Clean (λ bytes. refl)) path_unit_and_quoted_run_are_exclusive

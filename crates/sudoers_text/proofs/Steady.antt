@@ -5,7 +5,7 @@ use Rattle.std.proofs.lemmas.Bool.Decides.{eqb_tells}
 use Rattle.sudoers_text.specs.declared.part.ByteRunKind.{ByteRunKind}
 use Rattle.sudoers_text.specs.declared.part.ByteRunKind.TheVariants as rule
 use Rattle.sudoers_text.specs.Unit.{LineUnit, Continuation, Pair, Byte, begins_lf, begins_line_end, unit_after_backslash, is_blank, is_digit}
-use Rattle.sudoers_text.specs.Part.{size_of_one_matching_byte, first_nonzero_number, pair_size_of_unit, continuation_size_of_unit, escape_size_of_unit, backslash_unit_size_by, run_unit_size, reach_past_first_byte, reach_of_units, is_word_byte, is_byte_of_include_path, is_path_byte, is_value_byte, is_quoted_byte, is_quoted_byte_but_separator, is_byte_of_parameter_name, is_digest_byte}
+use Rattle.sudoers_text.specs.Part.{size_of_one_matching_byte, first_nonzero_number, pair_size_of_unit, continuation_size_of_unit, pair_or_continuation_size_of_unit, backslash_unit_size_by, run_unit_size, reach_past_first_byte, reach_of_units, is_word_byte, is_byte_of_include_path, is_path_byte, is_value_byte, is_quoted_byte, is_quoted_byte_but_separator, is_byte_of_parameter_name, is_digest_byte}
 use Rattle.sudoers_text.proofs.Reach.{IsSizeWithinBytes, one_byte_size_is_within_bytes, backslash_unit_size_is_within_bytes, pair_size_is_within_unit_bytes, continuation_size_is_within_unit_bytes, escape_size_is_within_unit_bytes, reach_of_units_includes_passed_bytes}
 
 -- A unit stays one before any bytes, and is one by itself.
@@ -123,8 +123,8 @@ pair_size_is_backslash_unit_measure = record { alone = refl; cr = refl; lf = inl
 continuation_size_is_backslash_measure : IsBackslashUnitMeasure continuation_size_of_unit
 continuation_size_is_backslash_measure = record { alone = refl; cr = refl; lf = inr refl; crlf = inr refl; pair = λ c f. inl refl; within = backslash_unit_size_is_within_bytes continuation_size_of_unit continuation_size_is_within_unit_bytes }
 
-escape_size_is_backslash_unit_measure : IsBackslashUnitMeasure escape_size_of_unit
-escape_size_is_backslash_unit_measure = record { alone = refl; cr = refl; lf = inr refl; crlf = inr refl; pair = λ c f. tested_size_is_zero_or_two (escape_size_of_unit (Pair c)) (c == 13) refl; within = backslash_unit_size_is_within_bytes escape_size_of_unit escape_size_is_within_unit_bytes }
+escape_size_is_backslash_unit_measure : IsBackslashUnitMeasure pair_or_continuation_size_of_unit
+escape_size_is_backslash_unit_measure = record { alone = refl; cr = refl; lf = inr refl; crlf = inr refl; pair = λ c f. tested_size_is_zero_or_two (pair_or_continuation_size_of_unit (Pair c)) (c == 13) refl; within = backslash_unit_size_is_within_bytes pair_or_continuation_size_of_unit escape_size_is_within_unit_bytes }
 
 -- ---- one unit or the other
 
@@ -187,8 +187,8 @@ run_unit_size_is_steady rule.Word = byte_or_backslash_unit_size_is_steady is_wor
 run_unit_size_is_steady rule.IncludePath = byte_or_backslash_unit_size_is_steady is_byte_of_include_path pair_size_of_unit pair_size_is_backslash_unit_measure refl
 run_unit_size_is_steady rule.Path = byte_or_backslash_unit_size_is_steady is_path_byte pair_size_of_unit pair_size_is_backslash_unit_measure refl
 run_unit_size_is_steady rule.Value = byte_or_backslash_unit_size_is_steady is_value_byte pair_size_of_unit pair_size_is_backslash_unit_measure refl
-run_unit_size_is_steady rule.Quote = byte_or_backslash_unit_size_is_steady is_quoted_byte escape_size_of_unit escape_size_is_backslash_unit_measure refl
-run_unit_size_is_steady rule.Clean = byte_or_backslash_unit_size_is_steady is_quoted_byte_but_separator escape_size_of_unit escape_size_is_backslash_unit_measure refl
+run_unit_size_is_steady rule.Quote = byte_or_backslash_unit_size_is_steady is_quoted_byte pair_or_continuation_size_of_unit escape_size_is_backslash_unit_measure refl
+run_unit_size_is_steady rule.Clean = byte_or_backslash_unit_size_is_steady is_quoted_byte_but_separator pair_or_continuation_size_of_unit escape_size_is_backslash_unit_measure refl
 
 -- ---- runs
 

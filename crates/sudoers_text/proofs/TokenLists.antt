@@ -7,7 +7,7 @@ use Rattle.sudoers_text.specs.declared.token.Token.{Token}
 use Rattle.sudoers_text.specs.declared.token.Mode.{Mode}
 use Rattle.sudoers_text.specs.declared.context.TokenContext.{TokenContext}
 use Rattle.sudoers_text.specs.declared.context.TokenContext.TheVariants as context
-use Rattle.sudoers_text.specs.Unit.{LineUnit, is_id_position_after_units, bytes_after_leading_gap, is_empty}
+use Rattle.sudoers_text.specs.Unit.{LineUnit, is_id_position_after_units, bytes_of_units_after_leading_gap, is_empty}
 use Rattle.sudoers_text.specs.Part.{reach_of_units, unclosed_quote_unit_size, closed_quote_size}
 use Rattle.sudoers_text.specs.Piece.{TokenForm, kind_of_form}
 use Rattle.sudoers_text.specs.Context.{token_forms_in_context, context_after_token}
@@ -28,7 +28,7 @@ token_found_by_next_form_is_token form others before bytes (suc n) size later =
 pub found_kind_and_size_are_token : (fs : List TokenForm) (before : List LineUnit) (bytes : List ℕ) → IsTokenOfKindAndSize fs before bytes (kind_and_size_after_units fs before bytes).0 (kind_and_size_after_units fs before bytes).1
 found_kind_and_size_are_token [] before bytes = (refl, refl)
 found_kind_and_size_are_token (form ∷ others) before bytes =
-    token_found_by_next_form_is_token form others before bytes (longest_piece_size form (is_id_position_after_units before) (is_empty (bytes_after_leading_gap before)) bytes) (computed_form_size_is_longest form before bytes) (found_kind_and_size_are_token others before bytes)
+    token_found_by_next_form_is_token form others before bytes (longest_piece_size form (is_id_position_after_units before) (is_empty (bytes_of_units_after_leading_gap before)) bytes) (computed_form_size_is_longest form before bytes) (found_kind_and_size_are_token others before bytes)
 
 -- Bytes begin with one token only.
 pub token_at_bytes_is_unique : (fs : List TokenForm) (before : List LineUnit) (bytes : List ℕ) (k l : TokenKind) (n m : ℕ) → IsTokenOfKindAndSize fs before bytes k n → IsTokenOfKindAndSize fs before bytes l m → (k ≡ l) × (n ≡ m)
@@ -66,7 +66,7 @@ pub found_token_has_positive_size : (fs : List TokenForm) (before : List LineUni
 found_token_has_positive_size fs before [] h = absurd (cc)
 found_token_has_positive_size [] before (b ∷ rest) h = bad_token_has_positive_size b rest
 found_token_has_positive_size (form ∷ others) before (b ∷ rest) h =
-    chosen_token_has_positive_size (kind_of_form form) (longest_piece_size form (is_id_position_after_units before) (is_empty (bytes_after_leading_gap before)) (b ∷ rest)) (kind_and_size_after_units others before (b ∷ rest)) (found_token_has_positive_size others before (b ∷ rest) h)
+    chosen_token_has_positive_size (kind_of_form form) (longest_piece_size form (is_id_position_after_units before) (is_empty (bytes_of_units_after_leading_gap before)) (b ∷ rest)) (kind_and_size_after_units others before (b ∷ rest)) (found_token_has_positive_size others before (b ∷ rest) h)
 
 -- ---- lists of tokens
 

@@ -3,7 +3,7 @@ use Rattle.std.proofs.Common.{◌≡◌, ℕ, ◌+◌, ◌<◌, ◌≤◌, true,
 use Rattle.std.proofs.lemmas.List.{length-append, append_assoc, append_cancel_left, drop_all}
 use Rattle.std.proofs.lemmas.Bool.{cases_lt, cases_eq}
 use Rattle.sudoers_text.specs.Unit.{LineUnit, bytes_of_unit, bytes_of_reversed_units, AreUnitsBefore, unit_at, line_end_size}
-use Rattle.sudoers_text.specs.Line.{IsLogicalLineBefore, IsUnfinishedLine, HasLineEnding, by_lf, by_crlf, at_end, has_open_last_unit, join, AreLogicalLines, AreLinesOfText}
+use Rattle.sudoers_text.specs.Line.{IsLogicalLineBefore, IsUnfinishedLine, IsLineEndingOrTextEnd, by_lf, by_crlf, at_end, has_open_last_unit, join, AreLogicalLines, AreLinesOfText}
 use Rattle.std.specs.Prelude.{slice_range}
 use Rattle.sudoers_text.specs.declared.text_units.LeftContext.{LeftContext}
 use Rattle.sudoers_text.proofs.Reading.{HasReadUnitsFromStart, unit_size_is_positive, no_unit_within_text_implies_line_end, slice_to_ending_is_units_and_ending, text_after_line_end_is_rest, slice_read_to_text_end_is_units}
@@ -51,12 +51,12 @@ stopped_units_of_text_are_equal us vs a b x y e none none2 =
           ])
     ]
 
-no_unit_begins_at_line_ending : {us : List LineUnit} {ending rest : List ℕ} → HasLineEnding us ending rest → unit_at us (ending ++ rest) ≡ None
+no_unit_begins_at_line_ending : {us : List LineUnit} {ending rest : List ℕ} → IsLineEndingOrTextEnd us ending rest → unit_at us (ending ++ rest) ≡ None
 no_unit_begins_at_line_ending by_lf = refl
 no_unit_begins_at_line_ending by_crlf = refl
 no_unit_begins_at_line_ending at_end = refl
 
-line_ending_and_rest_are_unique : {us : List LineUnit} {ending rest ending2 rest2 : List ℕ} → HasLineEnding us ending rest → HasLineEnding us ending2 rest2 → ending ++ rest ≡ ending2 ++ rest2 → (ending ≡ ending2) × (rest ≡ rest2)
+line_ending_and_rest_are_unique : {us : List LineUnit} {ending rest ending2 rest2 : List ℕ} → IsLineEndingOrTextEnd us ending rest → IsLineEndingOrTextEnd us ending2 rest2 → ending ++ rest ≡ ending2 ++ rest2 → (ending ≡ ending2) × (rest ≡ rest2)
 line_ending_and_rest_are_unique by_lf by_lf e = (refl, cc)
 line_ending_and_rest_are_unique by_lf by_crlf e = absurd (cc)
 line_ending_and_rest_are_unique by_lf at_end e = absurd (cc)
@@ -73,11 +73,11 @@ logical_line_at_text_start_is_unique l r m s x y e =
     let front : bytes_of_reversed_units x.units ++ (x.ending ++ r) ≡ l ++ r = sym (append_assoc (bytes_of_reversed_units x.units) x.ending r) ∙ ap (λ (t : List ℕ). t ++ r) (sym x.text) in
     let front2 : bytes_of_reversed_units y.units ++ (y.ending ++ s) ≡ m ++ s = sym (append_assoc (bytes_of_reversed_units y.units) y.ending s) ∙ ap (λ (t : List ℕ). t ++ s) (sym y.text) in
     let same = stopped_units_of_text_are_equal x.units y.units (x.ending ++ r) (y.ending ++ s) x.each y.each (front ∙ e ∙ sym front2) (no_unit_begins_at_line_ending x.ends) (no_unit_begins_at_line_ending y.ends) in
-    let ends2 : HasLineEnding x.units y.ending s = subst (λ (us : List LineUnit). HasLineEnding us y.ending s) (sym same.0) y.ends in
+    let ends2 : IsLineEndingOrTextEnd x.units y.ending s = subst (λ (us : List LineUnit). IsLineEndingOrTextEnd us y.ending s) (sym same.0) y.ends in
     let ending = line_ending_and_rest_are_unique x.ends ends2 same.1 in
     (x.text ∙ ap (λ (us : List LineUnit). bytes_of_reversed_units us ++ x.ending) same.0 ∙ ap (λ (t : List ℕ). bytes_of_reversed_units y.units ++ t) ending.0 ∙ sym y.text, ending.1)
 
-line_with_ending_is_not_empty : {us : List LineUnit} {ending rest : List ℕ} → HasLineEnding us ending rest → 0 < length (bytes_of_reversed_units us ++ ending)
+line_with_ending_is_not_empty : {us : List LineUnit} {ending rest : List ℕ} → IsLineEndingOrTextEnd us ending rest → 0 < length (bytes_of_reversed_units us ++ ending)
 line_with_ending_is_not_empty {us} by_lf = omega (arith, length-append (bytes_of_reversed_units us) (10 ∷ []))
 line_with_ending_is_not_empty {us} by_crlf = omega (arith, length-append (bytes_of_reversed_units us) (13 ∷ 10 ∷ []))
 line_with_ending_is_not_empty (at_end {u} {units}) = omega (arith, length-append (bytes_of_reversed_units units ++ bytes_of_unit u) [], length-append (bytes_of_reversed_units units) (bytes_of_unit u), unit_size_is_positive u)

@@ -5,8 +5,8 @@ use Rattle.std.proofs.lemmas.Bool.Decides.{nat_tests}
 use Rattle.std.specs.Prelude.{◌==◌, if◌then◌else◌, slice_range, slice_get, Some}
 use Rattle.sudoers_text.specs.Ended.{ends_in_lf}
 use Rattle.std.proofs.lemmas.List.{length-append, length-drop, length-take-le, drop-drop, take-append-drop, append_assoc, take_at}
-use Rattle.sudoers_text.specs.Unit.{LineUnit, bytes_of_unit, begins_lf, begins_line_end, line_end_size, bytes_up_to_line_end, bytes_after_leading_gap, is_empty, is_gap_unit}
-use Rattle.sudoers_text.specs.Line.{HasLineEnding, by_lf, by_crlf}
+use Rattle.sudoers_text.specs.Unit.{LineUnit, bytes_of_unit, begins_lf, begins_line_end, line_end_size, bytes_up_to_line_end, bytes_of_units_after_leading_gap, is_empty, is_gap_unit}
+use Rattle.sudoers_text.specs.Line.{IsLineEndingOrTextEnd, by_lf, by_crlf}
 use Rattle.sudoers_text.specs.internal.Left.{UnitStandsAt}
 
 -- a byte passes no test for LF
@@ -90,7 +90,7 @@ pub record BeginsWithLineEnd (text : List ℕ) : Type 0 where
   pub whole : text ≡ ending ++ rest
   pub size : length ending ≡ line_end_size text
   pub some : 0 < line_end_size text
-  pub ends : (units : List LineUnit) → HasLineEnding units ending rest
+  pub ends : (units : List LineUnit) → IsLineEndingOrTextEnd units ending rest
 
 cr_before_lf_begins_line_end : (xs : List ℕ) → begins_lf xs ≡ true → BeginsWithLineEnd (13 ∷ xs)
 cr_before_lf_begins_line_end [] h = absurd (cc)
@@ -157,11 +157,11 @@ last_bytes_extend_or_become_none true text part unit at n last inside reads = no
 last_bytes_extend_or_become_none false text part unit at n last inside reads = last_bytes_extend_by_unit text part unit at n last inside reads
 
 -- what the line has behind one more unit, without what it begins with
-pub begun_line_extends_or_stays_empty : (text : List ℕ) (at n : ℕ) (u : LineUnit) (before : List LineUnit) → AreLastBytesBeforePlace text at n (bytes_after_leading_gap before) → UnitStandsAt text at u → AreLastBytesBeforePlace text (at + length (bytes_of_unit u)) (if n == 0 && is_gap_unit u then 0 else n + length (bytes_of_unit u)) (bytes_after_leading_gap (u ∷ before))
+pub begun_line_extends_or_stays_empty : (text : List ℕ) (at n : ℕ) (u : LineUnit) (before : List LineUnit) → AreLastBytesBeforePlace text at n (bytes_of_units_after_leading_gap before) → UnitStandsAt text at u → AreLastBytesBeforePlace text (at + length (bytes_of_unit u)) (if n == 0 && is_gap_unit u then 0 else n + length (bytes_of_unit u)) (bytes_of_units_after_leading_gap (u ∷ before))
 begun_line_extends_or_stays_empty text at n u before last stands =
-    let same : is_empty (bytes_after_leading_gap before) ≡ (n == 0) = emptiness_test_is_zero_length_test (bytes_after_leading_gap before) ∙ ap (λ (k : ℕ). k == 0) last.1 in
-    let family : Bool → Type 0 = λ b. AreLastBytesBeforePlace text (at + length (bytes_of_unit u)) (if n == 0 && is_gap_unit u then 0 else n + length (bytes_of_unit u)) (if b && is_gap_unit u then [] else bytes_after_leading_gap before ++ bytes_of_unit u) in
-    subst family (sym same) (last_bytes_extend_or_become_none (n == 0 && is_gap_unit u) text (bytes_after_leading_gap before) (bytes_of_unit u) at n last stands.inside stands.reads)
+    let same : is_empty (bytes_of_units_after_leading_gap before) ≡ (n == 0) = emptiness_test_is_zero_length_test (bytes_of_units_after_leading_gap before) ∙ ap (λ (k : ℕ). k == 0) last.1 in
+    let family : Bool → Type 0 = λ b. AreLastBytesBeforePlace text (at + length (bytes_of_unit u)) (if n == 0 && is_gap_unit u then 0 else n + length (bytes_of_unit u)) (if b && is_gap_unit u then [] else bytes_of_units_after_leading_gap before ++ bytes_of_unit u) in
+    subst family (sym same) (last_bytes_extend_or_become_none (n == 0 && is_gap_unit u) text (bytes_of_units_after_leading_gap before) (bytes_of_unit u) at n last stands.inside stands.reads)
 
 -- the last byte tells whether a line ends in LF
 byte_before_text_end_tells_lf_end : (xs : List ℕ) (n b : ℕ) → suc n ≡ length xs → Some b ≡ slice_get xs n → (b == 10) ≡ ends_in_lf xs

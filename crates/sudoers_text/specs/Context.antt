@@ -6,11 +6,11 @@ use Rattle.sudoers_text.specs.declared.token.TokenKind.{TokenKind}
 use Rattle.sudoers_text.specs.declared.token.TokenKind.TheVariants as kind
 use Rattle.sudoers_text.specs.declared.token.Mode.{Mode}
 use Rattle.sudoers_text.specs.declared.token.Mode.TheVariants as mode
-use Rattle.sudoers_text.specs.declared.context.ScopeMemberKind.{ScopeMemberKind}
-use Rattle.sudoers_text.specs.declared.context.ScopeMemberKind.TheVariants as scope
+use Rattle.sudoers_text.specs.declared.context.ScopeNamesOrCommands.{ScopeNamesOrCommands}
+use Rattle.sudoers_text.specs.declared.context.ScopeNamesOrCommands.TheVariants as scope
 use Rattle.sudoers_text.specs.declared.context.TokenContext.{TokenContext}
 use Rattle.sudoers_text.specs.declared.context.TokenContext.TheVariants as context
-use Rattle.sudoers_text.specs.Unit.{is_separator}
+use Rattle.sudoers_text.specs.Unit.{is_comma_colon_or_equals}
 use Rattle.sudoers_text.specs.Part.{is_punct, has_given_first_byte, is_entire_run, is_whole_argument}
 use Rattle.sudoers_text.specs.Piece.{TokenForm, Mark, Operator, Number, NonUnixGroup, Run, CommandPath, QuotedPart, CommentPart, IncludeWord, FirstWord, Argument, QuotedRest, has_host_or_runas_sign}
 use Rattle.sudoers_text.specs.Word.{is_among, is_tag, is_option_name, digest_kinds, include_words}
@@ -45,7 +45,7 @@ forms_of_first_token mode.Words = IncludeWord ∷ token_forms_in_word_lists
 forms_of_first_token mode.Commands = IncludeWord ∷ token_forms_in_word_lists
 forms_of_first_token mode.Parameters = IncludeWord ∷ FirstWord ∷ token_forms_of_parameters
 
-abbrev pub token_forms_in_scope : ScopeMemberKind → List TokenForm
+abbrev pub token_forms_in_scope : ScopeNamesOrCommands → List TokenForm
 token_forms_in_scope scope.Names = token_forms_in_word_lists
 token_forms_in_scope scope.Commands = token_forms_in_command_lists
 
@@ -62,7 +62,7 @@ token_forms_in_context context.BehindTag = token_forms_in_command_lists
 token_forms_in_context context.BehindDigestKind = token_forms_in_command_lists
 token_forms_in_context context.Digest = Run kind.Digest rule.Digest ∷ token_forms_in_command_lists
 token_forms_in_context context.Parentheses = token_forms_in_word_lists
-token_forms_in_context context.Arguments = Mark is_separator ∷ Argument ∷ CommentPart ∷ []
+token_forms_in_context context.Arguments = Mark is_comma_colon_or_equals ∷ Argument ∷ CommentPart ∷ []
 token_forms_in_context context.QuotedArgument = QuotedRest ∷ []
 token_forms_in_context context.ScopeSign = Mark is_scope_sign ∷ []
 token_forms_in_context (context.Scope list) = token_forms_in_scope list

@@ -9,9 +9,9 @@ use Rattle.sudoers_text.specs.declared.token.Token.{Token}
 use Rattle.sudoers_text.specs.declared.token.Mode.{Mode}
 use Rattle.sudoers_text.specs.declared.context.TokenContext.{TokenContext}
 use Rattle.sudoers_text.specs.declared.context.TokenContext.TheVariants as context
-use Rattle.sudoers_text.specs.Unit.{LineUnit, is_id_position_after_units, bytes_after_leading_gap, is_empty, begins_digit, is_rest_of_hash_include, bytes_up_to_line_end, includedir_word}
-use Rattle.sudoers_text.specs.Part.{has_given_first_byte, size_of_one_matching_byte, leading_run_size, closed_quote_size, argument_units_size, quote_before_separator_size}
-use Rattle.sudoers_text.specs.Piece.{TokenForm, Mark, Operator, Number, NonUnixGroup, Run, CommandPath, QuotedPart, CommentPart, IncludeWord, FirstWord, Argument, QuotedRest, kind_of_form, plus_or_minus_equals_size, leading_keyword_size, quoted_argument_rest_size}
+use Rattle.sudoers_text.specs.Unit.{LineUnit, is_id_position_after_units, bytes_of_units_after_leading_gap, is_empty, begins_digit, is_rest_of_hash_include, bytes_up_to_line_end, includedir_word}
+use Rattle.sudoers_text.specs.Part.{has_given_first_byte, size_of_one_matching_byte, leading_run_size, closed_quote_size, argument_units_size, quoted_front_to_inner_separator_size}
+use Rattle.sudoers_text.specs.Piece.{TokenForm, Mark, Operator, Number, NonUnixGroup, Run, CommandPath, QuotedPart, CommentPart, IncludeWord, FirstWord, Argument, QuotedRest, kind_of_form, plus_or_minus_equals_size, defaults_or_at_include_word_size, quoted_argument_rest_size}
 use Rattle.sudoers_text.specs.Context.{token_forms_in_context, context_after_token}
 use Rattle.sudoers_text.specs.Token.{bad_token_size, units_left_of_place, next_token_start, is_line_end_or_empty}
 
@@ -56,7 +56,7 @@ unfoldable pub command_path_size : List ℕ → ℕ
 command_path_size bytes = if has_given_first_byte 47 bytes then leading_run_size rule.Path bytes else 0
 
 unfoldable pub argument_size : List ℕ → ℕ
-argument_size bytes = argument_units_size bytes + quote_before_separator_size (drop (argument_units_size bytes) bytes)
+argument_size bytes = argument_units_size bytes + quoted_front_to_inner_separator_size (drop (argument_units_size bytes) bytes)
 
 -- How many bytes the longest piece of the form has that begins the bytes, or none. item: an ID may begin there; first: the
 -- line has not begun.
@@ -70,7 +70,7 @@ longest_piece_size CommandPath item first bytes = command_path_size bytes
 longest_piece_size (QuotedPart k) item first bytes = closed_quote_size bytes
 longest_piece_size CommentPart item first bytes = comment_size_at item first bytes
 longest_piece_size IncludeWord item first bytes = hash_include_size_at first bytes
-longest_piece_size FirstWord item first bytes = leading_keyword_size bytes
+longest_piece_size FirstWord item first bytes = defaults_or_at_include_word_size bytes
 longest_piece_size Argument item first bytes = argument_size bytes
 longest_piece_size QuotedRest item first bytes = quoted_argument_rest_size bytes
 
@@ -82,7 +82,7 @@ kind_and_size_of_token (form ∷ others) item first bytes =
 
 -- the same behind these units
 abbrev pub kind_and_size_after_units : List TokenForm → List LineUnit → List ℕ → TokenKind × ℕ
-kind_and_size_after_units fs before bytes = kind_and_size_of_token fs (is_id_position_after_units before) (is_empty (bytes_after_leading_gap before)) bytes
+kind_and_size_after_units fs before bytes = kind_and_size_of_token fs (is_id_position_after_units before) (is_empty (bytes_of_units_after_leading_gap before)) bytes
 
 -- the tokens from a place on, no more than so many
 unfoldable pub tokens_from_offset : ℕ → TokenContext → List ℕ → ℕ → List Token

@@ -4,10 +4,10 @@ use Rattle.sudoers_text.specs.Ended.{ends_in_lf}
 use Rattle.sudoers_text.specs.Unit.{LineUnit, Continuation, Pair, Quoted, Comment, Byte, bytes_of_reversed_units, AreUnitsBefore}
 
 -- How a line of these units ends before this text: by LF or CR LF, or, at the text's end, behind one or more units.
-pub data HasLineEnding : List LineUnit → List ℕ → List ℕ → Type 0 where
-  by_lf : {units : List LineUnit} {rest : List ℕ} → HasLineEnding units (10 ∷ []) rest
-  by_crlf : {units : List LineUnit} {rest : List ℕ} → HasLineEnding units (13 ∷ 10 ∷ []) rest
-  at_end : {u : LineUnit} {units : List LineUnit} → HasLineEnding (u ∷ units) [] []
+pub data IsLineEndingOrTextEnd : List LineUnit → List ℕ → List ℕ → Type 0 where
+  by_lf : {units : List LineUnit} {rest : List ℕ} → IsLineEndingOrTextEnd units (10 ∷ []) rest
+  by_crlf : {units : List LineUnit} {rest : List ℕ} → IsLineEndingOrTextEnd units (13 ∷ 10 ∷ []) rest
+  at_end : {u : LineUnit} {units : List LineUnit} → IsLineEndingOrTextEnd (u ∷ units) [] []
 
 -- line is a logical line, where rest is what follows it
 pub record IsLogicalLineBefore (line rest : List ℕ) : Type 0 where
@@ -15,7 +15,7 @@ pub record IsLogicalLineBefore (line rest : List ℕ) : Type 0 where
   pub ending : List ℕ
   pub text : line ≡ bytes_of_reversed_units units ++ ending
   pub each : AreUnitsBefore units (ending ++ rest)
-  pub ends : HasLineEnding units ending rest
+  pub ends : IsLineEndingOrTextEnd units ending rest
 
 abbrev pub join : List (List ℕ) → List ℕ
 join [] = []

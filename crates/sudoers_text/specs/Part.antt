@@ -2,7 +2,7 @@
 use Rattle.std.specs.Prelude.{ℕ, zero, suc, ◌+◌, ◌==◌, ◌&&◌, ◌||◌, not, Bool, false, List, [], ◌∷◌, length, drop, if◌then◌else◌, nat_le, nat_lt}
 use Rattle.sudoers_text.specs.declared.part.ByteRunKind.{ByteRunKind}
 use Rattle.sudoers_text.specs.declared.part.ByteRunKind.TheVariants as rule
-use Rattle.sudoers_text.specs.Unit.{LineUnit, Continuation, Pair, bytes_of_unit, is_blank, is_digit, is_separator, begins_line_end, unit_after_backslash}
+use Rattle.sudoers_text.specs.Unit.{LineUnit, Continuation, Pair, bytes_of_unit, is_blank, is_digit, is_comma_colon_or_equals, begins_line_end, unit_after_backslash}
 
 -- one of `! = : , ( )`
 abbrev pub is_punct : ℕ → Bool
@@ -17,7 +17,7 @@ abbrev pub is_word_byte : ℕ → Bool
 is_word_byte b = is_byte_of_include_path b && not (is_punct b)
 
 abbrev pub is_path_byte : ℕ → Bool
-is_path_byte b = is_byte_of_include_path b && not (is_separator b)
+is_path_byte b = is_byte_of_include_path b && not (is_comma_colon_or_equals b)
 
 abbrev pub is_value_byte : ℕ → Bool
 is_value_byte b = is_byte_of_include_path b && not (b == 44)
@@ -27,7 +27,7 @@ abbrev pub is_quoted_byte : ℕ → Bool
 is_quoted_byte b = not (b == 10 || b == 13 || b == 34 || b == 92)
 
 abbrev pub is_quoted_byte_but_separator : ℕ → Bool
-is_quoted_byte_but_separator b = is_quoted_byte b && not (is_separator b)
+is_quoted_byte_but_separator b = is_quoted_byte b && not (is_comma_colon_or_equals b)
 
 abbrev pub is_upper : ℕ → Bool
 is_upper b = nat_le 65 b && nat_le b 90
@@ -52,10 +52,10 @@ abbrev pub continuation_size_of_unit : LineUnit → ℕ
 continuation_size_of_unit (Continuation crlf) = length (bytes_of_unit (Continuation crlf))
 continuation_size_of_unit unit = 0
 
-abbrev pub escape_size_of_unit : LineUnit → ℕ
-escape_size_of_unit (Pair b) = if b == 13 then 0 else 2
-escape_size_of_unit (Continuation crlf) = length (bytes_of_unit (Continuation crlf))
-escape_size_of_unit unit = 0
+abbrev pub pair_or_continuation_size_of_unit : LineUnit → ℕ
+pair_or_continuation_size_of_unit (Pair b) = if b == 13 then 0 else 2
+pair_or_continuation_size_of_unit (Continuation crlf) = length (bytes_of_unit (Continuation crlf))
+pair_or_continuation_size_of_unit unit = 0
 
 -- the size by this measure of what the backslash begins with which the bytes begin
 abbrev pub backslash_unit_size_by : (LineUnit → ℕ) → List ℕ → ℕ
@@ -90,8 +90,8 @@ run_unit_size rule.Word bytes = first_nonzero_number (size_of_one_matching_byte 
 run_unit_size rule.IncludePath bytes = first_nonzero_number (size_of_one_matching_byte is_byte_of_include_path bytes) (backslash_unit_size_by pair_size_of_unit bytes)
 run_unit_size rule.Path bytes = first_nonzero_number (size_of_one_matching_byte is_path_byte bytes) (backslash_unit_size_by pair_size_of_unit bytes)
 run_unit_size rule.Value bytes = first_nonzero_number (size_of_one_matching_byte is_value_byte bytes) (backslash_unit_size_by pair_size_of_unit bytes)
-run_unit_size rule.Quote bytes = first_nonzero_number (size_of_one_matching_byte is_quoted_byte bytes) (backslash_unit_size_by escape_size_of_unit bytes)
-run_unit_size rule.Clean bytes = first_nonzero_number (size_of_one_matching_byte is_quoted_byte_but_separator bytes) (backslash_unit_size_by escape_size_of_unit bytes)
+run_unit_size rule.Quote bytes = first_nonzero_number (size_of_one_matching_byte is_quoted_byte bytes) (backslash_unit_size_by pair_or_continuation_size_of_unit bytes)
+run_unit_size rule.Clean bytes = first_nonzero_number (size_of_one_matching_byte is_quoted_byte_but_separator bytes) (backslash_unit_size_by pair_or_continuation_size_of_unit bytes)
 
 -- where a unit begins, one byte and what is reached behind it
 abbrev pub reach_past_first_byte : ℕ → (ℕ → ℕ) → ℕ
@@ -120,18 +120,18 @@ has_given_first_byte a [] = false
 has_given_first_byte a (b ∷ rest) = b == a
 
 -- how many bytes have the quotes that begin the bytes and a run between them, or none
-unfoldable pub quoted_run_size : ByteRunKind → List ℕ → ℕ
-quoted_run_size rule [] = 0
-quoted_run_size rule (b ∷ rest) =
+unfoldable pub quotes_and_run_between_size : ByteRunKind → List ℕ → ℕ
+quotes_and_run_between_size rule [] = 0
+quotes_and_run_between_size rule (b ∷ rest) =
     if b == 34 && has_given_first_byte 34 (drop (leading_run_size rule rest) rest) then leading_run_size rule rest + 2 else 0
 
 -- a quoted part that is closed
 abbrev pub closed_quote_size : List ℕ → ℕ
-closed_quote_size bytes = quoted_run_size rule.Quote bytes
+closed_quote_size bytes = quotes_and_run_between_size rule.Quote bytes
 
 -- a unit of an argument: a byte, a pair, or a quoted part without `,`, `:` and `=`
 abbrev pub argument_unit_size : List ℕ → ℕ
-argument_unit_size bytes = first_nonzero_number (run_unit_size rule.Path bytes) (quoted_run_size rule.Clean bytes)
+argument_unit_size bytes = first_nonzero_number (run_unit_size rule.Path bytes) (quotes_and_run_between_size rule.Clean bytes)
 
 -- how many bytes the units have that begin the bytes
 unfoldable pub argument_units_size : List ℕ → ℕ
@@ -142,7 +142,7 @@ abbrev pub is_whole_argument : List ℕ → Bool
 is_whole_argument text = argument_units_size text == length text
 
 -- how many bytes a quoted part has up to a `,`, `:` or `=` in it, its first quote included
-unfoldable pub quote_before_separator_size : List ℕ → ℕ
-quote_before_separator_size [] = 0
-quote_before_separator_size (b ∷ rest) =
-    if quoted_run_size rule.Clean (b ∷ rest) == 0 && not (closed_quote_size (b ∷ rest) == 0) then leading_run_size rule.Clean rest + 1 else 0
+unfoldable pub quoted_front_to_inner_separator_size : List ℕ → ℕ
+quoted_front_to_inner_separator_size [] = 0
+quoted_front_to_inner_separator_size (b ∷ rest) =
+    if quotes_and_run_between_size rule.Clean (b ∷ rest) == 0 && not (closed_quote_size (b ∷ rest) == 0) then leading_run_size rule.Clean rest + 1 else 0

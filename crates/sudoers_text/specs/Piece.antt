@@ -5,8 +5,8 @@ use Rattle.sudoers_text.specs.declared.part.ByteRunKind.{ByteRunKind}
 use Rattle.sudoers_text.specs.declared.part.ByteRunKind.TheVariants as rule
 use Rattle.sudoers_text.specs.declared.token.TokenKind.{TokenKind}
 use Rattle.sudoers_text.specs.declared.token.TokenKind.TheVariants as kind
-use Rattle.sudoers_text.specs.Unit.{LineUnit, Byte, bytes_after_leading_gap, is_empty, is_id_position_after_units, is_hash_of_comment, is_rest_of_hash_include, bytes_up_to_line_end, defaults_word, includedir_word}
-use Rattle.sudoers_text.specs.Part.{has_given_first_byte, leading_run_size, is_nonempty_run, closed_quote_size, argument_units_size, quote_before_separator_size}
+use Rattle.sudoers_text.specs.Unit.{LineUnit, Byte, bytes_of_units_after_leading_gap, is_empty, is_id_position_after_units, is_hash_of_comment, is_rest_of_hash_include, bytes_up_to_line_end, defaults_word, includedir_word}
+use Rattle.sudoers_text.specs.Part.{has_given_first_byte, leading_run_size, is_nonempty_run, closed_quote_size, argument_units_size, quoted_front_to_inner_separator_size}
 use Rattle.sudoers_text.specs.Word.{is_among, at_include_words}
 
 -- The forms that pieces have.
@@ -77,7 +77,7 @@ comment_size before (b ∷ rest) = if b == 35 && is_hash_of_comment before rest 
 abbrev pub hash_include_word_size : List LineUnit → List ℕ → ℕ
 hash_include_word_size before [] = 0
 hash_include_word_size before (b ∷ rest) =
-    if b == 35 && (is_empty (bytes_after_leading_gap before) && is_rest_of_hash_include rest)
+    if b == 35 && (is_empty (bytes_of_units_after_leading_gap before) && is_rest_of_hash_include rest)
     then (if starts_with nat_eq rest includedir_word then 11 else 8)
     else 0
 
@@ -90,8 +90,8 @@ abbrev pub begins_defaults : List ℕ → Bool
 begins_defaults bytes = starts_with nat_eq bytes defaults_word && (leading_run_size rule.Word bytes == 8 || has_host_or_runas_sign (drop 8 bytes))
 
 -- a whole word, but that `Defaults` may stand before a scope's sign
-unfoldable pub leading_keyword_size : List ℕ → ℕ
-leading_keyword_size bytes =
+unfoldable pub defaults_or_at_include_word_size : List ℕ → ℕ
+defaults_or_at_include_word_size bytes =
     if begins_defaults bytes then 8
     else (if is_among at_include_words (take (leading_run_size rule.Word bytes) bytes) then leading_run_size rule.Word bytes
     else 0)
@@ -106,8 +106,8 @@ quoted_argument_rest_size bytes =
 abbrev pub is_argument_of_size : List ℕ → ℕ → Bool
 is_argument_of_size bytes n =
     argument_units_size (take n bytes) == n
-    || (nat_lt 0 (quote_before_separator_size (drop (argument_units_size (take n bytes)) bytes))
-    && (argument_units_size (take n bytes) + quote_before_separator_size (drop (argument_units_size (take n bytes)) bytes) == n))
+    || (nat_lt 0 (quoted_front_to_inner_separator_size (drop (argument_units_size (take n bytes)) bytes))
+    && (argument_units_size (take n bytes) + quoted_front_to_inner_separator_size (drop (argument_units_size (take n bytes)) bytes) == n))
 
 -- The first n bytes are a piece of this form, where these units stand left of them.
 abbrev pub is_piece_of_form : TokenForm → List LineUnit → List ℕ → ℕ → Bool
@@ -121,6 +121,6 @@ is_piece_of_form CommandPath before bytes n = has_given_first_byte 47 bytes && i
 is_piece_of_form (QuotedPart k) before bytes n = nat_lt 0 n && (n == closed_quote_size bytes)
 is_piece_of_form CommentPart before bytes n = nat_lt 0 n && (n == comment_size before bytes)
 is_piece_of_form IncludeWord before bytes n = nat_lt 0 n && (n == hash_include_word_size before bytes)
-is_piece_of_form FirstWord before bytes n = nat_lt 0 n && (n == leading_keyword_size bytes)
+is_piece_of_form FirstWord before bytes n = nat_lt 0 n && (n == defaults_or_at_include_word_size bytes)
 is_piece_of_form Argument before bytes n = nat_lt 0 n && is_argument_of_size bytes n
 is_piece_of_form QuotedRest before bytes n = nat_lt 0 n && (n == quoted_argument_rest_size bytes)

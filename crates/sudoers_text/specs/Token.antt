@@ -52,13 +52,13 @@ abbrev pub byte_or_escape_unit : ℕ → List ℕ → LineUnit
 byte_or_escape_unit b rest = if b == 92 then unit_after_backslash rest else Byte b
 
 -- The units before, and behind them those of the bytes; k bytes of the first are still to pass.
-abbrev pub units_with_rest_of_bytes : ℕ → List LineUnit → List ℕ → List LineUnit
-units_with_rest_of_bytes k before [] = before
-units_with_rest_of_bytes (suc k) before (b ∷ rest) = units_with_rest_of_bytes k before rest
-units_with_rest_of_bytes zero before (b ∷ rest) = units_with_rest_of_bytes (length (bytes_of_unit (byte_or_escape_unit b rest)) - 1) (byte_or_escape_unit b rest ∷ before) rest
+abbrev pub units_with_those_after_skipped_bytes : ℕ → List LineUnit → List ℕ → List LineUnit
+units_with_those_after_skipped_bytes k before [] = before
+units_with_those_after_skipped_bytes (suc k) before (b ∷ rest) = units_with_those_after_skipped_bytes k before rest
+units_with_those_after_skipped_bytes zero before (b ∷ rest) = units_with_those_after_skipped_bytes (length (bytes_of_unit (byte_or_escape_unit b rest)) - 1) (byte_or_escape_unit b rest ∷ before) rest
 
 abbrev pub units_with_those_of_bytes : List LineUnit → List ℕ → List LineUnit
-units_with_those_of_bytes before bytes = units_with_rest_of_bytes 0 before bytes
+units_with_those_of_bytes before bytes = units_with_those_after_skipped_bytes 0 before bytes
 
 -- What stands left of a place. Quoted parts and comments are read by their bytes: going left nothing is reached past the last.
 abbrev pub units_left_of_place : List ℕ → ℕ → List LineUnit

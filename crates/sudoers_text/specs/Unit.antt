@@ -56,21 +56,21 @@ is_empty [] = true
 is_empty (_ ∷ _) = false
 
 -- what the line has so far, without the blanks and continuations that it begins with
-abbrev pub bytes_after_leading_gap : List LineUnit → List ℕ
-bytes_after_leading_gap [] = []
-bytes_after_leading_gap (u ∷ before) = if is_empty (bytes_after_leading_gap before) && is_gap_unit u then [] else bytes_after_leading_gap before ++ bytes_of_unit u
+abbrev pub bytes_of_units_after_leading_gap : List LineUnit → List ℕ
+bytes_of_units_after_leading_gap [] = []
+bytes_of_units_after_leading_gap (u ∷ before) = if is_empty (bytes_of_units_after_leading_gap before) && is_gap_unit u then [] else bytes_of_units_after_leading_gap before ++ bytes_of_unit u
 
 -- `Defaults`
 abbrev pub defaults_word : List ℕ
 defaults_word = 68 ∷ 101 ∷ 102 ∷ 97 ∷ 117 ∷ 108 ∷ 116 ∷ 115 ∷ []
 
 -- `!`, `(` and `%`
-abbrev pub is_sign_before_item : ℕ → Bool
-is_sign_before_item b = b == 33 || b == 40 || b == 37
+abbrev pub is_sign_byte_before_id : ℕ → Bool
+is_sign_byte_before_id b = b == 33 || b == 40 || b == 37
 
 -- `,`, `:` and `=`
-abbrev pub is_separator : ℕ → Bool
-is_separator b = b == 44 || b == 58 || b == 61
+abbrev pub is_comma_colon_or_equals : ℕ → Bool
+is_comma_colon_or_equals b = b == 44 || b == 58 || b == 61
 
 -- Going left over blanks, continuations and signs one reaches the line's beginning, a separator, or the `>`
 -- directly behind a `Defaults` that the line begins with.
@@ -81,8 +81,8 @@ is_id_position_after_units (Pair _ ∷ before) = false
 is_id_position_after_units (Quoted _ ∷ before) = false
 is_id_position_after_units (Comment _ ∷ before) = false
 is_id_position_after_units (Byte b ∷ before) =
-    if is_blank b || is_sign_before_item b then is_id_position_after_units before
-    else is_separator b || (b == 62 && bytes_eq (bytes_after_leading_gap before) defaults_word)
+    if is_blank b || is_sign_byte_before_id b then is_id_position_after_units before
+    else is_comma_colon_or_equals b || (b == 62 && bytes_eq (bytes_of_units_after_leading_gap before) defaults_word)
 
 abbrev pub is_digit : ℕ → Bool
 is_digit b = nat_le 48 b && nat_le b 57
@@ -118,7 +118,7 @@ is_rest_of_hash_include rest =
 abbrev pub is_hash_of_comment : List LineUnit → List ℕ → Bool
 is_hash_of_comment before rest =
     not (is_id_position_after_units before && begins_digit rest)
-    && not (is_empty (bytes_after_leading_gap before) && is_rest_of_hash_include rest)
+    && not (is_empty (bytes_of_units_after_leading_gap before) && is_rest_of_hash_include rest)
 
 -- What is left of a quoted part: up to its `"`, or up to a line end that is no continuation, or all. behind_backslash:
 -- directly left stands a backslash that the next bytes make a pair or a continuation.

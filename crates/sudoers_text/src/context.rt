@@ -12,7 +12,7 @@ use crate::word::{is_digest_kind, is_include_word, is_option_name, is_tag};
 
 /// What the members of a `Defaults` scope are.
 #[derive(Clone, Copy)]
-pub enum ScopeMemberKind {
+pub enum ScopeNamesOrCommands {
     /// Users, runas users or hosts.
     Names,
     Commands,
@@ -44,14 +44,14 @@ pub enum TokenContext {
     /// Inside a quoted part of an argument, behind a `,`, `:` or `=`.
     QuotedArgument,
     ScopeSign,
-    Scope(ScopeMemberKind),
+    Scope(ScopeNamesOrCommands),
     /// Behind a member of a scope.
-    BehindMember(ScopeMemberKind),
+    BehindMember(ScopeNamesOrCommands),
     Parameter,
     ParameterValue,
 }
 
-/// Whether the token is this mark.
+/// Returns whether the token is this mark.
 #[inline(always)]
 fn is_token_of_mark(mark: u8, kind: TokenKind, text: &[u8]) -> bool
     ensures { result ≡ is_given_punct_token mark kind text.now }
@@ -76,7 +76,7 @@ fn find_context_after_command_mark(
     }
 }
 
-/// Behind a word where commands stand.
+/// Returns what may stand after a word in the place of a command.
 fn find_context_after_command_word(text: &[u8]) -> TokenContext
     ensures { result ≡ context_after_command_word text.now }
 {
@@ -93,7 +93,7 @@ fn find_context_after_command_word(text: &[u8]) -> TokenContext
     }
 }
 
-/// Behind a token where commands stand.
+/// Returns what may stand after a token in the place of a command.
 fn find_context_after_command_token(
     colon: TokenContext,
     equals: TokenContext,
@@ -110,7 +110,7 @@ fn find_context_after_command_token(
     }
 }
 
-/// Behind what stands in an option's value's place.
+/// Returns what may stand after the value of an option.
 fn find_context_after_option_value(kind: TokenKind, text: &[u8]) -> TokenContext
     ensures { result ≡ context_after_option_value kind text.now }
 {
@@ -124,7 +124,7 @@ fn find_context_after_option_value(kind: TokenKind, text: &[u8]) -> TokenContext
     }
 }
 
-/// Behind a token among arguments.
+/// Returns what may stand after a token among arguments.
 fn find_context_after_argument(kind: TokenKind, text: &[u8]) -> TokenContext
     ensures { result ≡ context_after_argument kind text.now }
 {
@@ -139,7 +139,7 @@ fn find_context_after_argument(kind: TokenKind, text: &[u8]) -> TokenContext
     }
 }
 
-/// Behind a token inside a quoted part of an argument.
+/// Returns what may stand after a token inside a quoted part of an argument.
 fn find_context_in_quoted_argument(kind: TokenKind, text: &[u8]) -> TokenContext
     ensures { result ≡ context_after_quoted_argument kind text.now }
 {
@@ -150,7 +150,7 @@ fn find_context_in_quoted_argument(kind: TokenKind, text: &[u8]) -> TokenContext
     }
 }
 
-/// Behind a token among parameters.
+/// Returns what may stand after a token among parameters.
 fn find_context_after_parameter(kind: TokenKind, text: &[u8]) -> TokenContext
     ensures { result ≡ context_after_parameter_token kind text.now }
 {
@@ -161,7 +161,7 @@ fn find_context_after_parameter(kind: TokenKind, text: &[u8]) -> TokenContext
     }
 }
 
-/// Whether a token is a member of a list.
+/// Returns whether a token is a member of a list.
 #[inline(always)]
 fn is_member_token_kind(kind: TokenKind) -> bool
     ensures { result ≡ is_kind_of_list_member kind }
@@ -172,7 +172,7 @@ fn is_member_token_kind(kind: TokenKind) -> bool
     )
 }
 
-/// What a line goes on with behind an include's path.
+/// Returns what may stand after the path of an include.
 fn find_context_after_include_path(mode: Mode) -> TokenContext
     ensures { result ≡ context_after_include_path mode }
 {
@@ -183,7 +183,7 @@ fn find_context_after_include_path(mode: Mode) -> TokenContext
     }
 }
 
-/// Behind the first token of a line, which begins no include.
+/// Returns what may stand after the first token of a line, if that begins no include.
 fn find_context_after_first_token(
     mode: Mode,
     kind: TokenKind,
@@ -206,7 +206,7 @@ fn find_context_after_first_token(
 }
 
 impl TokenContext {
-    /// What may stand behind a token of this kind and text, and before this rest.
+    /// Returns what may stand after a token of this kind and text, and before this rest.
     pub fn find_context_after_token(self, kind: TokenKind, text: &[u8], rest: &[u8]) -> TokenContext
         ensures { result ≡ context_after_token self kind text.now rest.now }
     {
@@ -257,9 +257,9 @@ impl TokenContext {
             TokenContext::Arguments => find_context_after_argument(kind, text),
             TokenContext::QuotedArgument => find_context_in_quoted_argument(kind, text),
             TokenContext::ScopeSign if is_token_of_mark(b'!', kind, text) => TokenContext::Scope(
-                ScopeMemberKind::Commands,
+                ScopeNamesOrCommands::Commands,
             ),
-            TokenContext::ScopeSign => TokenContext::Scope(ScopeMemberKind::Names),
+            TokenContext::ScopeSign => TokenContext::Scope(ScopeNamesOrCommands::Names),
             TokenContext::Scope(list) if is_member_token_kind(kind) => TokenContext::BehindMember(
                 list,
             ),

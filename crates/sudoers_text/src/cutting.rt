@@ -40,7 +40,7 @@ pub struct UncheckedLineSpans {
     pub continues: bool,
 }
 
-/// The lines of a text, whatever is wrong with it.
+/// Returns the lines of a text, whatever is wrong with it.
 pub fn split_into_line_spans(alloc: Global, text: &[u8]) -> Result<UncheckedLineSpans, AllocError>
     ensures cuts { IfOk result (λ pieces. AreLinesOfText text.now (texts_of_spans text.now pieces.spans.items)) }
     ensures follow { IfOk result (λ pieces. AreContiguousSpans 0 pieces.spans.items (length text.now)) }
@@ -61,7 +61,7 @@ pub fn split_into_line_spans(alloc: Global, text: &[u8]) -> Result<UncheckedLine
     Ok(UncheckedLineSpans { spans, continues })
 }
 
-/// The first fault of a text of these lines.
+/// Returns the first fault of a text of these lines.
 pub fn find_first_fault(text: &[u8], spans: &[LineSpan], continues: bool) -> Option<TextFault>
     requires cuts { AreLinesOfText text.now (texts_of_spans text.now spans.now) }
     requires follow { AreContiguousSpans 0 spans.now (length text.now) }
@@ -94,7 +94,7 @@ pub fn find_first_fault(text: &[u8], spans: &[LineSpan], continues: bool) -> Opt
     }
 }
 
-/// The place of the first NUL, or the text's end.
+/// Returns the place of the first NUL, or the text's end.
 pub fn find_first_nul(text: &[u8]) -> usize
     ensures inside { result ≤ length text.now }
     ensures before { (k : ℕ) → k < result → slice_get text.now k ≢ Some 0 }
@@ -103,7 +103,7 @@ pub fn find_first_nul(text: &[u8]) -> usize
     memchr(0, text).unwrap_or(text.len())
 }
 
-/// The number of the physical line at a place, from 1.
+/// Returns the number of the physical line at a place, from 1.
 fn physical_line_number_at(text: &[u8], at: usize) -> usize
     requires { at < length text.now }
     ensures { result ≡ lf_count (take at text.now) + 1 }
@@ -144,7 +144,7 @@ fn find_line_end_by_units(text: &[u8], start: usize) -> LogicalLineEnd
     while let Some(unit) = unit_at(left, &text[at..]) {
         left = left.pass_unit(text, at, &unit);
         at += unit.len();
-        let run = left.take_plain_run(&text[at..]);
+        let run = left.find_plain_run_to_pass(&text[at..]);
         left = left.pass_plain_run(run);
         at += run.len();
     }

@@ -27,21 +27,21 @@ impl<'a> Model for Lines<'a> {
 }
 
 impl<'a> Lines<'a> {
-    /// How many lines there are.
+    /// Returns how many lines there are.
     pub fn len(&self) -> usize
         ensures { result ≡ length self.now }
     {
         self.spans.len()
     }
 
-    /// Whether there is none, as in the empty text.
+    /// Returns whether there is none, as in the empty text.
     pub fn is_empty(&self) -> bool
         ensures { result ≡ (length self.now == 0) }
     {
         self.spans.is_empty()
     }
 
-    /// The text of a line, its line end included. Lines count from 0; none stands past the last.
+    /// Returns the text of a line, its line end included. Lines count from 0; none stands past the last.
     pub fn get(&self, i: usize) -> Option<&'a [u8]>
         ensures { option_copied result ≡ slice_get self.now i }
     {
@@ -50,7 +50,7 @@ impl<'a> Lines<'a> {
     }
 }
 
-/// The logical lines of a text, or the first thing that is wrong with it.
+/// Returns the logical lines of a text, or the first thing that is wrong with it.
 ///
 /// Physical lines are joined by a backslash directly before a line end (sudoers(5), the rules of its grammar for long
 /// lines); a comment, an ID and an include are told apart by what stands left of their `#`.
@@ -80,7 +80,7 @@ pub fn cut(alloc: Global, text: &[u8]) -> Result<Lines<'_>, TextFault>
     }
 }
 
-/// The part of a text that a span names.
+/// Returns the part of a text that a span names.
 fn slice_of_span(text: &[u8], span: LineSpan) -> &[u8]
     requires below { span.start ≤ span.stop }
     requires inside { span.stop ≤ length text.now }

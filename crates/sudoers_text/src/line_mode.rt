@@ -10,14 +10,14 @@ use crate::token::Mode;
 use crate::token_lengths::begins_defaults;
 use crate::word::is_at_sign_include_word;
 
-/// The word with which the bytes begin.
+/// Returns the word with which the bytes begin.
 fn leading_word_of(bytes: &[u8]) -> &[u8]
     ensures { result.now ≡ leading_word_of_bytes bytes.now }
 {
     &bytes[..leading_run_len(ByteRunKind::Word, bytes)]
 }
 
-/// Whether the word begins an include, or a line of aliases of users, runas users or hosts.
+/// Returns whether the word begins an include, or a line of aliases of users, runas users or hosts.
 fn is_words_mode_keyword(word: &[u8]) -> bool
     ensures { result ≡ is_among words_mode_keywords word.now }
 {
@@ -27,7 +27,7 @@ fn is_words_mode_keyword(word: &[u8]) -> bool
         || is_at_sign_include_word(word)
 }
 
-/// Whether `#include` or `#includedir` begins the bytes, with a path behind it.
+/// Returns whether `#include` or `#includedir` begins the bytes, with a path behind it.
 fn begins_hash_include(bytes: &[u8]) -> bool
     ensures { result ≡ begins_hash_include bytes.now }
 {
@@ -37,7 +37,7 @@ fn begins_hash_include(bytes: &[u8]) -> bool
     }
 }
 
-/// The mode of a line that begins so, blanks and continuations aside.
+/// Returns the mode of a line that begins so, blanks and continuations aside.
 fn mode_of_line_start(bytes: &[u8]) -> Mode
     ensures { result ≡ mode_by_line_start bytes.now }
 {
@@ -50,7 +50,7 @@ fn mode_of_line_start(bytes: &[u8]) -> Mode
     }
 }
 
-/// The mode in which a line is read: `Defaults` lines by parameters; includes and the aliases of users, runas users and hosts by
+/// Returns the mode in which a line is read: `Defaults` lines by parameters; includes and the aliases of users, runas users and hosts by
 /// words; aliases of commands, user specifications and all others as commands (sudoers(5), SUDOERS FILE FORMAT).
 #[tactic(auto, unfolding(crate::specs::LineMode::line_mode))]
 pub fn choose_line_mode(line: &[u8]) -> Mode

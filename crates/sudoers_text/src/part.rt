@@ -2,9 +2,11 @@
 
 ghost use Rattle.std.specs.Prelude.{◌≡◌, ◌≤◌, length};
 ghost use Rattle.sudoers_text.specs.declared.part.ByteRunKind.TheVariants as rules;
-ghost use Rattle.sudoers_text.specs.Part.{is_punct, is_byte_of_include_path, is_word_byte, is_path_byte, is_value_byte, is_quoted_byte, is_quoted_byte_but_separator, is_upper, is_alphanumeric, is_byte_of_parameter_name, is_digest_byte, pair_size_of_unit, continuation_size_of_unit, escape_size_of_unit, backslash_unit_size_by, unclosed_quote_unit_size, run_unit_size, reach_of_units, leading_run_size, has_given_first_byte, quoted_run_size, argument_unit_size, argument_units_size, is_whole_argument, quote_before_separator_size};
+ghost use Rattle.sudoers_text.specs.Part.{is_punct, is_byte_of_include_path, is_word_byte, is_path_byte, is_value_byte, is_quoted_byte, is_quoted_byte_but_separator, is_upper, is_alphanumeric, is_byte_of_parameter_name, is_digest_byte, pair_size_of_unit, continuation_size_of_unit, pair_or_continuation_size_of_unit, backslash_unit_size_by, unclosed_quote_unit_size, run_unit_size, reach_of_units, leading_run_size, has_given_first_byte, quotes_and_run_between_size, argument_unit_size, argument_units_size, is_whole_argument, quoted_front_to_inner_separator_size};
 
-use crate::text_units::{TextUnit, begins_line_end, is_blank, is_separator, unit_of_backslash};
+use crate::text_units::{
+    TextUnit, begins_line_end, is_blank, is_comma_colon_or_equals, unit_of_backslash,
+};
 
 /// What a run is made of.
 #[derive(Clone, Copy)]
@@ -30,7 +32,7 @@ pub enum ByteRunKind {
     Clean,
 }
 
-/// Whether it is one of `!`, `=`, `:`, `,`, `(` and `)`.
+/// Returns whether it is one of `!`, `=`, `:`, `,`, `(` and `)`.
 #[inline(always)]
 pub fn is_punct(byte: u8) -> bool
     ensures { result ≡ is_punct byte }
@@ -38,7 +40,7 @@ pub fn is_punct(byte: u8) -> bool
     matches!(byte, b'!' | b'=' | b':' | b',' | b'(' | b')')
 }
 
-/// Whether it stands for itself in the path of an include.
+/// Returns whether it stands for itself in the path of an include.
 #[inline(always)]
 fn is_include_path_byte(byte: u8) -> bool
     ensures { result ≡ is_byte_of_include_path byte }
@@ -46,7 +48,7 @@ fn is_include_path_byte(byte: u8) -> bool
     !matches!(byte, 0 | b'\n' | b'\r' | b' ' | b'\t' | b'"' | b'#' | b'\\')
 }
 
-/// Whether it stands for itself in a word.
+/// Returns whether it stands for itself in a word.
 #[inline(always)]
 fn is_word_byte(byte: u8) -> bool
     ensures { result ≡ is_word_byte byte }
@@ -54,15 +56,15 @@ fn is_word_byte(byte: u8) -> bool
     is_include_path_byte(byte) && !is_punct(byte)
 }
 
-/// Whether it stands for itself in a command's path, and in an argument.
+/// Returns whether it stands for itself in a command's path, and in an argument.
 #[inline(always)]
 fn is_path_byte(byte: u8) -> bool
     ensures { result ≡ is_path_byte byte }
 {
-    is_include_path_byte(byte) && !is_separator(byte)
+    is_include_path_byte(byte) && !is_comma_colon_or_equals(byte)
 }
 
-/// Whether it stands for itself in a parameter's value.
+/// Returns whether it stands for itself in a parameter's value.
 #[inline(always)]
 fn is_value_byte(byte: u8) -> bool
     ensures { result ≡ is_value_byte byte }
@@ -70,7 +72,7 @@ fn is_value_byte(byte: u8) -> bool
     is_include_path_byte(byte) && byte != b','
 }
 
-/// Whether it stands for itself in a quoted part.
+/// Returns whether it stands for itself in a quoted part.
 #[inline(always)]
 fn is_quoted_byte(byte: u8) -> bool
     ensures { result ≡ is_quoted_byte byte }
@@ -78,15 +80,15 @@ fn is_quoted_byte(byte: u8) -> bool
     !matches!(byte, b'\n' | b'\r' | b'"' | b'\\')
 }
 
-/// The same, but for `,`, `:` and `=`.
+/// Returns the same, but for `,`, `:` and `=`.
 #[inline(always)]
 fn is_quoted_non_separator_byte(byte: u8) -> bool
     ensures { result ≡ is_quoted_byte_but_separator byte }
 {
-    is_quoted_byte(byte) && !is_separator(byte)
+    is_quoted_byte(byte) && !is_comma_colon_or_equals(byte)
 }
 
-/// Whether it is an upper-case letter.
+/// Returns whether it is an upper-case letter.
 #[inline(always)]
 pub fn is_upper(byte: u8) -> bool
     ensures { result ≡ is_upper byte }
@@ -94,7 +96,7 @@ pub fn is_upper(byte: u8) -> bool
     byte.is_ascii_uppercase()
 }
 
-/// Whether it is a letter or a digit.
+/// Returns whether it is a letter or a digit.
 #[inline(always)]
 fn is_alphanumeric(byte: u8) -> bool
     ensures { result ≡ is_alphanumeric byte }
@@ -102,7 +104,7 @@ fn is_alphanumeric(byte: u8) -> bool
     byte.is_ascii_digit() || is_upper(byte) || byte.is_ascii_lowercase()
 }
 
-/// Whether it may stand in a parameter's name.
+/// Returns whether it may stand in a parameter's name.
 #[inline(always)]
 fn is_parameter_name_byte(byte: u8) -> bool
     ensures { result ≡ is_byte_of_parameter_name byte }
@@ -110,7 +112,7 @@ fn is_parameter_name_byte(byte: u8) -> bool
     is_alphanumeric(byte) || byte == b'_'
 }
 
-/// Whether it may stand in a digest.
+/// Returns whether it may stand in a digest.
 #[inline(always)]
 fn is_digest_byte(byte: u8) -> bool
     ensures { result ≡ is_digest_byte byte }
@@ -118,7 +120,7 @@ fn is_digest_byte(byte: u8) -> bool
     is_alphanumeric(byte) || byte == b'+' || byte == b'/' || byte == b'='
 }
 
-/// How many bytes the pair has that begins the bytes, or none.
+/// Returns how many bytes the pair has that begins the bytes, or none.
 fn backslash_pair_len(bytes: &[u8]) -> usize
     ensures { result ≡ backslash_unit_size_by pair_size_of_unit bytes.now }
 {
@@ -131,7 +133,7 @@ fn backslash_pair_len(bytes: &[u8]) -> usize
     }
 }
 
-/// How many bytes the continuation has that begins the bytes, or none.
+/// Returns how many bytes the continuation has that begins the bytes, or none.
 fn continuation_len(bytes: &[u8]) -> usize
     ensures { result ≡ backslash_unit_size_by continuation_size_of_unit bytes.now }
 {
@@ -144,9 +146,9 @@ fn continuation_len(bytes: &[u8]) -> usize
     }
 }
 
-/// How many bytes the pair or continuation has that begins the bytes, or none.
-fn escape_len(bytes: &[u8]) -> usize
-    ensures { result ≡ backslash_unit_size_by escape_size_of_unit bytes.now }
+/// Returns how many bytes the pair or continuation has that begins the bytes, or none.
+fn pair_or_continuation_len(bytes: &[u8]) -> usize
+    ensures { result ≡ backslash_unit_size_by pair_or_continuation_size_of_unit bytes.now }
 {
     match bytes {
         [b'\\', rest @ ..] => match unit_of_backslash(rest) {
@@ -158,7 +160,7 @@ fn escape_len(bytes: &[u8]) -> usize
     }
 }
 
-/// How many bytes the unit has that begins the bytes behind a `"` that is never closed, or none.
+/// Returns how many bytes the unit has that begins the bytes behind a `"` that is never closed, or none.
 #[tactic(auto, using(crate::proofs::Reach::unclosed_quote_size_is_within_bytes))]
 fn unclosed_quote_unit_len(bytes: &[u8]) -> usize
     ensures value { result ≡ unclosed_quote_unit_size bytes.now }
@@ -174,7 +176,7 @@ fn unclosed_quote_unit_len(bytes: &[u8]) -> usize
     }
 }
 
-/// How many bytes the unit has that begins the bytes, or none.
+/// Returns how many bytes the unit has that begins the bytes, or none.
 #[tactic(auto, using(crate::proofs::Reach::run_unit_size_is_within_bytes))]
 #[inline(always)]
 fn run_unit_len(rule: ByteRunKind, bytes: &[u8]) -> usize
@@ -198,11 +200,11 @@ fn run_unit_len(rule: ByteRunKind, bytes: &[u8]) -> usize
         ) => backslash_pair_len(bytes),
         (ByteRunKind::Quote, [byte, ..]) if is_quoted_byte(*byte) => 1,
         (ByteRunKind::Clean, [byte, ..]) if is_quoted_non_separator_byte(*byte) => 1,
-        (ByteRunKind::Quote | ByteRunKind::Clean, _) => escape_len(bytes),
+        (ByteRunKind::Quote | ByteRunKind::Clean, _) => pair_or_continuation_len(bytes),
     }
 }
 
-/// How many bytes the units have that begin the bytes, one after another.
+/// Returns how many bytes the units have that begin the bytes, one after another.
 #[tactic(auto, unfolding(crate::specs::Part::leading_run_size))]
 #[inline(always)]
 pub fn leading_run_len(rule: ByteRunKind, bytes: &[u8]) -> usize
@@ -220,7 +222,7 @@ pub fn leading_run_len(rule: ByteRunKind, bytes: &[u8]) -> usize
     len
 }
 
-/// How many bytes a line has behind a `"` that is never closed, without its line end.
+/// Returns how many bytes a line has behind a `"` that is never closed, without its line end.
 pub fn unclosed_quote_len(bytes: &[u8]) -> usize
     ensures value { result ≡ reach_of_units unclosed_quote_unit_size 0 bytes.now }
     ensures within { result ≤ length bytes.now }
@@ -236,7 +238,7 @@ pub fn unclosed_quote_len(bytes: &[u8]) -> usize
     len
 }
 
-/// Whether the byte begins the bytes.
+/// Returns whether the byte begins the bytes.
 pub fn begins_with_given_byte(byte: u8, bytes: &[u8]) -> bool
     ensures { result ≡ has_given_first_byte byte bytes.now }
 {
@@ -246,10 +248,10 @@ pub fn begins_with_given_byte(byte: u8, bytes: &[u8]) -> bool
     }
 }
 
-/// How many bytes have the quotes that begin the bytes and a run between them, or none.
-#[tactic(auto, unfolding(crate::specs::Part::quoted_run_size))]
-fn quoted_run_len(rule: ByteRunKind, bytes: &[u8]) -> usize
-    ensures value { result ≡ quoted_run_size rule bytes.now }
+/// Returns how many bytes have the quotes that begin the bytes and a run between them, or none.
+#[tactic(auto, unfolding(crate::specs::Part::quotes_and_run_between_size))]
+fn quotes_and_run_between_len(rule: ByteRunKind, bytes: &[u8]) -> usize
+    ensures value { result ≡ quotes_and_run_between_size rule bytes.now }
     ensures within { result ≤ length bytes.now }
 {
     match bytes {
@@ -265,27 +267,27 @@ fn quoted_run_len(rule: ByteRunKind, bytes: &[u8]) -> usize
     }
 }
 
-/// How many bytes the closed quoted part has that begins the bytes, or none.
+/// Returns how many bytes the closed quoted part has that begins the bytes, or none.
 pub fn closed_quote_len(bytes: &[u8]) -> usize
-    ensures value { result ≡ quoted_run_size rules.Quote bytes.now }
+    ensures value { result ≡ quotes_and_run_between_size rules.Quote bytes.now }
     ensures within { result ≤ length bytes.now }
 {
-    quoted_run_len(ByteRunKind::Quote, bytes)
+    quotes_and_run_between_len(ByteRunKind::Quote, bytes)
 }
 
-/// How many bytes the unit of an argument has that begins the bytes, or none.
+/// Returns how many bytes the unit of an argument has that begins the bytes, or none.
 #[inline(always)]
 fn argument_unit_len(bytes: &[u8]) -> usize
     ensures value { result ≡ argument_unit_size bytes.now }
     ensures within { result ≤ length bytes.now }
 {
     match run_unit_len(ByteRunKind::Path, bytes) {
-        0 => quoted_run_len(ByteRunKind::Clean, bytes),
+        0 => quotes_and_run_between_len(ByteRunKind::Clean, bytes),
         len => len,
     }
 }
 
-/// How many bytes the units of an argument have that begin the bytes, one after another.
+/// Returns how many bytes the units of an argument have that begin the bytes, one after another.
 #[tactic(auto, unfolding(crate::specs::Part::argument_units_size))]
 pub fn argument_units_len(bytes: &[u8]) -> usize
     ensures value { result ≡ argument_units_size bytes.now }
@@ -309,17 +311,16 @@ pub fn is_whole_argument(text: &[u8]) -> bool
     argument_units_len(text) == text.len()
 }
 
-/// How many bytes the quoted part that begins the bytes has up to a `,`, `:` or `=` in it, or none.
-#[tactic(auto, unfolding(crate::specs::Part::quote_before_separator_size))]
-pub fn quote_before_separator_len(bytes: &[u8]) -> usize
-    ensures value { result ≡ quote_before_separator_size bytes.now }
+/// Returns how many bytes the quoted part that begins the bytes has up to a `,`, `:` or `=` in it, or none.
+#[tactic(auto, unfolding(crate::specs::Part::quoted_front_to_inner_separator_size))]
+pub fn quoted_front_to_inner_separator_len(bytes: &[u8]) -> usize
+    ensures value { result ≡ quoted_front_to_inner_separator_size bytes.now }
     ensures within { result ≤ length bytes.now }
 {
     match bytes {
         [_, rest @ ..]
-            if quoted_run_len(ByteRunKind::Clean, bytes) == 0 && closed_quote_len(bytes) != 0 => {
-            leading_run_len(ByteRunKind::Clean, rest) + 1
-        }
+            if quotes_and_run_between_len(ByteRunKind::Clean, bytes) == 0
+                && closed_quote_len(bytes) != 0 => { leading_run_len(ByteRunKind::Clean, rest) + 1 }
         _ => 0,
     }
 }

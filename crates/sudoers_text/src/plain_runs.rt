@@ -4,9 +4,9 @@ ghost use Rattle.std.specs.Prelude.{◌≡◌, ◌+◌, ◌<◌, ◌^◌, ◌==�
 ghost use Rattle.sudoers_text.specs.Unit.{is_empty};
 ghost use Rattle.sudoers_text.specs.internal.Run.{is_plain_unit_byte, plain_prefix_of_bytes, is_blank_or_sign_byte, is_id_position_after_run};
 
-use crate::text_units::{LeftContext, is_blank, is_prefix_sign, is_separator};
+use crate::text_units::{LeftContext, is_blank, is_comma_colon_or_equals, is_sign_before_id};
 
-/// Whether the byte is a unit of its own, wherever it stands behind a line's beginning, and asks for nothing left of it.
+/// Returns whether the byte is a unit of its own, wherever it stands behind a line's beginning, and asks for nothing left of it.
 #[inline(always)]
 fn is_plain_byte(byte: u8) -> bool
     ensures { result ≡ is_plain_unit_byte byte }
@@ -14,7 +14,7 @@ fn is_plain_byte(byte: u8) -> bool
     !matches!(byte, b'\n' | b'\r' | b'\\' | b'"' | b'#' | b'>')
 }
 
-/// The plain bytes that begin the text, up to the first that is none.
+/// Returns the plain bytes that begin the text, up to the first that is none.
 #[inline(always)]
 fn take_plain_prefix(text: &[u8]) -> &[u8]
     ensures { result.now ≡ plain_prefix_of_bytes text.now }
@@ -27,12 +27,12 @@ fn take_plain_prefix(text: &[u8]) -> &[u8]
     text
 }
 
-/// Whether an ID may begin behind the byte where it may before it.
+/// Returns whether an ID may begin behind the byte where it may before it.
 #[inline(always)]
 fn is_blank_or_sign(byte: u8) -> bool
     ensures { result ≡ is_blank_or_sign_byte byte }
 {
-    is_blank(byte) || is_prefix_sign(byte)
+    is_blank(byte) || is_sign_before_id(byte)
 }
 
 /// Returns whether an ID may begin behind plain bytes, where `item` says whether it may before them.
@@ -44,7 +44,7 @@ fn may_id_begin_after_run(item: bool, run: &[u8]) -> bool
     while end > 0 {
         let byte = run[end - 1];
         if !is_blank_or_sign(byte) {
-            return is_separator(byte);
+            return is_comma_colon_or_equals(byte);
         }
         end -= 1;
     }
@@ -52,10 +52,10 @@ fn may_id_begin_after_run(item: bool, run: &[u8]) -> bool
 }
 
 impl LeftContext {
-    /// The plain bytes that begin the text and can be passed at once. Before the line has begun there are none: a blank
+    /// Returns the plain bytes that begin the text and can be passed at once. Before the line has begun there are none: a blank
     /// counts there for nothing.
     #[inline(always)]
-    pub fn take_plain_run<'a>(self, text: &'a [u8]) -> &'a [u8]
+    pub fn find_plain_run_to_pass<'a>(self, text: &'a [u8]) -> &'a [u8]
         ensures { result.now ≡ (if self.begun == 0 then [] else plain_prefix_of_bytes text.now) }
     {
         if self.begun == 0 {
@@ -65,7 +65,7 @@ impl LeftContext {
         }
     }
 
-    /// What stands left behind plain bytes.
+    /// Returns what stands left after plain bytes.
     #[inline(always)]
     pub fn pass_plain_run(self, run: &[u8]) -> Self
         requires { self.begun + length run.now < 2 ^ 64 }

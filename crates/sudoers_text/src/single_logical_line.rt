@@ -5,7 +5,7 @@ ghost use Rattle.sudoers_text.specs.Whole.{is_logical_line};
 
 use crate::cutting::{find_first_nul, find_logical_line_end};
 
-/// Whether the bytes are one logical line with which nothing is wrong, limits aside.
+/// Returns whether the bytes are one logical line with which nothing is wrong, limits aside.
 pub fn is_logical_line(text: &[u8]) -> bool
     ensures { result ≡ is_logical_line text.now }
 {

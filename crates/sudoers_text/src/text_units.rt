@@ -1,14 +1,14 @@
 //! The units that a line is made of.
 
 ghost use Rattle.std.specs.Prelude.{◌≡◌, ℕ, ◌+◌, ◌≤◌, List, [], ◌∷◌, ◌++◌, length, drop, take, slice_range, Option, Some, None, MatchOption, IfSome, Bool, ◌==◌, ◌&&◌, ◌||◌, true, false, if◌then◌else◌, ◌<◌, ◌^◌};
-ghost use Rattle.sudoers_text.specs.Unit.{LineUnit, bytes_of_unit, bytes_up_to_line_end, rest_of_quoted_part, begins_lf, line_end_size, unit_after_backslash, unit_at, is_gap_unit, is_id_position_after_units, is_blank, begins_line_end, has_path_after_blanks, has_blanks_and_path, is_rest_of_hash_include, begins_digit, is_sign_before_item, is_separator};
+ghost use Rattle.sudoers_text.specs.Unit.{LineUnit, bytes_of_unit, bytes_up_to_line_end, rest_of_quoted_part, begins_lf, line_end_size, unit_after_backslash, unit_at, is_gap_unit, is_id_position_after_units, is_blank, begins_line_end, has_path_after_blanks, has_blanks_and_path, is_rest_of_hash_include, begins_digit, is_sign_byte_before_id, is_comma_colon_or_equals};
 ghost use Rattle.sudoers_text.specs.Ended.{ends_in_lf};
 ghost use Rattle.sudoers_text.specs.Line.{has_open_last_unit, ends_in_unpaired_backslash};
 ghost use Rattle.sudoers_text.specs.internal.Left.{LeftAgreesWithUnits, LeftDescribesUnits, UnitStandsAt, model_of_unit, model_of_unit_option};
 
 use memchr::memchr;
 
-/// Whether it is a space or a tab.
+/// Returns whether it is a space or a tab.
 #[inline(always)]
 pub fn is_blank(byte: u8) -> bool
     ensures { result ≡ is_blank byte }
@@ -16,23 +16,23 @@ pub fn is_blank(byte: u8) -> bool
     byte == b' ' || byte == b'\t'
 }
 
-/// Whether it is `!`, `(` or `%`.
+/// Returns whether it is `!`, `(` or `%`.
 #[inline(always)]
-pub fn is_prefix_sign(byte: u8) -> bool
-    ensures { result ≡ is_sign_before_item byte }
+pub fn is_sign_before_id(byte: u8) -> bool
+    ensures { result ≡ is_sign_byte_before_id byte }
 {
     byte == b'!' || byte == b'(' || byte == b'%'
 }
 
-/// Whether it is `,`, `:` or `=`.
+/// Returns whether it is `,`, `:` or `=`.
 #[inline(always)]
-pub fn is_separator(byte: u8) -> bool
-    ensures { result ≡ is_separator byte }
+pub fn is_comma_colon_or_equals(byte: u8) -> bool
+    ensures { result ≡ is_comma_colon_or_equals byte }
 {
     byte == b',' || byte == b':' || byte == b'='
 }
 
-/// Whether LF or CR LF begins the text.
+/// Returns whether LF or CR LF begins the text.
 #[inline(always)]
 pub fn begins_line_end(text: &[u8]) -> bool
     ensures { result ≡ begins_line_end text.now }
@@ -40,7 +40,7 @@ pub fn begins_line_end(text: &[u8]) -> bool
     matches!(text, [b'\n', ..] | [b'\r', b'\n', ..])
 }
 
-/// Whether a decimal digit begins the text.
+/// Returns whether a decimal digit begins the text.
 pub fn begins_digit(text: &[u8]) -> bool
     ensures { result ≡ begins_digit text.now }
 {
@@ -50,7 +50,7 @@ pub fn begins_digit(text: &[u8]) -> bool
     }
 }
 
-/// Whether blanks and then a byte that can begin a path begin the text.
+/// Returns whether blanks and then a byte that can begin a path begin the text.
 fn begins_blanks_and_path(text: &[u8]) -> bool
     ensures { result ≡ has_blanks_and_path text.now }
 {
@@ -60,7 +60,7 @@ fn begins_blanks_and_path(text: &[u8]) -> bool
     }
 }
 
-/// Whether a byte that can begin a path begins the text, behind any blanks.
+/// Returns whether a byte that can begin a path begins the text, behind any blanks.
 fn begins_path_after_blanks(text: &[u8]) -> bool
     ensures { result ≡ has_path_after_blanks text.now }
 {
@@ -72,7 +72,7 @@ fn begins_path_after_blanks(text: &[u8]) -> bool
     false
 }
 
-/// Whether what follows a `#` makes an include of it.
+/// Returns whether what follows a `#` makes an include of it.
 pub fn is_hash_include_tail(text: &[u8]) -> bool
     ensures { result ≡ is_rest_of_hash_include text.now }
 {
@@ -106,7 +106,7 @@ pub struct LeftContext {
     pub begun: usize,
 }
 
-/// The bytes up to the line end.
+/// Returns the bytes up to the line end.
 pub fn take_up_to_line_end(text: &[u8]) -> &[u8]
     ensures { result.now ≡ bytes_up_to_line_end text.now }
 {
@@ -117,7 +117,7 @@ pub fn take_up_to_line_end(text: &[u8]) -> &[u8]
     }
 }
 
-/// How many bytes the line end has that begins the text, or none.
+/// Returns how many bytes the line end has that begins the text, or none.
 pub fn line_end_len(text: &[u8]) -> usize
     ensures { result ≡ line_end_size text.now }
 {
@@ -128,15 +128,15 @@ pub fn line_end_len(text: &[u8]) -> usize
     }
 }
 
-/// Whether LF begins the text.
+/// Returns whether LF begins the text.
 fn begins_lf(text: &[u8]) -> bool
     ensures { result ≡ begins_lf text.now }
 {
     matches!(text, [b'\n', ..])
 }
 
-/// What is left of a quoted part: up to its `"`, or up to a line end that is no continuation, or all.
-fn take_quoted_part(text: &[u8]) -> &[u8]
+/// Returns what is left of a quoted part: up to its `"`, or up to a line end that is no continuation, or all.
+fn take_rest_of_quoted_part(text: &[u8]) -> &[u8]
     ensures { result.now ≡ rest_of_quoted_part false text.now }
 {
     let mut behind_backslash = false;
@@ -154,14 +154,14 @@ fn take_quoted_part(text: &[u8]) -> &[u8]
     text
 }
 
-/// Whether a quoted part ends in a continuation or in a lone backslash.
-fn ends_in_open_backslash(bytes: &[u8]) -> bool
+/// Returns whether a quoted part ends in a continuation or in a lone backslash.
+fn ends_in_lf_or_lone_backslash(bytes: &[u8]) -> bool
     ensures { result ≡ (ends_in_lf bytes.now || ends_in_unpaired_backslash false bytes.now) }
 {
     ends_in_lf(bytes) || ends_in_lone_backslash(bytes)
 }
 
-/// Whether the last byte is LF.
+/// Returns whether the last byte is LF.
 pub fn ends_in_lf(bytes: &[u8]) -> bool
     ensures { result ≡ ends_in_lf bytes.now }
 {
@@ -171,7 +171,7 @@ pub fn ends_in_lf(bytes: &[u8]) -> bool
     }
 }
 
-/// Whether the last byte is a backslash that is in no pair.
+/// Returns whether the last byte is a backslash that is in no pair.
 fn ends_in_lone_backslash(bytes: &[u8]) -> bool
     ensures { result ≡ ends_in_unpaired_backslash false bytes.now }
 {
@@ -186,7 +186,7 @@ fn ends_in_lone_backslash(bytes: &[u8]) -> bool
     behind_backslash
 }
 
-/// Whether the text ends behind a unit, in a continuation or in a lone backslash.
+/// Returns whether the text ends behind a unit, in a continuation or in a lone backslash.
 #[inline]
 fn ends_open_after_unit(text: &[u8], at: usize, unit: &TextUnit<'_>) -> bool
     ensures { at + length (bytes_of_unit (model_of_unit unit.now)) ≡ length text.now → (before : List LineUnit)
@@ -195,7 +195,7 @@ fn ends_open_after_unit(text: &[u8], at: usize, unit: &TextUnit<'_>) -> bool
     unit.len() == text.len() - at.min(text.len()) && unit.leaves_line_open()
 }
 
-/// What a backslash begins, by the bytes behind it.
+/// Returns what a backslash begins, by the bytes behind it.
 pub fn unit_of_backslash(rest: &[u8]) -> TextUnit<'_>
     ensures { model_of_unit result ≡ unit_after_backslash rest.now }
 {
@@ -207,14 +207,14 @@ pub fn unit_of_backslash(rest: &[u8]) -> TextUnit<'_>
     }
 }
 
-/// The unit that begins the text. None does at a line end and at the text's end.
+/// Returns the unit that begins the text. None does at a line end and at the text's end.
 pub fn unit_at(left: LeftContext, text: &[u8]) -> Option<TextUnit<'_>>
     ensures { (before : List LineUnit) → LeftAgreesWithUnits left before → model_of_unit_option result ≡ unit_at before text.now }
 {
     match text {
         [] | [b'\n', ..] | [b'\r', b'\n', ..] => None,
         [b'\\', rest @ ..] => Some(unit_of_backslash(rest)),
-        [b'"', rest @ ..] => Some(TextUnit::Quoted(take_quoted_part(rest))),
+        [b'"', rest @ ..] => Some(TextUnit::Quoted(take_rest_of_quoted_part(rest))),
         [b'#', rest @ ..]
             if !(left.item && begins_digit(rest))
                 && !(left.begun == 0 && is_hash_include_tail(rest)) => {
@@ -225,7 +225,7 @@ pub fn unit_at(left: LeftContext, text: &[u8]) -> Option<TextUnit<'_>>
 }
 
 impl TextUnit<'_> {
-    /// How many bytes it has.
+    /// Returns how many bytes it has.
     pub fn len(&self) -> usize
         ensures { result ≡ length (bytes_of_unit (model_of_unit self.now)) }
     {
@@ -239,19 +239,19 @@ impl TextUnit<'_> {
         }
     }
 
-    /// Whether a line that ends behind it is open.
+    /// Returns whether a line that ends behind it is open.
     fn leaves_line_open(&self) -> bool
         ensures { (before : List LineUnit) → result ≡ has_open_last_unit (model_of_unit self.now ∷ before) }
     {
         match self {
             TextUnit::Continuation(_) => true,
-            TextUnit::Quoted(bytes) => ends_in_open_backslash(bytes),
+            TextUnit::Quoted(bytes) => ends_in_lf_or_lone_backslash(bytes),
             TextUnit::Byte(byte) => *byte == b'\\',
             _ => false,
         }
     }
 
-    /// Whether it is a blank or a continuation.
+    /// Returns whether it is a blank or a continuation.
     #[inline]
     fn is_blank_or_continuation(&self) -> bool
         ensures { result ≡ is_gap_unit (model_of_unit self.now) }
@@ -265,7 +265,7 @@ impl TextUnit<'_> {
 }
 
 impl LeftContext {
-    /// At a line's beginning.
+    /// Returns what stands left of a line's beginning.
     pub fn left_of_line_start() -> Self
         ensures { (text : List ℕ) (at : ℕ) → LeftDescribesUnits text at result [] }
     {
@@ -276,7 +276,7 @@ impl LeftContext {
         }
     }
 
-    /// What stands left behind a unit.
+    /// Returns what stands left after a unit.
     #[inline]
     pub fn pass_unit(self, text: &[u8], at: usize, unit: &TextUnit<'_>) -> Self
         requires within { self.begun ≤ at }
@@ -291,7 +291,7 @@ impl LeftContext {
         }
     }
 
-    /// How many bytes the line has behind a unit, without the blanks and continuations that it begins with.
+    /// Returns how many bytes the line has behind a unit, without the blanks and continuations that it begins with.
     #[inline]
     fn begun_line_len_after(self, unit: &TextUnit<'_>) -> usize
         requires { self.begun + length (bytes_of_unit (model_of_unit unit.now)) < 2 ^ 64 }
@@ -305,7 +305,7 @@ impl LeftContext {
         }
     }
 
-    /// Whether an ID may begin behind a unit.
+    /// Returns whether an ID may begin behind a unit.
     #[inline]
     fn may_id_begin_after(self, text: &[u8], at: usize, unit: &TextUnit<'_>) -> bool
         requires within { self.begun ≤ at }
@@ -315,9 +315,9 @@ impl LeftContext {
     {
         match unit {
             TextUnit::Continuation(_) => self.item,
-            TextUnit::Byte(byte) if is_blank(*byte) || is_prefix_sign(*byte) => self.item,
+            TextUnit::Byte(byte) if is_blank(*byte) || is_sign_before_id(*byte) => self.item,
             TextUnit::Byte(b'>') => &text[at - self.begun..at] == b"Defaults".as_slice(),
-            TextUnit::Byte(byte) => is_separator(*byte),
+            TextUnit::Byte(byte) => is_comma_colon_or_equals(*byte),
             _ => false,
         }
     }

@@ -3,20 +3,20 @@
 ghost use Rattle.std.specs.Prelude.{◌≡◌, ◌<◌, ◌≤◌, List, [], ◌∷◌, ◌==◌, false, length, nat_lt, IsTrue};
 ghost use Rattle.sudoers_text.specs.declared.part.ByteRunKind.TheVariants as rules;
 ghost use Rattle.sudoers_text.specs.declared.token.TokenKind.TheVariants as kinds;
-ghost use Rattle.sudoers_text.specs.Unit.{is_separator};
+ghost use Rattle.sudoers_text.specs.Unit.{is_comma_colon_or_equals};
 ghost use Rattle.sudoers_text.specs.Part.{is_punct, size_of_one_matching_byte};
 ghost use Rattle.sudoers_text.specs.Piece.{TokenForm, Mark, Operator, Number, NonUnixGroup, Run, CommandPath, QuotedPart, CommentPart, IncludeWord, FirstWord, Argument, QuotedRest};
 ghost use Rattle.sudoers_text.specs.Context.{is_scope_sign, is_parameter_mark, is_comma, token_forms_in_word_lists, token_forms_in_command_lists, token_forms_of_parameters, forms_of_first_token, token_forms_in_scope, token_forms_in_context};
 ghost use Rattle.sudoers_text.specs.Token.{bad_token_size};
 ghost use Rattle.sudoers_text.specs.Found.{kind_and_size_of_token};
 
-use crate::context::{ScopeMemberKind, TokenContext};
+use crate::context::{ScopeNamesOrCommands, TokenContext};
 use crate::part::{ByteRunKind, closed_quote_len, is_punct, leading_run_len};
-use crate::text_units::{LeftContext, is_separator};
+use crate::text_units::{LeftContext, is_comma_colon_or_equals};
 use crate::token::{Mode, TokenKind};
 use crate::token_lengths::{
-    argument_len, bad_token_len, command_path_len, comment_len, hash_include_word_len,
-    leading_keyword_len, non_unix_group_len, numeric_id_len, plus_or_minus_equals_len,
+    argument_len, bad_token_len, command_path_len, comment_len, defaults_or_at_include_word_len,
+    hash_include_word_len, non_unix_group_len, numeric_id_len, plus_or_minus_equals_len,
     quoted_argument_rest_len,
 };
 
@@ -39,7 +39,7 @@ fn make_bad_token(bytes: &[u8]) -> TokenKindAndLen
     }
 }
 
-/// Where a comment may stand and nothing else.
+/// Finds a token where only a comment may stand.
 fn find_comment_or_bad_token(left: LeftContext, bytes: &[u8]) -> TokenKindAndLen
     ensures found { (result.kind, result.len) ≡ kind_and_size_of_token (CommentPart ∷ []) left.item (left.begun == 0) bytes.now }
     ensures within { result.len ≤ length bytes.now }
@@ -55,7 +55,7 @@ fn find_comment_or_bad_token(left: LeftContext, bytes: &[u8]) -> TokenKindAndLen
     }
 }
 
-/// A run of the rule, or what else may stand there.
+/// Finds a run of the rule, or what else may stand there.
 fn find_quoted_or_comment_token(left: LeftContext, kind: TokenKind, bytes: &[u8]) -> TokenKindAndLen
     ensures found { (result.kind, result.len) ≡ kind_and_size_of_token (QuotedPart kind ∷ CommentPart ∷ []) left.item (left.begun == 0) bytes.now }
     ensures within { result.len ≤ length bytes.now }
@@ -68,7 +68,7 @@ fn find_quoted_or_comment_token(left: LeftContext, kind: TokenKind, bytes: &[u8]
     }
 }
 
-/// Among words.
+/// Finds the token that begins the bytes among words.
 fn find_token_among_words(left: LeftContext, bytes: &[u8]) -> TokenKindAndLen
     ensures found { (result.kind, result.len) ≡ kind_and_size_of_token token_forms_in_word_lists left.item (left.begun == 0) bytes.now }
     ensures within { result.len ≤ length bytes.now }
@@ -103,7 +103,7 @@ fn find_token_among_words(left: LeftContext, bytes: &[u8]) -> TokenKindAndLen
     find_quoted_or_comment_token(left, TokenKind::Quoted, bytes)
 }
 
-/// Whether one of `!`, `=`, `:`, `,`, `(` and `)` begins the bytes.
+/// Returns whether one of `!`, `=`, `:`, `,`, `(` and `)` begins the bytes.
 #[inline(always)]
 fn begins_punct(bytes: &[u8]) -> bool
     ensures value { result ≡ nat_lt 0 (size_of_one_matching_byte is_punct bytes.now) }
@@ -115,7 +115,7 @@ fn begins_punct(bytes: &[u8]) -> bool
     }
 }
 
-/// Among commands.
+/// Finds the token that begins the bytes among commands.
 #[inline(always)]
 fn find_token_among_commands(left: LeftContext, bytes: &[u8]) -> TokenKindAndLen
     ensures found { (result.kind, result.len) ≡ kind_and_size_of_token token_forms_in_command_lists left.item (left.begun == 0) bytes.now }
@@ -132,7 +132,7 @@ fn find_token_among_commands(left: LeftContext, bytes: &[u8]) -> TokenKindAndLen
     }
 }
 
-/// Among parameters.
+/// Finds the token that begins the bytes among parameters.
 fn find_token_among_parameters(left: LeftContext, bytes: &[u8]) -> TokenKindAndLen
     ensures found { (result.kind, result.len) ≡ kind_and_size_of_token token_forms_of_parameters left.item (left.begun == 0) bytes.now }
     ensures within { result.len ≤ length bytes.now }
@@ -160,7 +160,7 @@ fn find_token_among_parameters(left: LeftContext, bytes: &[u8]) -> TokenKindAndL
     find_comment_or_bad_token(left, bytes)
 }
 
-/// Whether `!`, `,` or `=` begins the bytes.
+/// Returns whether `!`, `,` or `=` begins the bytes.
 fn begins_parameter_mark(bytes: &[u8]) -> bool
     ensures value { result ≡ nat_lt 0 (size_of_one_matching_byte is_parameter_mark bytes.now) }
     ensures some { IsTrue result → 0 < length bytes.now }
@@ -168,7 +168,7 @@ fn begins_parameter_mark(bytes: &[u8]) -> bool
     matches!(bytes, [b'!' | b',' | b'=', ..])
 }
 
-/// The first of a line.
+/// Finds the first token of a line.
 fn find_first_token_of_line(mode: Mode, left: LeftContext, bytes: &[u8]) -> TokenKindAndLen
     ensures found { (result.kind, result.len) ≡ kind_and_size_of_token (forms_of_first_token mode) left.item (left.begun == 0) bytes.now }
     ensures within { result.len ≤ length bytes.now }
@@ -182,17 +182,17 @@ fn find_first_token_of_line(mode: Mode, left: LeftContext, bytes: &[u8]) -> Toke
     }
     match mode {
         Mode::Words | Mode::Commands => find_token_among_words(left, bytes),
-        Mode::Parameters => find_first_token_of_defaults(left, bytes),
+        Mode::Parameters => find_first_token_of_defaults_line(left, bytes),
     }
 }
 
-/// The first of a line of parameters, that is no `#include`.
-fn find_first_token_of_defaults(left: LeftContext, bytes: &[u8]) -> TokenKindAndLen
+/// Finds the first token of a line of parameters that is no `#include`.
+fn find_first_token_of_defaults_line(left: LeftContext, bytes: &[u8]) -> TokenKindAndLen
     ensures found { (result.kind, result.len)
         ≡ kind_and_size_of_token (FirstWord ∷ token_forms_of_parameters) left.item (left.begun == 0) bytes.now }
     ensures within { result.len ≤ length bytes.now }
 {
-    let len = leading_keyword_len(bytes);
+    let len = defaults_or_at_include_word_len(bytes);
     if len > 0 {
         TokenKindAndLen {
             kind: TokenKind::Word,
@@ -203,7 +203,7 @@ fn find_first_token_of_defaults(left: LeftContext, bytes: &[u8]) -> TokenKindAnd
     }
 }
 
-/// The path of an include.
+/// Finds the path of an include.
 fn find_include_path_token(left: LeftContext, bytes: &[u8]) -> TokenKindAndLen
     ensures found { (result.kind, result.len)
         ≡ kind_and_size_of_token (QuotedPart kinds.Quoted ∷ Run kinds.Word rules.IncludePath ∷ CommentPart ∷ []) left.item (left.begun == 0) bytes.now }
@@ -226,7 +226,7 @@ fn find_include_path_token(left: LeftContext, bytes: &[u8]) -> TokenKindAndLen
     find_comment_or_bad_token(left, bytes)
 }
 
-/// A digest, or a command.
+/// Finds a digest or a command.
 fn find_digest_or_command_token(left: LeftContext, bytes: &[u8]) -> TokenKindAndLen
     ensures found { (result.kind, result.len)
         ≡ kind_and_size_of_token (Run kinds.Digest rules.Digest ∷ token_forms_in_command_lists) left.item (left.begun == 0) bytes.now }
@@ -243,24 +243,24 @@ fn find_digest_or_command_token(left: LeftContext, bytes: &[u8]) -> TokenKindAnd
     }
 }
 
-/// Whether `,`, `:` or `=` begins the bytes.
-fn begins_separator(bytes: &[u8]) -> bool
-    ensures value { result ≡ nat_lt 0 (size_of_one_matching_byte is_separator bytes.now) }
+/// Returns whether `,`, `:` or `=` begins the bytes.
+fn begins_comma_colon_or_equals(bytes: &[u8]) -> bool
+    ensures value { result ≡ nat_lt 0 (size_of_one_matching_byte is_comma_colon_or_equals bytes.now) }
     ensures some { IsTrue result → 0 < length bytes.now }
 {
     match bytes {
-        [byte, ..] => is_separator(*byte),
+        [byte, ..] => is_comma_colon_or_equals(*byte),
         [] => false,
     }
 }
 
-/// Among arguments.
+/// Finds the token that begins the bytes among arguments.
 fn find_token_among_arguments(left: LeftContext, bytes: &[u8]) -> TokenKindAndLen
     ensures found { (result.kind, result.len)
-        ≡ kind_and_size_of_token (Mark is_separator ∷ Argument ∷ CommentPart ∷ []) left.item (left.begun == 0) bytes.now }
+        ≡ kind_and_size_of_token (Mark is_comma_colon_or_equals ∷ Argument ∷ CommentPart ∷ []) left.item (left.begun == 0) bytes.now }
     ensures within { result.len ≤ length bytes.now }
 {
-    if begins_separator(bytes) {
+    if begins_comma_colon_or_equals(bytes) {
         return TokenKindAndLen {
             kind: TokenKind::Punct,
             len: 1,
@@ -276,7 +276,7 @@ fn find_token_among_arguments(left: LeftContext, bytes: &[u8]) -> TokenKindAndLe
     find_comment_or_bad_token(left, bytes)
 }
 
-/// Inside a quoted part of an argument.
+/// Finds the token that begins the bytes inside a quoted part of an argument.
 fn find_token_in_quoted_argument(bytes: &[u8]) -> TokenKindAndLen
     ensures found { (result.kind, result.len) ≡ kind_and_size_of_token (QuotedRest ∷ []) false false bytes.now }
     ensures within { result.len ≤ length bytes.now }
@@ -292,7 +292,7 @@ fn find_token_in_quoted_argument(bytes: &[u8]) -> TokenKindAndLen
     }
 }
 
-/// The sign of a scope.
+/// Finds the sign of a scope.
 fn find_scope_sign_token(bytes: &[u8]) -> TokenKindAndLen
     ensures found { (result.kind, result.len) ≡ kind_and_size_of_token (Mark is_scope_sign ∷ []) false false bytes.now }
     ensures within { result.len ≤ length bytes.now }
@@ -306,7 +306,7 @@ fn find_scope_sign_token(bytes: &[u8]) -> TokenKindAndLen
     }
 }
 
-/// The value of a parameter.
+/// Finds the value of a parameter.
 fn find_parameter_value_token(left: LeftContext, bytes: &[u8]) -> TokenKindAndLen
     ensures found { (result.kind, result.len)
         ≡ kind_and_size_of_token (QuotedPart kinds.Value ∷ Run kinds.Value rules.Value ∷ Mark is_comma ∷ CommentPart ∷ []) left.item (left.begun == 0) bytes.now }
@@ -336,7 +336,7 @@ fn find_parameter_value_token(left: LeftContext, bytes: &[u8]) -> TokenKindAndLe
 }
 
 impl TokenContext {
-    /// The token with which the bytes begin, where this may stand there.
+    /// Returns the token with which the bytes begin, where this may stand there.
     pub fn find_token_in_context(self, left: LeftContext, bytes: &[u8]) -> TokenKindAndLen
         ensures found { (result.kind, result.len) ≡ kind_and_size_of_token (token_forms_in_context self) left.item (left.begun == 0) bytes.now }
         ensures within { result.len ≤ length bytes.now }
@@ -348,12 +348,14 @@ impl TokenContext {
             | TokenContext::Hosts
             | TokenContext::OptionValue
             | TokenContext::Parentheses
-            | TokenContext::Scope(ScopeMemberKind::Names) => find_token_among_words(left, bytes),
+            | TokenContext::Scope(ScopeNamesOrCommands::Names) => find_token_among_words(
+                left, bytes,
+            ),
             TokenContext::Commands
             | TokenContext::BehindOption
             | TokenContext::BehindTag
             | TokenContext::BehindDigestKind
-            | TokenContext::Scope(ScopeMemberKind::Commands) => find_token_among_commands(
+            | TokenContext::Scope(ScopeNamesOrCommands::Commands) => find_token_among_commands(
                 left, bytes,
             ),
             TokenContext::Digest => find_digest_or_command_token(left, bytes),

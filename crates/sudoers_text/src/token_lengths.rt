@@ -1,18 +1,18 @@
 //! The pieces of a line: how many bytes the longest has that begins the bytes.
 
 ghost use Rattle.std.specs.Prelude.{◌≡◌, ◌==◌, ◌+◌, ◌<◌, ◌≤◌, ◌^◌, length, true};
-ghost use Rattle.sudoers_text.specs.Piece.{plus_or_minus_equals_size, has_host_or_runas_sign, begins_defaults, leading_keyword_size, quoted_argument_rest_size};
+ghost use Rattle.sudoers_text.specs.Piece.{plus_or_minus_equals_size, has_host_or_runas_sign, begins_defaults, defaults_or_at_include_word_size, quoted_argument_rest_size};
 ghost use Rattle.sudoers_text.specs.Token.{bad_token_size};
 ghost use Rattle.sudoers_text.specs.Found.{size_with_prefix, hash_id_size, optional_colon_id_size, numeric_id_size, colon_and_word_size, non_unix_group_size, command_path_size, argument_size, comment_size_at, hash_include_size_at};
 
 use crate::part::{
     ByteRunKind, argument_units_len, begins_with_given_byte, closed_quote_len, leading_run_len,
-    quote_before_separator_len, unclosed_quote_len,
+    quoted_front_to_inner_separator_len, unclosed_quote_len,
 };
 use crate::text_units::{LeftContext, begins_digit, is_hash_include_tail, take_up_to_line_end};
 use crate::word::is_at_sign_include_word;
 
-/// With a prefix of so many bytes, where there is any.
+/// Returns the length with that of a prefix, if there is any length.
 #[inline(always)]
 fn add_prefix_to_len(prefix: usize, len: usize) -> usize
     requires { prefix + len < 2 ^ 64 }
@@ -21,7 +21,7 @@ fn add_prefix_to_len(prefix: usize, len: usize) -> usize
     if len == 0 { 0 } else { prefix + len }
 }
 
-/// `#` and digits. Item: an ID may begin there.
+/// Returns the length of `#` and digits, if an ID may begin there, as `item` says.
 #[tactic(auto, unfolding(crate::specs::Found::hash_id_size))]
 #[inline(always)]
 fn hash_id_len(item: bool, bytes: &[u8]) -> usize
@@ -37,7 +37,7 @@ fn hash_id_len(item: bool, bytes: &[u8]) -> usize
     }
 }
 
-/// The same, or behind `:`.
+/// Returns that length, or the one after a `:`.
 #[tactic(auto, unfolding(crate::specs::Found::optional_colon_id_size))]
 #[inline(always)]
 fn optional_colon_id_len(item: bool, bytes: &[u8]) -> usize
@@ -50,7 +50,7 @@ fn optional_colon_id_len(item: bool, bytes: &[u8]) -> usize
     }
 }
 
-/// A number: `#`, `%#` or `%:#`, and digits. Item: an ID may begin there.
+/// Returns the length of a number: `#`, `%#` or `%:#`, and digits. An ID may begin there if `item` is true.
 #[tactic(auto, unfolding(crate::specs::Found::numeric_id_size))]
 #[inline(always)]
 pub fn numeric_id_len(item: bool, bytes: &[u8]) -> usize
@@ -63,7 +63,7 @@ pub fn numeric_id_len(item: bool, bytes: &[u8]) -> usize
     }
 }
 
-/// `:` and a word.
+/// Returns the length of `:` and a word.
 #[tactic(auto, unfolding(crate::specs::Found::colon_and_word_size))]
 #[inline(always)]
 fn colon_and_word_len(bytes: &[u8]) -> usize
@@ -76,7 +76,7 @@ fn colon_and_word_len(bytes: &[u8]) -> usize
     }
 }
 
-/// A non-Unix group: `%:` and a word.
+/// Returns the length of a non-Unix group: `%:` and a word.
 #[tactic(auto, unfolding(crate::specs::Found::non_unix_group_size))]
 #[inline(always)]
 pub fn non_unix_group_len(bytes: &[u8]) -> usize
@@ -89,7 +89,7 @@ pub fn non_unix_group_len(bytes: &[u8]) -> usize
     }
 }
 
-/// A command's path.
+/// Returns the length of a command's path.
 #[tactic(auto, unfolding(crate::specs::Found::command_path_size))]
 #[inline(always)]
 pub fn command_path_len(bytes: &[u8]) -> usize
@@ -102,7 +102,7 @@ pub fn command_path_len(bytes: &[u8]) -> usize
     }
 }
 
-/// `+=` or `-=`.
+/// Returns the length of `+=` or `-=`.
 #[tactic(auto, unfolding(crate::specs::Piece::plus_or_minus_equals_size))]
 pub fn plus_or_minus_equals_len(bytes: &[u8]) -> usize
     ensures value { result ≡ plus_or_minus_equals_size bytes.now }
@@ -114,7 +114,7 @@ pub fn plus_or_minus_equals_len(bytes: &[u8]) -> usize
     }
 }
 
-/// A comment.
+/// Returns the length of a comment.
 #[tactic(auto, using(crate::proofs::Reach::line_end_search_is_within_bytes), unfolding(crate::specs::Found::comment_size_at))]
 pub fn comment_len(left: LeftContext, bytes: &[u8]) -> usize
     ensures value { result ≡ comment_size_at left.item (left.begun == 0) bytes.now }
@@ -130,7 +130,7 @@ pub fn comment_len(left: LeftContext, bytes: &[u8]) -> usize
     }
 }
 
-/// The word `#include` or `#includedir` of an include.
+/// Returns the length of the word `#include` or `#includedir` of an include.
 #[tactic(auto, unfolding(crate::specs::Found::hash_include_size_at))]
 pub fn hash_include_word_len(left: LeftContext, bytes: &[u8]) -> usize
     ensures value { result ≡ hash_include_size_at (left.begun == 0) bytes.now }
@@ -148,14 +148,14 @@ pub fn hash_include_word_len(left: LeftContext, bytes: &[u8]) -> usize
     }
 }
 
-/// Whether `@` or `>` begins the bytes.
+/// Returns whether `@` or `>` begins the bytes.
 pub fn begins_host_or_runas_sign(bytes: &[u8]) -> bool
     ensures { result ≡ has_host_or_runas_sign bytes.now }
 {
     begins_with_given_byte(b'@', bytes) || begins_with_given_byte(b'>', bytes)
 }
 
-/// Whether the bytes begin with the word `Defaults`, or with the same before a scope's sign.
+/// Returns whether the bytes begin with the word `Defaults`, or with the same before a scope's sign.
 pub fn begins_defaults(bytes: &[u8]) -> bool
     ensures value { result ≡ begins_defaults bytes.now }
     ensures within { result ≡ true → 8 ≤ length bytes.now }
@@ -165,10 +165,10 @@ pub fn begins_defaults(bytes: &[u8]) -> bool
             || begins_host_or_runas_sign(&bytes[8..]))
 }
 
-/// `Defaults`, `@include` or `@includedir`.
-#[tactic(auto, unfolding(crate::specs::Piece::leading_keyword_size))]
-pub fn leading_keyword_len(bytes: &[u8]) -> usize
-    ensures value { result ≡ leading_keyword_size bytes.now }
+/// Returns the length of `Defaults`, `@include` or `@includedir`.
+#[tactic(auto, unfolding(crate::specs::Piece::defaults_or_at_include_word_size))]
+pub fn defaults_or_at_include_word_len(bytes: &[u8]) -> usize
+    ensures value { result ≡ defaults_or_at_include_word_size bytes.now }
     ensures within { result ≤ length bytes.now }
 {
     let word = leading_run_len(ByteRunKind::Word, bytes);
@@ -181,17 +181,17 @@ pub fn leading_keyword_len(bytes: &[u8]) -> usize
     }
 }
 
-/// An argument of a command.
+/// Returns the length of an argument of a command.
 #[tactic(auto, unfolding(crate::specs::Found::argument_size))]
 pub fn argument_len(bytes: &[u8]) -> usize
     ensures value { result ≡ argument_size bytes.now }
     ensures within { result ≤ length bytes.now }
 {
     let whole = argument_units_len(bytes);
-    whole + quote_before_separator_len(&bytes[whole..])
+    whole + quoted_front_to_inner_separator_len(&bytes[whole..])
 }
 
-/// More of an argument, inside a quoted part.
+/// Returns the length of the rest of an argument, inside a quoted part.
 #[tactic(auto, unfolding(crate::specs::Piece::quoted_argument_rest_size))]
 pub fn quoted_argument_rest_len(bytes: &[u8]) -> usize
     ensures value { result ≡ quoted_argument_rest_size bytes.now }
@@ -205,7 +205,7 @@ pub fn quoted_argument_rest_len(bytes: &[u8]) -> usize
     }
 }
 
-/// What is Bad: all from a `"` on that is never closed, else one byte.
+/// Returns the length of what is Bad: all from a `"` on that is never closed, else one byte.
 #[tactic(auto, unfolding(crate::specs::Token::bad_token_size))]
 pub fn bad_token_len(bytes: &[u8]) -> usize
     ensures value { result ≡ bad_token_size bytes.now }

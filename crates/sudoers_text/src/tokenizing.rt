@@ -16,7 +16,7 @@ use crate::text_units::{LeftContext, TextUnit, line_end_len, unit_of_backslash};
 use crate::token::{Mode, Token};
 use std::alloc::Global;
 
-/// The unit that begins the bytes, where a quoted part and a comment are no units but their bytes.
+/// Returns the unit that begins the bytes, where a quoted part and a comment are no units but their bytes.
 #[inline(always)]
 fn read_byte_or_escape_unit(bytes: &[u8]) -> TextUnit<'_>
     requires { 0 < length bytes.now }
@@ -28,7 +28,7 @@ fn read_byte_or_escape_unit(bytes: &[u8]) -> TextUnit<'_>
     }
 }
 
-/// Whether nothing is left, or a line end alone.
+/// Returns whether nothing is left, or a line end alone.
 #[inline(always)]
 fn is_at_line_end(bytes: &[u8]) -> bool
     ensures { result ≡ is_line_end_or_empty bytes.now }
@@ -36,7 +36,7 @@ fn is_at_line_end(bytes: &[u8]) -> bool
     line_end_len(bytes) == bytes.len()
 }
 
-/// Where the next token begins. None does where only blanks, continuations and the line end are left.
+/// Returns where the next token begins. None does where only blanks, continuations and the line end are left.
 #[inline(always)]
 fn find_next_token_start(line: &[u8], at: usize) -> Option<usize>
     requires { at ≤ length line.now }
@@ -52,7 +52,7 @@ fn find_next_token_start(line: &[u8], at: usize) -> Option<usize>
 }
 
 impl LeftContext {
-    /// What stands left of a place, by what stands left of one before it.
+    /// Returns what stands left of a place, by what stands left of one before it.
     fn advance_over_slice(self, text: &[u8], from: usize, to: usize) -> LeftContext
         requires below { from ≤ to }
         requires inside { to ≤ length text.now }
@@ -63,7 +63,7 @@ impl LeftContext {
         let mut left = self;
         let mut at = from;
         while at < to {
-            let run = left.take_plain_run(&text[at..to]);
+            let run = left.find_plain_run_to_pass(&text[at..to]);
             left = left.pass_plain_run(run);
             at += run.len();
             if at < to {
@@ -76,7 +76,7 @@ impl LeftContext {
     }
 }
 
-/// Whether it is neither a backslash nor a CR.
+/// Returns whether it is neither a backslash nor a CR.
 #[inline(always)]
 fn is_no_backslash_or_cr(byte: u8) -> bool
     ensures { result ≡ not (byte == 92 || byte == 13) }
@@ -84,7 +84,7 @@ fn is_no_backslash_or_cr(byte: u8) -> bool
     !matches!(byte, b'\\' | b'\r')
 }
 
-/// The last place behind no backslash and no CR, from one such place up to another place.
+/// Returns the last place behind no backslash and no CR, from one such place up to another place.
 fn last_unescaped_offset_before(line: &[u8], from: usize, at: usize) -> usize
     requires below { from ≤ at }
     requires inside { at ≤ length line.now }
@@ -100,7 +100,7 @@ fn last_unescaped_offset_before(line: &[u8], from: usize, at: usize) -> usize
     place
 }
 
-/// Whether `#` or `%` begins the bytes.
+/// Returns whether `#` or `%` begins the bytes.
 #[inline(always)]
 fn begins_hash_or_percent(bytes: &[u8]) -> bool
     ensures { result ≡ has_leading_hash_or_percent bytes.now }
@@ -116,7 +116,7 @@ struct LeftContextAtOffset {
 }
 
 impl LeftContextAtOffset {
-    /// Nothing stands left of a line's beginning.
+    /// Returns the state at a line's beginning, left of which nothing stands.
     fn start_of_line() -> Self
         ensures place { result.at ≡ 0 }
         ensures knows { (line : List ℕ) → DescribesLeftAtOffset line result }
@@ -127,8 +127,8 @@ impl LeftContextAtOffset {
         }
     }
 
-    /// What stands left of the last such place up to a later place.
-    fn advance_to_offset(self, line: &[u8], at: usize) -> Self
+    /// Returns what stands left of the last such place up to a later place.
+    fn advance_to_unescaped_offset_before(self, line: &[u8], at: usize) -> Self
         requires below { self.at ≤ at }
         requires inside { at ≤ length line.now }
         requires knows { DescribesLeftAtOffset line.now self }
@@ -142,7 +142,7 @@ impl LeftContextAtOffset {
         }
     }
 
-    /// What is known left of a token, and what it tells of the token. Nothing has to be known, unless `#` or `%` begins it.
+    /// Returns what is known left of a token, and what it tells of the token. Nothing has to be known, unless `#` or `%` begins it.
     #[inline(always)]
     fn advance_to_token(self, line: &[u8], start: usize) -> (Self, LeftContext)
         requires below { self.at ≤ start }
@@ -154,7 +154,7 @@ impl LeftContextAtOffset {
             ≡ kind_and_size_after_units fs (units_left_of_place line.now start) (drop start line.now) }
     {
         if begins_hash_or_percent(&line[start..]) {
-            let here = self.advance_to_offset(line, start);
+            let here = self.advance_to_unescaped_offset_before(line, start);
             (here, here.left.advance_over_slice(line, here.at, start))
         } else {
             (self, self.left)
@@ -162,7 +162,7 @@ impl LeftContextAtOffset {
     }
 }
 
-/// The tokens of a line: each is the longest piece of the first form of which one may stand in its place, and between them
+/// Returns the tokens of a line: each is the longest piece of the first form of which one may stand in its place, and between them
 /// stand only blanks and continuations, and at the end the line end (sudoers(5), SUDOERS FILE FORMAT).
 ///
 /// # Errors

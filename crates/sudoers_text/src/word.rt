@@ -7,7 +7,7 @@ ghost use Rattle.sudoers_text.specs.Word.{is_among, is_tag, is_option_name, is_r
 
 use crate::part::is_upper;
 
-/// Whether the word is a tag of commands.
+/// Returns whether the word is a tag of commands.
 pub fn is_tag(word: &[u8]) -> bool
     ensures { result ≡ is_tag word.now }
 {
@@ -29,7 +29,7 @@ pub fn is_tag(word: &[u8]) -> bool
         || word == b"NOSETENV".as_slice()
 }
 
-/// Whether the word is the name of a command's option.
+/// Returns whether the word is the name of a command's option.
 pub fn is_option_name(word: &[u8]) -> bool
     ensures { result ≡ is_option_name word.now }
 {
@@ -45,7 +45,7 @@ pub fn is_option_name(word: &[u8]) -> bool
         || word == b"CHROOT".as_slice()
 }
 
-/// Whether the word is a kind of digest.
+/// Returns whether the word is a kind of digest.
 pub fn is_digest_kind(word: &[u8]) -> bool
     ensures { result ≡ is_among digest_kinds word.now }
 {
@@ -55,14 +55,14 @@ pub fn is_digest_kind(word: &[u8]) -> bool
         || word == b"sha512".as_slice()
 }
 
-/// Whether the word is `@include` or `@includedir`.
+/// Returns whether the word is `@include` or `@includedir`.
 pub fn is_at_sign_include_word(word: &[u8]) -> bool
     ensures { result ≡ is_among at_include_words word.now }
 {
     word == b"@include".as_slice() || word == b"@includedir".as_slice()
 }
 
-/// Whether the word begins an include.
+/// Returns whether the word begins an include.
 pub fn is_include_word(word: &[u8]) -> bool
     ensures { result ≡ is_among include_words word.now }
 {
@@ -71,7 +71,7 @@ pub fn is_include_word(word: &[u8]) -> bool
         || is_at_sign_include_word(word)
 }
 
-/// Whether the word is reserved: `ALL`, a tag (as `NOPASSWD`) or the name of an option (as `CWD`), by which no alias may be
+/// Returns whether the word is reserved: `ALL`, a tag (as `NOPASSWD`) or the name of an option (as `CWD`), by which no alias may be
 /// defined (sudoers(5), Tag_Spec and Option_Spec).
 pub fn is_reserved(word: &[u8]) -> bool
     ensures { result ≡ is_reserved word.now }
@@ -79,21 +79,21 @@ pub fn is_reserved(word: &[u8]) -> bool
     word == b"ALL".as_slice() || is_tag(word) || is_option_name(word)
 }
 
-/// Whether it may stand in an alias's name.
+/// Returns whether it may stand in an alias's name.
 fn is_alias_byte(byte: u8) -> bool
     ensures { result ≡ is_alias_byte byte }
 {
     is_upper(byte) || byte.is_ascii_digit() || byte == b'_'
 }
 
-/// Whether all of them may stand in an alias's name.
+/// Returns whether all of them may stand in an alias's name.
 fn are_alias_bytes(bytes: &[u8]) -> bool
     ensures { result ≡ list_all is_alias_byte bytes.now }
 {
     bytes.iter().all(|byte| is_alias_byte(*byte))
 }
 
-/// Whether the word can name an alias: an upper-case letter, and then upper-case letters, digits and `_` (sudoers(5),
+/// Returns whether the word can name an alias: an upper-case letter, and then upper-case letters, digits and `_` (sudoers(5),
 /// Aliases).
 pub fn is_name(word: &[u8]) -> bool
     ensures { result ≡ is_name word.now }

@@ -7,14 +7,14 @@ use crate::text_units::{begins_line_end, is_blank, line_end_len};
 use memchr::memchr2;
 use std::alloc::{AllocError, Global};
 
-/// Whether it is a hexadecimal digit.
+/// Returns whether it is a hexadecimal digit.
 fn is_hex(byte: u8) -> bool
     ensures { result ≡ is_hex byte }
 {
     byte.is_ascii_hexdigit()
 }
 
-/// The number that a hexadecimal digit stands for.
+/// Returns the number that a hexadecimal digit stands for.
 fn number_of_hex_digit(digit: u8) -> u8
     requires { is_hex digit ≡ true }
     ensures value { result ≡ hex_digit_value digit }
@@ -27,7 +27,7 @@ fn number_of_hex_digit(digit: u8) -> u8
     }
 }
 
-/// The byte that `x` and two hexadecimal digits are, where they begin the bytes.
+/// Returns the byte that `x` and two hexadecimal digits are, where they begin the bytes.
 fn read_hex_escape_byte(bytes: &[u8]) -> Option<u8>
     ensures { result ≡ (if begins_hex_escape bytes.now then Some (byte_of_hex_escape bytes.now) else None) }
 {
@@ -39,7 +39,7 @@ fn read_hex_escape_byte(bytes: &[u8]) -> Option<u8>
     }
 }
 
-/// How many blanks the bytes begin with.
+/// Returns how many blanks the bytes begin with.
 pub fn leading_blanks_len(bytes: &[u8]) -> usize
     ensures value { result ≡ leading_blanks_size bytes.now }
     ensures within { result ≤ length bytes.now }
@@ -52,7 +52,7 @@ pub fn leading_blanks_len(bytes: &[u8]) -> usize
     bytes.len()
 }
 
-/// How many of the bytes behind a backslash it takes.
+/// Returns how many of the bytes behind a backslash it takes.
 fn escape_tail_len(rest: &[u8]) -> usize
     ensures value { result ≡ escape_tail_size rest.now }
     ensures within { result ≤ length rest.now }
@@ -95,7 +95,7 @@ fn literal_prefix_len(word: &[u8]) -> usize
     memchr2(b'"', b'\\', word).unwrap_or(word.len())
 }
 
-/// What a word stands for, without its quotes and escapes (sudoers(5), Aliases; Other special characters and reserved words).
+/// Returns what a word stands for, without its quotes and escapes (sudoers(5), Aliases; Other special characters and reserved words).
 ///
 /// # Errors
 ///

@@ -3,7 +3,7 @@
 use crate::edit_command::SCRIPT;
 use crate::file_trouble::FileTrouble;
 use crate::files::{Disk, file_name_of_text};
-use crate::read_budget::ReadBudget;
+use crate::files_within_byte_budget::FilesWithinByteBudget;
 use crate::terminal::print_error_line;
 use clap::{Arg, ArgAction, ArgMatches};
 use std::alloc::{AllocError, Global};
@@ -33,7 +33,7 @@ pub fn make_also_option<'a>(alloc: Global) -> Result<Arg<'a>, AllocError> {
 /// Adds the files `names` to `found`, each empty if it is missing.
 pub fn add_also_files(
     alloc: Global,
-    files: &mut ReadBudget<Disk>,
+    files: &mut FilesWithinByteBudget<Disk>,
     names: &[&str],
     found: &mut Vec<NamedFile>,
 ) -> Result<(), FileTrouble> {
@@ -47,7 +47,7 @@ pub fn add_also_files(
 /// Returns the file `name`, which is not among the files `found`.
 fn read_also_file(
     alloc: Global,
-    files: &mut ReadBudget<Disk>,
+    files: &mut FilesWithinByteBudget<Disk>,
     name: &str,
     found: &[NamedFile],
 ) -> Result<NamedFile, FileTrouble> {
@@ -77,7 +77,7 @@ pub fn print_files_not_included(
     let Some(names) = words.get_strs(ALSO) else {
         return Ok(());
     };
-    let walked = gather_edited_files(rt.alloc(), root, edited)?;
+    let walked = gather_files_that_edited_policy_includes(rt.alloc(), root, edited)?;
     for name in names {
         if !has_file_named(walked.as_slice(), name.as_bytes()) {
             print_error_line(rt, &[name.as_bytes(), OFF_WALK])?;
@@ -87,12 +87,12 @@ pub fn print_files_not_included(
 }
 
 /// Returns the files of the edited policy `root` to which its lines lead. `edited` is the inverse script and the bundle.
-fn gather_edited_files(
+fn gather_files_that_edited_policy_includes(
     alloc: Global,
     root: &str,
     edited: &[u8],
 ) -> Result<Vec<NamedFile>, FileTrouble> {
-    let files = read_bundle(alloc, bundle_part_in(edited)).map_err(ToolFault::from)?;
+    let files = read_bundle(alloc, bundle_bytes_of_edit_output(edited)).map_err(ToolFault::from)?;
     let mut files = FilesInMemory::new(files);
     match gather(alloc, root.as_bytes(), &mut files) {
         Ok(walked) => Ok(walked),
@@ -101,7 +101,7 @@ fn gather_edited_files(
 }
 
 /// Returns the bundle in `edited`, which has an inverse script before it. No line of a script begins with `%`.
-fn bundle_part_in(edited: &[u8]) -> &[u8] {
+fn bundle_bytes_of_edit_output(edited: &[u8]) -> &[u8] {
     let mut at: usize = 0;
     for line in edited.split(|byte| *byte == b'\n') {
         if line.starts_with(b"%") {
@@ -119,10 +119,10 @@ fn bundle_part_in(edited: &[u8]) -> &[u8] {
 /// Returns the error of files that cannot be gathered, with the name of the file or the folder that was asked for last.
 pub fn trouble_of_gather_fault(
     alloc: Global,
-    files: &ReadBudget<Disk>,
+    files: &FilesWithinByteBudget<Disk>,
     fault: GatherFault,
 ) -> FileTrouble {
-    if files.is_used_up() {
+    if files.is_byte_budget_exceeded() {
         return FileTrouble::from(ToolFault::InputTooLarge);
     }
     let named = matches!(fault, GatherFault::NoRoot | GatherFault::Device(_));

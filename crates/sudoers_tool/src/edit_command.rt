@@ -5,15 +5,15 @@ use crate::also_option::{
 };
 use crate::file_trouble::FileTrouble;
 use crate::files::{STDIN, open_disk_files, open_named_file};
-use crate::read_budget::ReadBudget;
+use crate::files_within_byte_budget::FilesWithinByteBudget;
 use crate::terminal::open_standard_output;
 use clap::{Arg, ArgMatches, Command};
 use std::alloc::{AllocError, Global};
 use std::io::{Read, Write};
 use sudoers_files::gather;
 use sudoers_run::{
-    Counted, EditInputShape, INPUT_LIMIT, ToolFault, edit_given_files, read_all_within_limit,
-    run_edit,
+    Counted, EditInputShape, INPUT_LIMIT, ToolFault, make_edit_output_of_files,
+    read_all_within_limit, run_edit,
 };
 use sudoers_tree::NamedFile;
 
@@ -37,7 +37,7 @@ pub const SCRIPT: &str = "SCRIPT";
 const POLICY: &str = "POLICY";
 
 /// Returns the command line of `edit`.
-pub fn make_edit_command<'a>(alloc: Global, top: Arg<'a>) -> Result<Command<'a>, AllocError> {
+pub fn make_edit_subcommand<'a>(alloc: Global, top: Arg<'a>) -> Result<Command<'a>, AllocError> {
     let undo = make_number_option(alloc, UNDO).help(
         "After the script, take back up to N of its edits, the last first",
     );
@@ -49,7 +49,7 @@ pub fn make_edit_command<'a>(alloc: Global, top: Arg<'a>) -> Result<Command<'a>,
         .override_usage(USAGE)
         .arg(undo)?
         .arg(redo)?
-        .arg(make_script_option(alloc)?)?
+        .arg(make_files_option_naming_script(alloc)?)?
         .arg(make_also_option(alloc)?)?
         .arg(top.requires_arg(SCRIPT)?)?
         .arg(make_policy_argument(alloc)?)
@@ -64,7 +64,7 @@ fn make_number_option<'a>(alloc: Global, name: &'a str) -> Arg<'a> {
 }
 
 /// Returns the option that names the script for the files of the disk.
-fn make_script_option<'a>(alloc: Global) -> Result<Arg<'a>, AllocError> {
+fn make_files_option_naming_script<'a>(alloc: Global) -> Result<Arg<'a>, AllocError> {
     Arg::new(alloc, SCRIPT)
         .long("files")
         .help(
@@ -110,13 +110,16 @@ fn has_empty_word(words: Option<&[&str]>) -> bool {
 
 /// Edits the files of the policy that `words` name, or the policy on standard input. Writes to standard output.
 pub fn edit_policy_or_stdin(rt: &HostRuntime, words: &ArgMatches<'_>) -> Result<u8, FileTrouble> {
-    let (undo, redo) = (number_of_option(words, UNDO), number_of_option(words, REDO));
+    let (undo, redo) = (
+        number_of_option_or_zero(words, UNDO),
+        number_of_option_or_zero(words, REDO),
+    );
     let Some(script) = words.get_str(SCRIPT) else {
-        return Ok(edit_standard_input(rt, undo, redo)?);
+        return Ok(apply_script_to_policy_both_from_stdin(rt, undo, redo)?);
     };
     let script = read_script_file(rt, script)?;
     let files = gather_files_to_edit(rt, words, script.len())?;
-    let edited = edit_given_files(
+    let edited = make_edit_output_of_files(
         rt.alloc(),
         script.as_slice(),
         EditInputShape::Bundle,
@@ -124,7 +127,12 @@ pub fn edit_policy_or_stdin(rt: &HostRuntime, words: &ArgMatches<'_>) -> Result<
         undo,
         redo,
     )?;
-    print_files_not_included(rt, words, root_of_edit_words(words), edited.as_slice())?;
+    print_files_not_included(
+        rt,
+        words,
+        policy_name_of_edit_words(words),
+        edited.as_slice(),
+    )?;
     match open_standard_output(rt).write_all(edited.as_slice()) {
         Ok(()) => Ok(0),
         Err(_) => Err(FileTrouble::from(ToolFault::Write)),
@@ -132,12 +140,12 @@ pub fn edit_policy_or_stdin(rt: &HostRuntime, words: &ArgMatches<'_>) -> Result<
 }
 
 /// Returns the number that `words` gives for the option `name`, or 0.
-fn number_of_option(words: &ArgMatches<'_>, name: &str) -> u32 {
+fn number_of_option_or_zero(words: &ArgMatches<'_>, name: &str) -> u32 {
     words.get_one::<u32>(name).unwrap_or(0)
 }
 
 /// Returns the name of the policy that `words` name.
-fn root_of_edit_words<'a>(words: &ArgMatches<'a>) -> &'a str {
+fn policy_name_of_edit_words<'a>(words: &ArgMatches<'a>) -> &'a str {
     match words.get_strs(POLICY) {
         Some([root, ..]) => *root,
         _ => STDIN,
@@ -146,7 +154,11 @@ fn root_of_edit_words<'a>(words: &ArgMatches<'a>) -> &'a str {
 
 /// Edits the policy that the standard input gives after its script, takes back up to `undo` edits and makes up to `redo` of these again.
 /// Writes to standard output.
-pub fn edit_standard_input(rt: &HostRuntime, undo: u32, redo: u32) -> Result<u8, ToolFault> {
+pub fn apply_script_to_policy_both_from_stdin(
+    rt: &HostRuntime,
+    undo: u32,
+    redo: u32,
+) -> Result<u8, ToolFault> {
     let mut reader = Counted::new(rt.stdin());
     let mut writer = Counted::new(open_standard_output(rt));
     run_edit(rt.alloc(), &mut reader, undo, redo, &mut writer)
@@ -155,10 +167,10 @@ pub fn edit_standard_input(rt: &HostRuntime, undo: u32, redo: u32) -> Result<u8,
 /// Returns the bytes of the script `script`.
 fn read_script_file(rt: &HostRuntime, script: &str) -> Result<Vec<u8>, FileTrouble> {
     let read = if script == STDIN {
-        read_whole_input(rt, rt.stdin())
+        read_reader_within_input_limit(rt, rt.stdin())
     } else {
         match open_named_file(rt, script) {
-            Ok(file) => read_whole_input(rt, file),
+            Ok(file) => read_reader_within_input_limit(rt, file),
             Err(fault) => Err(fault),
         }
     };
@@ -180,7 +192,10 @@ fn read_script_file(rt: &HostRuntime, script: &str) -> Result<Vec<u8>, FileTroub
 }
 
 /// Returns all that `reader` gives.
-fn read_whole_input<R: Read + Drop>(rt: &HostRuntime, reader: R) -> Result<Vec<u8>, ToolFault> {
+fn read_reader_within_input_limit<R: Read + Drop>(
+    rt: &HostRuntime,
+    reader: R,
+) -> Result<Vec<u8>, ToolFault> {
     read_all_within_limit(rt.alloc(), &mut Counted::new(reader), INPUT_LIMIT)
 }
 
@@ -192,8 +207,8 @@ fn gather_files_to_edit(
     used: usize,
 ) -> Result<Vec<NamedFile>, FileTrouble> {
     let alloc = rt.alloc();
-    let root = root_of_edit_words(words);
-    let mut files = ReadBudget::new(
+    let root = policy_name_of_edit_words(words);
+    let mut files = FilesWithinByteBudget::new(
         open_disk_files(rt, words, root)?,
         INPUT_LIMIT.saturating_sub(used),
     );

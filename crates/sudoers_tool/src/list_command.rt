@@ -11,14 +11,14 @@ use sudoers_grammar::Items;
 use sudoers_run::{Counted, LayerFault, ListWords, ToolFault, run_list};
 
 /// Returns the command line of `list`.
-pub fn make_list_command<'a>(
+pub fn make_list_subcommand<'a>(
     alloc: Global,
     top: Arg<'a>,
     file: Arg<'a>,
 ) -> Result<Command<'a>, AllocError> {
     let command = Command::new(alloc, "list")
         .about("Print what a user may run on a host, or whether he may run a command there")
-        .arg(make_user_option(alloc))?
+        .arg(make_other_user_option(alloc))?
         .arg(
             make_required_option(alloc, "PASSWD", "passwd")
                 .value_name("FILE")
@@ -34,11 +34,11 @@ pub fn make_list_command<'a>(
                 .value_name("NAME")
                 .help("Long name of the host"),
         )?;
-    add_question_arguments(alloc, command.arg(top)?, file)
+    add_moment_runas_and_command_arguments(alloc, command.arg(top)?, file)
 }
 
 /// Returns the command line with what a question asks.
-fn add_question_arguments<'a>(
+fn add_moment_runas_and_command_arguments<'a>(
     alloc: Global,
     command: Command<'a>,
     file: Arg<'a>,
@@ -61,7 +61,7 @@ fn make_required_option<'a>(alloc: Global, id: &'a str, long: &'a str) -> Arg<'a
 }
 
 /// Returns the option with the user who is asked about.
-fn make_user_option<'a>(alloc: Global) -> Arg<'a> {
+fn make_other_user_option<'a>(alloc: Global) -> Arg<'a> {
     make_required_option(alloc, "USER", "other-user")
         .short('U')
         .help("User who is asked about")
@@ -144,14 +144,14 @@ impl ListQuestion {
     }
 
     /// Returns the words for the library.
-    fn as_list_words(&self) -> ListWords<'_> {
+    fn as_borrowed_list_question(&self) -> ListWords<'_> {
         ListWords {
             user: self.user.as_slice(),
             host: self.host.as_slice(),
             moment: self.moment.as_slice(),
             interfaces: self.interfaces.as_slice(),
-            target: bytes_of_optional_text(&self.target),
-            group: bytes_of_optional_text(&self.group),
+            target: optional_slice_of_optional_text(&self.target),
+            group: optional_slice_of_optional_text(&self.group),
             words: self.command.as_slice(),
             why: self.why,
         }
@@ -183,7 +183,7 @@ fn get_text_or_empty(
 }
 
 /// Returns the bytes of a text, if it is there.
-fn bytes_of_optional_text(text: &Option<Items<u8>>) -> Option<&[u8]> {
+fn optional_slice_of_optional_text(text: &Option<Items<u8>>) -> Option<&[u8]> {
     match text {
         Some(text) => Some(text.as_slice()),
         None => None,
@@ -211,7 +211,7 @@ pub fn run_list_command(
     words: &ArgMatches<'_>,
 ) -> Result<u8, ToolFault> {
     let asked = ListQuestion::from_matches(rt.alloc(), file, words)?;
-    let (passwd, group) = open_people_files(rt, words)?;
+    let (passwd, group) = open_passwd_and_group_files(rt, words)?;
     // Had the standard input been closed, the first file that was opened would be it.
     if file == STDIN && passwd.as_raw_fd() == STDIN_NUMBER {
         let closed = GatherFault::Device(FileFault::Failed);
@@ -223,13 +223,13 @@ pub fn run_list_command(
         asked.file.as_slice(),
         &mut Counted::new(passwd),
         &mut Counted::new(group),
-        &asked.as_list_words(),
+        &asked.as_borrowed_list_question(),
         &mut Counted::new(open_standard_output(rt)),
     )
 }
 
 /// Opens the files of users and of groups that `words` name.
-fn open_people_files(
+fn open_passwd_and_group_files(
     rt: &HostRuntime,
     words: &ArgMatches<'_>,
 ) -> Result<(fs::File, fs::File), ToolFault> {

@@ -5,16 +5,17 @@ mod also_option;
 mod edit_command;
 mod file_trouble;
 mod files;
+mod files_within_byte_budget;
 mod list_command;
-mod read_budget;
 mod terminal;
 
 use crate::edit_command::{
-    EDIT, edit_policy_or_stdin, edit_standard_input, find_edit_usage_error, make_edit_command,
+    EDIT, apply_script_to_policy_both_from_stdin, edit_policy_or_stdin, find_edit_usage_error,
+    make_edit_subcommand,
 };
 use crate::file_trouble::FileTrouble;
 use crate::files::{STDIN, is_folder, open_disk_files};
-use crate::list_command::{make_list_command, run_list_command};
+use crate::list_command::{make_list_subcommand, run_list_command};
 use crate::terminal::{open_standard_error, open_standard_output, print_error_line};
 use clap::error::ErrorKind;
 use clap::{Arg, ArgAction, ArgMatches, Command, Error};
@@ -47,7 +48,7 @@ fn main(rt: HostRuntime) -> ExitCode {
 
 /// Reads the command line and runs the command that it names.
 fn run_command_line(rt: &HostRuntime) -> Result<ExitCode, ToolFault> {
-    let mut command = make_top_command(rt.alloc())?;
+    let mut command = make_top_level_command(rt.alloc())?;
     let words = match collect_argument_words(rt) {
         Ok(words) => words,
         Err(error) if error.kind() == io::ErrorKind::OutOfMemory => return Err(ToolFault::from(
@@ -56,21 +57,21 @@ fn run_command_line(rt: &HostRuntime) -> Result<ExitCode, ToolFault> {
         Err(_) => {
             let message = "invalid UTF-8 was detected in one or more arguments";
             let error = command.error(ErrorKind::InvalidValue, message)?;
-            return show_usage(rt, &error);
+            return print_help_or_usage_error(rt, &error);
         }
     };
     match command.try_get_matches_from(words.as_slice()) {
         Ok(matches) => match find_usage_error(rt, &matches)? {
             Some(message) => {
                 let mut command = make_command_for_usage(rt.alloc(), &matches)?;
-                show_usage(
+                print_help_or_usage_error(
                     rt,
                     &command.error(ErrorKind::InvalidValue, message.as_str())?,
                 )
             }
             None => Ok(run_matched_command(rt, &matches)),
         },
-        Err(error) => show_usage(rt, &error),
+        Err(error) => print_help_or_usage_error(rt, &error),
     }
 }
 
@@ -105,8 +106,8 @@ fn make_command_for_usage<'a>(
     matches: &ArgMatches<'_>,
 ) -> Result<Command<'a>, AllocError> {
     match matches.subcommand() {
-        Some((EDIT, _)) => make_edit_command(alloc, make_root_folder_option(alloc)),
-        _ => make_top_command(alloc),
+        Some((EDIT, _)) => make_edit_subcommand(alloc, make_root_folder_option(alloc)),
+        _ => make_top_level_command(alloc),
     }
 }
 
@@ -115,18 +116,30 @@ fn run_matched_command(rt: &HostRuntime, matches: &ArgMatches<'_>) -> ExitCode {
     match matches.subcommand() {
         Some((name, words)) if name != EDIT => {
             let file = words.get_str("FILE").unwrap_or(STDIN);
-            exit_code_of_outcome(
+            print_error_of_outcome_and_get_exit_code(
                 rt,
-                make_trouble_without_file(run_on_policy_file(rt, name, file, words)),
+                turn_fault_into_trouble_without_file_name(run_named_command_on_file(
+                    rt, name, file, words,
+                )),
             )
         }
-        Some((_, words)) => exit_code_of_outcome(rt, edit_policy_or_stdin(rt, words)),
-        None => exit_code_of_outcome(rt, make_trouble_without_file(edit_standard_input(rt, 0, 0))),
+        Some((_, words)) => print_error_of_outcome_and_get_exit_code(
+            rt,
+            edit_policy_or_stdin(rt, words),
+        ),
+        None => print_error_of_outcome_and_get_exit_code(
+            rt,
+            turn_fault_into_trouble_without_file_name(apply_script_to_policy_both_from_stdin(
+                rt, 0, 0,
+            )),
+        ),
     }
 }
 
 /// Returns the outcome of a command whose errors are printed without the name of a file before them.
-fn make_trouble_without_file(outcome: Result<u8, ToolFault>) -> Result<u8, FileTrouble> {
+fn turn_fault_into_trouble_without_file_name(
+    outcome: Result<u8, ToolFault>,
+) -> Result<u8, FileTrouble> {
     match outcome {
         Ok(status) => Ok(status),
         Err(fault) => Err(FileTrouble::from(fault)),
@@ -134,7 +147,7 @@ fn make_trouble_without_file(outcome: Result<u8, ToolFault>) -> Result<u8, FileT
 }
 
 /// Runs the command `name`, which reads a policy file.
-fn run_on_policy_file(
+fn run_named_command_on_file(
     rt: &HostRuntime,
     name: &str,
     file: &str,
@@ -149,7 +162,10 @@ fn run_on_policy_file(
 }
 
 /// Returns the exit status of a command that ended so, and prints its error.
-fn exit_code_of_outcome(rt: &HostRuntime, outcome: Result<u8, FileTrouble>) -> ExitCode {
+fn print_error_of_outcome_and_get_exit_code(
+    rt: &HostRuntime,
+    outcome: Result<u8, FileTrouble>,
+) -> ExitCode {
     match outcome {
         Ok(status) => ExitCode::from(status),
         Err(trouble) => report_fault(rt, &trouble),
@@ -157,34 +173,34 @@ fn exit_code_of_outcome(rt: &HostRuntime, outcome: Result<u8, FileTrouble>) -> E
 }
 
 /// Returns the command line of `show`.
-fn make_show_command<'a>(alloc: Global) -> Result<Command<'a>, AllocError> {
+fn make_show_subcommand<'a>(alloc: Global) -> Result<Command<'a>, AllocError> {
     Command::new(alloc, "show")
         .about("Print the logical lines of a policy and its alias definitions, with their numbers")
         .arg(make_root_folder_option(alloc))?
-        .arg(make_file_argument(alloc))
+        .arg(make_policy_file_or_stdin_argument(alloc))
 }
 
 /// Returns the command line that is understood.
-fn make_top_command<'a>(alloc: Global) -> Result<Command<'a>, AllocError> {
+fn make_top_level_command<'a>(alloc: Global) -> Result<Command<'a>, AllocError> {
     Command::new(alloc, "sudoers_tool")
         .version(VERSION)
         .about(
             "Check, show, edit, convert and list sudoers policies. Without a command, do what `edit` does",
         )
         .after_help(EXIT_STATUS)
-        .subcommand(make_check_command(alloc)?)?
-        .subcommand(make_convert_command(alloc)?)?
-        .subcommand(make_edit_command(alloc, make_root_folder_option(alloc))?)?
-        .subcommand(make_list_command(
+        .subcommand(make_check_subcommand(alloc)?)?
+        .subcommand(make_convert_subcommand(alloc)?)?
+        .subcommand(make_edit_subcommand(alloc, make_root_folder_option(alloc))?)?
+        .subcommand(make_list_subcommand(
             alloc,
             make_root_folder_option(alloc),
-            make_file_argument(alloc),
+            make_policy_file_or_stdin_argument(alloc),
         )?)?
-        .subcommand(make_show_command(alloc)?)
+        .subcommand(make_show_subcommand(alloc)?)
 }
 
 /// Returns the command line of `check`.
-fn make_check_command<'a>(alloc: Global) -> Result<Command<'a>, AllocError> {
+fn make_check_subcommand<'a>(alloc: Global) -> Result<Command<'a>, AllocError> {
     let quiet = Arg::new(alloc, "quiet")
         .short('q')
         .action(ArgAction::SetTrue)
@@ -207,11 +223,11 @@ fn make_check_command<'a>(alloc: Global) -> Result<Command<'a>, AllocError> {
         .arg(strict)?
         .arg(skipped)?
         .arg(make_root_folder_option(alloc))?
-        .arg(make_file_argument(alloc))
+        .arg(make_policy_file_or_stdin_argument(alloc))
 }
 
 /// Returns the command line of `convert`.
-fn make_convert_command<'a>(alloc: Global) -> Result<Command<'a>, AllocError> {
+fn make_convert_subcommand<'a>(alloc: Global) -> Result<Command<'a>, AllocError> {
     let form = Arg::new(alloc, "FORM")
         .short('f')
         .long("form")
@@ -231,9 +247,9 @@ fn make_convert_command<'a>(alloc: Global) -> Result<Command<'a>, AllocError> {
         .arg(form)?
         .arg(expand)?
         .arg(make_filter_option(alloc))?
-        .arg(make_prune_flag(alloc))?
+        .arg(make_prune_lists_to_matches_flag(alloc))?
         .arg(make_root_folder_option(alloc))?
-        .arg(make_file_argument(alloc))
+        .arg(make_policy_file_or_stdin_argument(alloc))
 }
 
 /// Returns the option with the text of a filter.
@@ -244,7 +260,7 @@ fn make_filter_option<'a>(alloc: Global) -> Arg<'a> {
 }
 
 /// Returns the option that prunes lists.
-fn make_prune_flag<'a>(alloc: Global) -> Arg<'a> {
+fn make_prune_lists_to_matches_flag<'a>(alloc: Global) -> Arg<'a> {
     Arg::new(alloc, "prune")
         .short('p')
         .long("prune-matches")
@@ -260,7 +276,7 @@ fn make_root_folder_option<'a>(alloc: Global) -> Arg<'a> {
 }
 
 /// Returns the argument that names a policy file.
-fn make_file_argument<'a>(alloc: Global) -> Arg<'a> {
+fn make_policy_file_or_stdin_argument<'a>(alloc: Global) -> Arg<'a> {
     Arg::new(alloc, "FILE")
         .required(true)
         .help("Policy file, or `-` for standard input")
@@ -273,7 +289,7 @@ fn collect_argument_words(rt: &HostRuntime) -> io::Result<Vec<String>> {
 }
 
 /// Prints clap's text: help and version on standard output, a wrong command line on standard error.
-fn show_usage(rt: &HostRuntime, error: &Error) -> Result<ExitCode, ToolFault> {
+fn print_help_or_usage_error(rt: &HostRuntime, error: &Error) -> Result<ExitCode, ToolFault> {
     if error.kind() == ErrorKind::OutOfMemory {
         return Err(ToolFault::from(AllocError));
     }
@@ -309,7 +325,7 @@ fn form_of_convert_words(words: &ArgMatches<'_>) -> OutputForm {
 }
 
 /// Returns what the words of `convert` ask for.
-fn convert_words_of_matches<'a>(words: &ArgMatches<'a>) -> ConvertWords<'a> {
+fn form_filter_and_flags_of_convert_matches<'a>(words: &ArgMatches<'a>) -> ConvertWords<'a> {
     ConvertWords {
         form: form_of_convert_words(words),
         filter: match words.get_str("FILTER") {
@@ -328,7 +344,7 @@ fn run_convert_command(
     words: &ArgMatches<'_>,
 ) -> Result<u8, ToolFault> {
     let mut writer = Counted::new(open_standard_output(rt));
-    let asked = convert_words_of_matches(words);
+    let asked = form_filter_and_flags_of_convert_matches(words);
     let root = file.as_bytes();
     run_convert(
         rt.alloc(),

@@ -1,7 +1,7 @@
 -- A name whose bits are not among those of a line is absent from it.
 use Rattle.sudoers_tree.proofs.Common.{AliasMember, AllByRecursion, Bool, Decides-eqb, IsLastingLineRow, Kind, LineRow, List, Node, Tables, [], add-one, aliases_in_node, ap, append-nil, append_assoc, ap₂, arith}
 use Rattle.sudoers_tree.proofs.Common.{bits_of_alias_names_in, bits_of_name, bits_with_names_added, bytes_eq, bytes_eq-Decides, drop, drop-cons, false, get_or, if◌then◌else◌, is_equal_kind, length, line_of_row, map}
-use Rattle.sudoers_tree.proofs.Common.{max, mention_span_of_alias, mentions_from_line_number, mentions_in_line, min, node_in_tables, refl, subst, suc, sym, true, ℕ, ◌&&◌, ◌++◌, ◌+◌, ◌-◌, ◌<◌, ◌==◌, ◌∙◌, ◌∷◌, ◌≡◌}
+use Rattle.sudoers_tree.proofs.Common.{max, mention_span_if_alias_named, mentions_from_line_number, mentions_in_line, min, node_in_tables, refl, subst, suc, sym, true, ℕ, ◌&&◌, ◌++◌, ◌+◌, ◌-◌, ◌<◌, ◌==◌, ◌∙◌, ◌∷◌, ◌≡◌}
 use Rattle.std.proofs.lemmas.Nat.{and_or_self}
 use Rattle.std.proofs.lemmas.Nat.Bits.{bit_at_and, bit_at_or, same_from_bits}
 use Rattle.std.specs.Int.{bit_at}
@@ -41,7 +41,7 @@ name_without_its_bits_is_among_no_names name (other ∷ names) a lacks = (by (by
 -- ---- a name that is absent
 
 alias_not_among_names_has_no_mentions : (k : Kind) (name : List ℕ) (n : ℕ) (aliases : List AliasMember)
-    → AllByRecursion (λ (other : List ℕ). bytes_eq name other ≡ false) (map (λ (a : AliasMember). a.name) aliases) → flat_map (mention_span_of_alias k name n) aliases ≡ []
+    → AllByRecursion (λ (other : List ℕ). bytes_eq name other ≡ false) (map (λ (a : AliasMember). a.name) aliases) → flat_map (mention_span_if_alias_named k name n) aliases ≡ []
 alias_not_among_names_has_no_mentions k name n [] all = refl
 alias_not_among_names_has_no_mentions k name n (a ∷ aliases) all = ap₂ (λ (x y : List Span). x ++ y) (by (is_equal_kind k a.kind) (bytes_eq name a.name) all.0) (alias_not_among_names_has_no_mentions k name n aliases all.1)
   where

@@ -1,5 +1,5 @@
 -- The lines of files of which lines were changed.
-use Rattle.sudoers_tree.proofs.Common.{AllByRecursion, AreApplicableChanges, AreChangesInFileOrder, AreLinesOfText, IsCutOutcome, IsFaultlessCut, IsLogicalLine, LineChange, List, NamedFile, ParsedFile, [], ap, ap₂}
+use Rattle.sudoers_tree.proofs.Common.{AllByRecursion, AreApplicableChanges, AreFileNumbersOfChangesInOrder, AreLinesOfText, IsCutOutcome, IsFaultlessCut, IsLogicalLine, LineChange, List, NamedFile, ParsedFile, [], ap, ap₂}
 use Rattle.sudoers_tree.proofs.Common.{arith, changed_files_from_number, changes_of_file, false, file_names, file_number_of_change, files_after_changes, has_inner_line_without_lf, if◌then◌else◌, join, length}
 use Rattle.sudoers_tree.proofs.Common.{lines_after_changes, lines_of_changed_file, lines_of_numbered_file, map, named_of, nat_tests, refl, subst, suc, sym, texts_of_lines, zero, ℕ, ◌+◌, ◌==◌, ◌∙◌, ◌∷◌, ◌≡◌, ◌≤◌}
 use Rattle.sudoers_tree.proofs.ChangedLines.{changed_lines_are_logical_lines}
@@ -27,7 +27,7 @@ changed_files_keep_file_names f changes (new ∷ news) (old ∷ olds) same =
     ap₂ (λ (name : List ℕ) names. name ∷ names) is.0 (changed_files_keep_file_names (f + 1) changes news olds is.2)
 
 -- No change is of a file past the last.
-file_past_last_has_no_changes : (f g : ℕ) (changes : List LineChange) (count : ℕ) → AreChangesInFileOrder g changes count → count ≤ f → changes_of_file f changes ≡ []
+file_past_last_has_no_changes : (f g : ℕ) (changes : List LineChange) (count : ℕ) → AreFileNumbersOfChangesInOrder g changes count → count ≤ f → changes_of_file f changes ≡ []
 file_past_last_has_no_changes f g [] count by_files past = refl
 file_past_last_has_no_changes f g (change ∷ changes) count by_files past =
     let other : (file_number_of_change change == f) ≡ false = grind (arith, nat_tests, by_files.1, past) in
@@ -35,7 +35,7 @@ file_past_last_has_no_changes f g (change ∷ changes) count by_files past =
     ∙ file_past_last_has_no_changes f (file_number_of_change change) changes count by_files.2 past
 
 -- The bytes of each file are those of its lines after the changes.
-text_of_changed_file_is_changed_text : (f k g : ℕ) (changes : List LineChange) (news olds : List ParsedFile) → g ≡ f + k → AreChangesInFileOrder 0 changes (f + length olds)
+text_of_changed_file_is_changed_text : (f k g : ℕ) (changes : List LineChange) (news olds : List ParsedFile) → g ≡ f + k → AreFileNumbersOfChangesInOrder 0 changes (f + length olds)
     → map named_of news ≡ changed_files_from_number f changes olds
     → join (texts_of_lines (lines_of_numbered_file news k)) ≡ join (lines_after_changes (changes_of_file g changes) (texts_of_lines (lines_of_numbered_file olds k)))
 text_of_changed_file_is_changed_text f k g changes [] [] at by_files same =
@@ -47,7 +47,7 @@ text_of_changed_file_is_changed_text f zero g changes (new ∷ news) (old ∷ ol
     (first_changed_file_is_first_and_rest_follow f changes new old news olds same).1 ∙ ap (λ n. join (lines_of_changed_file n changes old)) here
 text_of_changed_file_is_changed_text f (suc k) g changes (new ∷ news) (old ∷ olds) at by_files same =
     let count : f + length (old ∷ olds) ≡ f + 1 + length olds = omega arith in
-    text_of_changed_file_is_changed_text (f + 1) k g changes news olds (omega (arith, at)) (subst (AreChangesInFileOrder 0 changes) count by_files)
+    text_of_changed_file_is_changed_text (f + 1) k g changes news olds (omega (arith, at)) (subst (AreFileNumbersOfChangesInOrder 0 changes) count by_files)
     (first_changed_file_is_first_and_rest_follow f changes new old news olds same).2
 
 -- what the laws of lines say
@@ -66,6 +66,6 @@ lines_of_changed_file_are_changed_lines cuts one joins changes news olds can sam
     let after : List (List ℕ) = lines_after_changes (changes_of_file f changes) (texts_of_lines (lines_of_numbered_file olds f)) in
     let is : IsFaultlessCut (join new) new = subst (IsCutOutcome (join new)) (cut f) (cuts (join new)) in
     let count : length olds ≡ 0 + length olds = omega arith in
-    let bytes : join new ≡ join after = text_of_changed_file_is_changed_text 0 f f changes news olds (omega arith) (subst (AreChangesInFileOrder 0 changes) count can.by_files) same in
+    let bytes : join new ≡ join after = text_of_changed_file_is_changed_text 0 f f changes news olds (omega arith) (subst (AreFileNumbersOfChangesInOrder 0 changes) count can.by_files) same in
     let lines : AreAllLogicalLines after = changed_lines_are_logical_lines 0 (changes_of_file f changes) (texts_of_lines (lines_of_numbered_file olds f)) (whole f) (changes_of_file_bring_logical_lines f changes can.lines) in
     one (join new) new after is.cuts (subst (λ text. AreLinesOfText text after) (sym bytes) (joins after lines (can.ended f)))

@@ -1,5 +1,5 @@
 -- The walk of a policy of which lines were changed.
-use Rattle.sudoers_tree.proofs.Common.{AllByRecursion, AreFilesMapped, IsCorrectlyParsed, Line, LineChange, LineMapping, List, MakeMappedLines, None, ParsedFile, WalkState, [], changes_of_file}
+use Rattle.sudoers_tree.proofs.Common.{AllByRecursion, AreFilesMapped, IsCorrectlyParsed, Line, LineChange, LineToLinesMapping, List, MakeMappedLines, None, ParsedFile, WalkState, [], changes_of_file}
 use Rattle.sudoers_tree.proofs.Common.{fault_of_numbered_file, file_names, lines_after_changes, lines_of_numbered_file, mapped_lines_from_number, refl, suc, texts_of_lines, zero, ℕ, ◌∙◌, ◌∷◌, ◌≡◌}
 use Rattle.sudoers_tree.proofs.ParsedFiles.{IsParsedWithoutFault}
 
@@ -13,7 +13,7 @@ parsed_files_have_no_numbered_fault (file ∷ files) parse zero = parse.0
 parsed_files_have_no_numbered_fault (file ∷ files) parse (suc f) = parsed_files_have_no_numbered_fault files parse.1 f
 
 -- The changed files are the files with lines changed, if the changes make the lines that come of theirs.
-pub changed_files_are_mapped_files : EqualTextsImplyEqualLines → (g : LineMapping) (changes : List LineChange) (old new : List ParsedFile) (w : WalkState) → file_names new ≡ file_names old
+pub changed_files_are_mapped_files : EqualTextsImplyEqualLines → (g : LineToLinesMapping) (changes : List LineChange) (old new : List ParsedFile) (w : WalkState) → file_names new ≡ file_names old
     → ((f : ℕ) → texts_of_lines (lines_of_numbered_file new f) ≡ lines_after_changes (changes_of_file f changes) (texts_of_lines (lines_of_numbered_file old f)))
     → ((f : ℕ) → AllByRecursion IsCorrectlyParsed (lines_of_numbered_file new f)) → AllByRecursion IsParsedWithoutFault new → MakeMappedLines g changes old w → AreFilesMapped g old new w
 changed_files_are_mapped_files tell g changes old new w names after said parse made = record {

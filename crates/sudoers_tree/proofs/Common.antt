@@ -41,7 +41,7 @@ pub use Rattle.sudoers_text.specs.Word.{is_reserved}
 pub use Rattle.sudoers_text.specs.declared.fault.TextFault.{TextFault}
 pub use Rattle.sudoers_tree.specs.Changed.{AreChangesInOrder, file_number_of_change, line_after_changes, line_number_of_change, lines_after_changes, lines_changed_from_number, lines_with_one_replaced}
 pub use Rattle.sudoers_tree.specs.Changed.{min_line_number_after_change, text_of_change, texts_of_changes, texts_put_before_line}
-pub use Rattle.sudoers_tree.specs.ChangedFiles.{AreApplicableChanges, AreChangesInFileOrder, changed_files_from_number, changes_of_file, files_after_changes, lines_of_changed_file}
+pub use Rattle.sudoers_tree.specs.ChangedFiles.{AreApplicableChanges, AreFileNumbersOfChangesInOrder, changed_files_from_number, changes_of_file, files_after_changes, lines_of_changed_file}
 pub use Rattle.sudoers_tree.specs.Definition.{PlacedDefinition, definition_place_of_name, definitions_from_line_number, definitions_from_place, definitions_in_line, definitions_of_lines, first_definition_of}
 pub use Rattle.sudoers_tree.specs.Definition.{is_definition_of_name, is_equal_kind, members_of_alias_definition}
 unfoldable pub use Rattle.sudoers_tree.specs.Fault.{fault_of_definition_name}
@@ -52,23 +52,23 @@ pub use Rattle.sudoers_tree.specs.Files.{lines_parsed_until_fault, name_of_numbe
 pub use Rattle.sudoers_tree.specs.Lead.{folder_of, include_lead_of_line, lead_of_optional_node, lead_of_parsed_line, name_without_trailing_slashes}
 pub use Rattle.sudoers_tree.specs.Line.{Line, line_of_row, line_of_view}
 unfoldable pub use Rattle.sudoers_tree.specs.Load.{policy_or_load_fault}
-pub use Rattle.sudoers_tree.specs.Load.{AreLinesAtSpots, HasBoundedSpot, IsLineAtSpot, LoadedPolicy, file_limit, first_fault_of_unreached_file, first_repeated_file_name, has_file_with_name, is_name_among}
-pub use Rattle.sudoers_tree.specs.Load.{named_file_of_parsed, named_file_of_parsed as named_of, named_files_of_policy, parsed_file_or_cut_fault, parsed_files_or_cut_fault, policy_of_parsed_files, reserved_name_fault}
+pub use Rattle.sudoers_tree.specs.Load.{AreLinesAtSpots, IsLineAtBoundedSpot, IsLineAtSpot, LoadedPolicy, file_limit, first_fault_of_unreached_file, first_repeated_file_name, has_file_with_name, is_name_among}
+pub use Rattle.sudoers_tree.specs.Load.{named_file_of_parsed, named_file_of_parsed as named_of, named_files_of_policy, parsed_file_of_cut_or_fault, parsed_files_or_cut_fault, policy_of_parsed_files, reserved_name_fault_of_definitions}
 pub use Rattle.sudoers_tree.specs.Load.{reserved_name_fault_in_lines, result_unless_repeated_name, walk_or_first_fault, walk_or_unreached_file_fault}
-pub use Rattle.sudoers_tree.specs.Mapped.{AreDefinedNamesValid, AreFilesMapped, CanReplaceFiles, IsMappedWalk, KeepsIncludeLead, LineMapping, MakeMappedLines, file_names, mapped_lines_at_spots, mapped_lines_from_number}
+pub use Rattle.sudoers_tree.specs.Mapped.{AreDefinedNamesValid, AreFilesMapped, CanReplaceFiles, IsMappedWalk, KeepsIncludeLead, LineToLinesMapping, MakeMappedLines, file_names, mapped_lines_at_spots, mapped_lines_from_number}
 pub use Rattle.sudoers_tree.specs.Mapped.{nowhere, one}
-pub use Rattle.sudoers_tree.specs.Mention.{listed_members_of_kind, members_in_host_group, members_of_kind_in_line, members_of_runas, mention_span_of_alias, mention_span_of_member, mention_spans_among_members}
+pub use Rattle.sudoers_tree.specs.Mention.{members_of_kind_among_listed, members_in_host_group, members_of_kind_in_line, members_of_runas, mention_span_if_alias_named, mention_span_of_member, mention_spans_among_members}
 pub use Rattle.sudoers_tree.specs.Mention.{mentions_from_line_number, mentions_in_line}
 pub use Rattle.sudoers_tree.specs.NameBits.{bits_of_name, name_hash_after}
 pub use Rattle.sudoers_tree.specs.Physical.{byte_count_after_last_lf, physical_line_after_bytes}
-pub use Rattle.sudoers_tree.specs.Policy.{AreValidWalkLines, HasUnreservedName, HaveDistinctNames, IsCorrectlyParsed, IsPolicy, alias_limit, definition_count_of_kind, texts_of_lines}
+pub use Rattle.sudoers_tree.specs.Policy.{AreValidWalkLines, HasUnreservedName, HaveDistinctNames, IsCorrectlyParsed, AreLinesOfSingleTextPolicy, alias_limit_of_each_kind, definition_count_of_kind, texts_of_lines}
 unfoldable pub use Rattle.sudoers_tree.specs.Reading.{line_or_fault_after, policy_lines_of_text}
-pub use Rattle.sudoers_tree.specs.Reading.{IsReadOutcome, first_definition_fault, first_of_two_faults, line_from_parse_outcome, line_result_and_then, lines_read_after, policy_lines_of_cut, value_unless_fault}
+pub use Rattle.sudoers_tree.specs.Reading.{IsPolicyOrFirstFaultOfText, first_definition_fault, first_of_two_faults, line_from_parse_outcome, line_result_and_then, lines_read_after, policy_lines_of_cut, value_unless_fault}
 unfoldable pub use Rattle.sudoers_tree.specs.Single.{reading_of_single_line}
-pub use Rattle.sudoers_tree.specs.Targets.{base_name_of_file, ends_in_tilde, file_inserted_in_name_order, included_files_of_folder, is_file_name_before, is_includable_from_folder, number_of_first_file_named}
+pub use Rattle.sudoers_tree.specs.Targets.{base_name_of_file_name, ends_in_tilde, file_inserted_in_name_order, included_files_of_folder, is_file_name_before, is_includable_from_folder, number_of_first_file_named}
 pub use Rattle.sudoers_tree.specs.Targets.{targets_of_lead}
 unfoldable pub use Rattle.sudoers_tree.specs.Walk.{walk_or_fault_of_files}
-pub use Rattle.sudoers_tree.specs.Walk.{FileVisit, IncludeSite, WalkState, empty_walk, files_opened_by_lead, files_unless_missing, files_unless_on_walk, first_file_on_walk, include_depth_limit, include_site_of_line}
+pub use Rattle.sudoers_tree.specs.Walk.{FileVisit, IncludeSite, WalkState, empty_walk, files_opened_by_lead, files_unless_missing_or_on_walk, files_unless_on_walk, first_file_on_walk, include_depth_limit, include_site_of_line}
 pub use Rattle.sudoers_tree.specs.Walk.{is_file_on_walk, lead_of_file_line, load_result_and_then, repeated_include_fault, spot_of_file_line, value_unless_file_fault, walk_after_file_lines, walk_after_file_visit}
 pub use Rattle.sudoers_tree.specs.Walk.{walk_after_file_visits, walk_with_file_entered, walk_with_line_appended}
 pub use Rattle.sudoers_tree.specs.declared.fault.ReadFault.{ReadFault}
@@ -93,7 +93,7 @@ pub use Rattle.sudoers_tree.specs.internal.Files.{HasSoundFileRows, parsed_file_
 pub use Rattle.sudoers_tree.specs.internal.Index.{IsEntryOutcome, IsIndexEntryOutcome, IsIndexOfDefinitions, entries_after_update, entries_of_definitions, entries_unless_fault, entries_with_definitions}
 pub use Rattle.sudoers_tree.specs.internal.Index.{fault_of_new_entry, index_after_update, index_entries_of_kind, is_equal_optional_name, is_next_known_entry, known_names_with_places, known_or_own_entries}
 pub use Rattle.sudoers_tree.specs.internal.Index.{names_of_entries, number_of_named_entry, place_of_named_entry}
-pub use Rattle.sudoers_tree.specs.internal.KeptLines.{HasAliasRenamed, IsAcceptedNamesChange, IsInPlaceWalkUpdate, IsNewAliasNameFree, IsSoundWalkBeforeChange, KeepsFileLineCount, ReplaceLinesAtSpots, ReplacesLineAtSpot}
+pub use Rattle.sudoers_tree.specs.internal.KeptLines.{HasAliasRenamed, IsAcceptedNamesChange, IsInPlaceWalkUpdate, IsNewAliasNameFree, IsSoundWalkBeforeChange, KeepsLineCountWithoutFault, ReplaceLinesAtSpots, ReplacesLineAtSpot}
 pub use Rattle.sudoers_tree.specs.internal.KeptLines.{files_before_change, walk_before_change, walk_lines_before_change}
 pub use Rattle.sudoers_tree.specs.internal.KeptWalk.{HasSameLeadAndLineEnds, KeepsWalkSpots, StaysAtSpotOfWalk, walk_with_lines_replaced}
 pub use Rattle.sudoers_tree.specs.internal.Keys.{ChangesDefinedNames, DefinitionKey, IsDefinitionRenamed, RenamesOneDefinition, entries_with_one_renamed, key_of_definition, keys_of_definitions}

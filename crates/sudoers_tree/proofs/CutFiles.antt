@@ -1,6 +1,6 @@
 -- The lines of loaded files are those of their texts.
 use Rattle.sudoers_tree.proofs.Common.{AllByRecursion, EachIsOneLineWhenCut, Err, IsCutOutcome, IsFaultlessCut, List, LoadedPolicy, NamedFile, Ok, ParsedFile, Result, TextFault, [], ap, arith, cut_outcome_of_text}
-use Rattle.sudoers_tree.proofs.Common.{false, has_inner_line_without_lf, join, length, lines_of_numbered_file, lines_parsed_until_fault, load_result_and_then, parsed_file_of_texts, parsed_file_or_cut_fault}
+use Rattle.sudoers_tree.proofs.Common.{false, has_inner_line_without_lf, join, length, lines_of_numbered_file, lines_parsed_until_fault, load_result_and_then, parsed_file_of_texts, parsed_file_of_cut_or_fault}
 use Rattle.sudoers_tree.proofs.Common.{parsed_files_or_cut_fault, policy_or_load_fault, refl, subst, suc, sym, text_limit, texts_of_lines, zero, ℕ, ◌++◌, ◌∙◌, ◌∷◌, ◌≡◌, ◌≤◌}
 use Rattle.sudoers_tree.proofs.KeptFiles.{LinesAreParsedUntilFault, faultless_texts_are_all_parsed}
 use Rattle.sudoers_tree.proofs.Outcomes.{ComputedCutsAreCutOutcomes}
@@ -40,7 +40,7 @@ parsed_files_are_cut_from_their_texts cuts reads before read (file ∷ files) al
     (appended_file_keeps_files_cut_from_text before (parsed_file_of_texts file.name lines) all (parsed_file_is_cut_from_its_text cuts reads file lines cut)))
   where
     by : (r : Result (List (List ℕ)) TextFault) → cut_outcome_of_text file.bytes ≡ r
-        → load_result_and_then (parsed_file_or_cut_fault file.name r) (λ reading. parsed_files_or_cut_fault (before ++ reading ∷ []) files) ≡ Ok read
+        → load_result_and_then (parsed_file_of_cut_or_fault file.name r) (λ reading. parsed_files_or_cut_fault (before ++ reading ∷ []) files) ≡ Ok read
         → ((lines : List (List ℕ)) → cut_outcome_of_text file.bytes ≡ Ok lines → parsed_files_or_cut_fault (before ++ parsed_file_of_texts file.name lines ∷ []) files ≡ Ok read
         → AllByRecursion IsParsedFileCutFromItsText read)
         → AllByRecursion IsParsedFileCutFromItsText read

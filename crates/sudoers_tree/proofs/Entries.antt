@@ -1,6 +1,6 @@
 -- Names and their definitions.
 use Rattle.sudoers_tree.proofs.Common.{AliasNameIndex, Bool, Cmnd, Def, Duplicate, Err, Host, IsEntryOutcome, IsIndexEntryOutcome, IsIndexOfDefinitions, Kind, List, None, NotLoaded, Ok, Option, Place}
-use Rattle.sudoers_tree.proofs.Common.{PlacedDefinition, ReadFault, Reserved, Result, Runas, Some, Syntax, Text, TooDeep, TooMany, Twice, User, [], alias_limit, ap, append-nil, arith, bytes_eq}
+use Rattle.sudoers_tree.proofs.Common.{PlacedDefinition, ReadFault, Reserved, Result, Runas, Some, Syntax, Text, TooDeep, TooMany, Twice, User, [], alias_limit_of_each_kind, ap, append-nil, arith, bytes_eq}
 use Rattle.sudoers_tree.proofs.Common.{definition_count_of_kind, definitions_from_place, entries_of_definitions, entries_unless_fault, entries_with_definitions, false, fault_of_definition_name, fault_of_new_entry}
 use Rattle.sudoers_tree.proofs.Common.{first_definition_fault, first_definition_of, first_of_two_faults, if◌then◌else◌, is_equal_kind, is_reserved, is_some, length, nat_le, option_map, place_of_named_entry, refl}
 use Rattle.sudoers_tree.proofs.Common.{suc, sym, true, ℕ, ◌&&◌, ◌++◌, ◌+◌, ◌∙◌, ◌∷◌, ◌≡◌}
@@ -91,10 +91,10 @@ pub fault_of_entry_is_fault_of_definition : (k : Kind) (place : Place) (def : De
 unfolding fault_of_definition_name
 fault_of_entry_is_fault_of_definition k place def ds =
     ap (λ b. if is_reserved def.name then Some (Reserved k def.name) else (if b then Some (Duplicate k def.name)
-    else (if nat_le alias_limit (length (entries_of_definitions k ds)) then Some (TooMany k) else None)))
+    else (if nat_le alias_limit_of_each_kind (length (entries_of_definitions k ds)) then Some (TooMany k) else None)))
     (ap is_some (place_of_entry_is_place_of_definition k def.name ds) ∙ place_is_some_if_definition_is_some (first_definition_of k def.name ds))
     ∙ ap (λ n. if is_reserved def.name then Some (Reserved k def.name) else (if is_some (first_definition_of k def.name ds) then Some (Duplicate k def.name)
-    else (if nat_le alias_limit n then Some (TooMany k) else None)))
+    else (if nat_le alias_limit_of_each_kind n then Some (TooMany k) else None)))
     (count_of_entries_is_count_of_definitions k ds)
 
 -- The outcome of entering names: those of the definitions, or the fault of the first that cannot stand.

@@ -1,8 +1,8 @@
 -- Changes of the lines of several files.
-use Rattle.sudoers_tree.proofs.Common.{All, AllByRecursion, AreApplicableChanges, AreChangesInFileOrder, AreChangesInOrder, Bool, Err, HasSoundFileRows, IsLogicalLine, Line, LineChange, List, LoadFault, NoMemory, Ok}
+use Rattle.sudoers_tree.proofs.Common.{All, AllByRecursion, AreApplicableChanges, AreFileNumbersOfChangesInOrder, AreChangesInOrder, Bool, Err, HasSoundFileRows, IsLogicalLine, Line, LineChange, List, LoadFault, NoMemory, Ok}
 use Rattle.sudoers_tree.proofs.Common.{ParsedFile, ParsedFileRows, Put, Result, Some, Swap, Tables, TablesHaveGrown, Take, [], ap, ap₂, arith, changed_files_from_number, changes_of_file, cut_outcome_of_text, drop}
 use Rattle.sudoers_tree.proofs.Common.{false, file_number_of_change, has_inner_line_without_lf, if◌then◌else◌, inl, inr, join, leading_change_count_of_file, length, length-map, line_of_row, lines_after_changes}
-use Rattle.sudoers_tree.proofs.Common.{lines_of_changed_file, lines_of_numbered_file, lines_of_optional_file, load_result_and_then, map, nat_tests, parsed_file_of_rows, parsed_file_or_cut_fault}
+use Rattle.sudoers_tree.proofs.Common.{lines_of_changed_file, lines_of_numbered_file, lines_of_optional_file, load_result_and_then, map, nat_tests, parsed_file_of_rows, parsed_file_of_cut_or_fault}
 use Rattle.sudoers_tree.proofs.Common.{parsed_files_or_cut_fault, refl, slice_get, subst, suc, sym, take, texts_of_changes, texts_of_lines, true, ℕ, ◌++◌, ◌+◌, ◌<◌, ◌==◌, ◌∙◌, ◌∷◌, ◌≡◌, ◌⊎◌}
 use Rattle.sudoers_tree.proofs.FileRows.{numbered_file_has_sound_rows, grown_tables_keep_file_rows_sound, numbered_file_of_rows_is_parsed_file}
 use Rattle.sudoers_tree.proofs.Numbered.{first_of_drop_is_numbered_item}
@@ -11,7 +11,7 @@ use Rattle.sudoers_tree.proofs.TreeLines.{TableGrowthIsTransitive, grown_tables_
 -- ---- the changes of one file after another
 
 -- Changes of later files are none of this one.
-changes_of_later_files_are_none_of_earlier : (f g : ℕ) (changes : List LineChange) (count : ℕ) → AreChangesInFileOrder g changes count → f < g → changes_of_file f changes ≡ []
+changes_of_later_files_are_none_of_earlier : (f g : ℕ) (changes : List LineChange) (count : ℕ) → AreFileNumbersOfChangesInOrder g changes count → f < g → changes_of_file f changes ≡ []
 changes_of_later_files_are_none_of_earlier f g [] count by_files less = refl
 changes_of_later_files_are_none_of_earlier f g (change ∷ changes) count by_files less =
     by (file_number_of_change change == f) refl (changes_of_later_files_are_none_of_earlier f (file_number_of_change change) changes count by_files.2 (omega (arith, by_files.0, less)))
@@ -26,11 +26,11 @@ changes_of_later_files_are_none_of_earlier f g (change ∷ changes) count by_fil
 pub record AreLeadingChangesOfFile (f : ℕ) (changes : List LineChange) (count : ℕ) : Type 0 where
   pub here : take (leading_change_count_of_file f changes) changes ≡ changes_of_file f changes
   pub behind : (g : ℕ) → f < g → changes_of_file g (drop (leading_change_count_of_file f changes) changes) ≡ changes_of_file g changes
-  pub by_files : AreChangesInFileOrder (f + 1) (drop (leading_change_count_of_file f changes) changes) count
+  pub by_files : AreFileNumbersOfChangesInOrder (f + 1) (drop (leading_change_count_of_file f changes) changes) count
 
-pub leading_changes_are_those_of_first_file : (f : ℕ) (changes : List LineChange) (count : ℕ) → AreChangesInFileOrder f changes count → AreLeadingChangesOfFile f changes count
+pub leading_changes_are_those_of_first_file : (f : ℕ) (changes : List LineChange) (count : ℕ) → AreFileNumbersOfChangesInOrder f changes count → AreLeadingChangesOfFile f changes count
 leading_changes_are_those_of_first_file f [] count by_files = record { here = refl; behind = λ g less. refl; by_files = tt }
-leading_changes_are_those_of_first_file f (change ∷ changes) count by_files = by (file_number_of_change change == f) refl (λ same. leading_changes_are_those_of_first_file f changes count (subst (λ n. AreChangesInFileOrder n changes count) same by_files.2))
+leading_changes_are_those_of_first_file f (change ∷ changes) count by_files = by (file_number_of_change change == f) refl (λ same. leading_changes_are_those_of_first_file f changes count (subst (λ n. AreFileNumbersOfChangesInOrder n changes count) same by_files.2))
   where
     by : (t : Bool) → (file_number_of_change change == f) ≡ t → (file_number_of_change change ≡ f → AreLeadingChangesOfFile f changes count) → AreLeadingChangesOfFile f (change ∷ changes) count
     by true e later =
@@ -45,7 +45,7 @@ leading_changes_are_those_of_first_file f (change ∷ changes) count by_files = 
               let other : (file_number_of_change change == g) ≡ false = grind (arith, nat_tests, same, less) in
               ap (λ n. changes_of_file g (drop n (change ∷ changes))) size ∙ rest.behind g less
               ∙ sym (ap (λ t. if t then change ∷ changes_of_file g changes else changes_of_file g changes) other);
-          by_files = subst (λ n. AreChangesInFileOrder (f + 1) (drop n (change ∷ changes)) count) (sym size) rest.by_files;
+          by_files = subst (λ n. AreFileNumbersOfChangesInOrder (f + 1) (drop n (change ∷ changes)) count) (sym size) rest.by_files;
         }
     by false e later =
         let size : leading_change_count_of_file f (change ∷ changes) ≡ 0 = ap (λ t. if t then 1 + leading_change_count_of_file f changes else 0) e in
@@ -56,7 +56,7 @@ leading_changes_are_those_of_first_file f (change ∷ changes) count by_files = 
         record {
           here = ap (λ n. take n (change ∷ changes)) size ∙ sym none;
           behind = λ g later_file. ap (λ n. changes_of_file g (drop n (change ∷ changes))) size;
-          by_files = subst (λ n. AreChangesInFileOrder (f + 1) (drop n (change ∷ changes)) count) (sym size) (omega (arith, less), by_files.1, by_files.2);
+          by_files = subst (λ n. AreFileNumbersOfChangesInOrder (f + 1) (drop n (change ∷ changes)) count) (sym size) (omega (arith, less), by_files.1, by_files.2);
         }
 
 lines_of_later_changes_stay_logical : (f : ℕ) (change : LineChange) (changes : List LineChange)
@@ -112,15 +112,15 @@ module _ (on : TableGrowthIsTransitive) (t u : Tables) (g : TablesHaveGrown t u)
 
   -- the outcome of this file and those behind it, after those that are read
   turn : (read : List ParsedFile) → parsed_files_or_cut_fault read (changed_files_from_number i changes (map (parsed_file_of_rows t) (drop i files)))
-      ≡ load_result_and_then (parsed_file_or_cut_fault file.name (cut_outcome_of_text (join (lines_after_changes here (texts_of_lines (map (line_of_row u) file.rows.items))))))
+      ≡ load_result_and_then (parsed_file_of_cut_or_fault file.name (cut_outcome_of_text (join (lines_after_changes here (texts_of_lines (map (line_of_row u) file.rows.items))))))
       (λ reading. parsed_files_or_cut_fault (read ++ reading ∷ []) (changed_files_from_number (i + 1) changes (map (parsed_file_of_rows t) rest)))
   turn read =
       ap (λ fs. parsed_files_or_cut_fault read (changed_files_from_number i changes (map (parsed_file_of_rows t) fs))) first
-      ∙ ap (λ ls. load_result_and_then (parsed_file_or_cut_fault file.name (cut_outcome_of_text (join ls))) (λ reading. parsed_files_or_cut_fault (read ++ reading ∷ []) (changed_files_from_number (i + 1) changes (map (parsed_file_of_rows t) rest)))) (sym after_is)
+      ∙ ap (λ ls. load_result_and_then (parsed_file_of_cut_or_fault file.name (cut_outcome_of_text (join ls))) (λ reading. parsed_files_or_cut_fault (read ++ reading ∷ []) (changed_files_from_number (i + 1) changes (map (parsed_file_of_rows t) rest)))) (sym after_is)
 
   pub turn_stops : (read : List ParsedFile) (whole : Result (List ParsedFile) LoadFault) (fault : LoadFault)
       → parsed_files_or_cut_fault read (changed_files_from_number i changes (map (parsed_file_of_rows t) (drop i files))) ≡ whole
-      → (fault ≡ NoMemory) ⊎ (parsed_file_or_cut_fault file.name (cut_outcome_of_text (join (lines_after_changes here (texts_of_lines (map (line_of_row u) file.rows.items))))) ≡ Err fault)
+      → (fault ≡ NoMemory) ⊎ (parsed_file_of_cut_or_fault file.name (cut_outcome_of_text (join (lines_after_changes here (texts_of_lines (map (line_of_row u) file.rows.items))))) ≡ Err fault)
       → (fault ≡ NoMemory) ⊎ (whole ≡ Err fault)
   turn_stops read whole fault begun (inl memory) = inl memory
   turn_stops read whole fault begun (inr is) =
@@ -128,7 +128,7 @@ module _ (on : TableGrowthIsTransitive) (t u : Tables) (g : TablesHaveGrown t u)
 
   pub turn_goes_on : (read more : List ParsedFile) (new : ParsedFile) (whole : Result (List ParsedFile) LoadFault)
       → parsed_files_or_cut_fault read (changed_files_from_number i changes (map (parsed_file_of_rows t) (drop i files))) ≡ whole
-      → parsed_file_or_cut_fault file.name (cut_outcome_of_text (join (lines_after_changes here (texts_of_lines (map (line_of_row u) file.rows.items))))) ≡ Ok new → more ≡ read ++ new ∷ []
+      → parsed_file_of_cut_or_fault file.name (cut_outcome_of_text (join (lines_after_changes here (texts_of_lines (map (line_of_row u) file.rows.items))))) ≡ Ok new → more ≡ read ++ new ∷ []
       → parsed_files_or_cut_fault more (changed_files_from_number (i + 1) changes (map (parsed_file_of_rows t) rest)) ≡ whole
   turn_goes_on read more new whole begun is with_new =
       ap (λ rs. parsed_files_or_cut_fault rs (changed_files_from_number (i + 1) changes (map (parsed_file_of_rows t) rest))) with_new

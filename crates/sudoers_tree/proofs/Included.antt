@@ -6,8 +6,8 @@ use Rattle.std.proofs.Common.{is_some, length-append, take-append-drop}
 use Rattle.memchr.proofs.lemmas.MatchLemmas.{OccursAt-split}
 use Rattle.sudoers_text.specs.declared.token.Token.{Token}
 use Rattle.sudoers_grammar.specs.Node as node
-use Rattle.sudoers_grammar.specs.Piece.{TokenWithBytes, include_dir_of_token, include_dirs_by_word, is_word, value_of_matching_row, tokens_with_bytes}
-use Rattle.sudoers_grammar.specs.Grammar.{IsInclude}
+use Rattle.sudoers_grammar.specs.Piece.{TokenWithBytes, include_is_dir_of_token, include_is_dir_by_word, is_word, value_of_matching_row, tokens_with_bytes}
+use Rattle.sudoers_grammar.specs.Grammar.{IsIncludeLine}
 
 -- the bytes `include` stand in the text
 abbrev pub HasWordInclude : List ℕ → Type 0
@@ -61,18 +61,18 @@ next_row_keeps_word_include_in_each_match word dir rows first later text d found
     by true e f = subst HasWordInclude (sym ((bytes_eq-Decides text word).0 e)) first
     by false e f = later text d f
 
-include_words_have_word_include : EachMatchingRowHasWordInclude include_dirs_by_word
+include_words_have_word_include : EachMatchingRowHasWordInclude include_is_dir_by_word
 include_words_have_word_include =
-    next_row_keeps_word_include_in_each_match (codes "#include") false (drop 1 include_dirs_by_word) (35 ∷ [], [], refl)
-    (next_row_keeps_word_include_in_each_match (codes "#includedir") true (drop 2 include_dirs_by_word) (35 ∷ [], codes "dir", refl)
-    (next_row_keeps_word_include_in_each_match (codes "@include") false (drop 3 include_dirs_by_word) (64 ∷ [], [], refl)
+    next_row_keeps_word_include_in_each_match (codes "#include") false (drop 1 include_is_dir_by_word) (35 ∷ [], [], refl)
+    (next_row_keeps_word_include_in_each_match (codes "#includedir") true (drop 2 include_is_dir_by_word) (35 ∷ [], codes "dir", refl)
+    (next_row_keeps_word_include_in_each_match (codes "@include") false (drop 3 include_is_dir_by_word) (64 ∷ [], [], refl)
     (next_row_keeps_word_include_in_each_match (codes "@includedir") true [] (64 ∷ [], codes "dir", refl) (λ text dir found. absurd cc))))
 
-include_token_has_word_include : (word : TokenWithBytes) (dir : Bool) → include_dir_of_token word ≡ Some dir → HasWordInclude word.text
-unfolding include_dir_of_token
+include_token_has_word_include : (word : TokenWithBytes) (dir : Bool) → include_is_dir_of_token word ≡ Some dir → HasWordInclude word.text
+unfolding include_is_dir_of_token
 include_token_has_word_include word dir is = by (is_word word.kind) is
   where
-    by : (t : Bool) → (if t then value_of_matching_row include_dirs_by_word word.text else None) ≡ Some dir → HasWordInclude word.text
+    by : (t : Bool) → (if t then value_of_matching_row include_is_dir_by_word word.text else None) ≡ Some dir → HasWordInclude word.text
     by true found = include_words_have_word_include word.text dir found
     by false found = absurd cc
 
@@ -84,7 +84,7 @@ first_token_text_is_part_of_line line (t ∷ tokens) word rest is = (t, cc)
 
 include_line_has_word_include : (line : List ℕ) (dir : Bool) (path : List ℕ) → LineReadsAsNode line (node.Include dir path) → HasWordInclude line
 include_line_has_word_include line dir path reads =
-    let include : IsInclude dir path (tokens_with_bytes line reads.tokens) reads.reads.0 = reads.reads.1 in
+    let include : IsIncludeLine dir path (tokens_with_bytes line reads.tokens) reads.reads.0 = reads.reads.1 in
     let part = first_token_text_is_part_of_line line reads.tokens include.word (include.name ∷ reads.reads.0) include.split in
     part_with_word_include_implies_text_has_it line part.0.start (part.0.stop - part.0.start) (subst HasWordInclude part.1 (include_token_has_word_include include.word dir include.is_include))
 

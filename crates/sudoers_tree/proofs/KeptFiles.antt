@@ -1,7 +1,7 @@
 -- Loaded files keep their names and their bytes.
 use Rattle.sudoers_tree.proofs.Common.{AllByRecursion, AreParsedUntilFault, Err, IsCutOutcome, Line, List, LoadedPolicy, NamedFile, None, Ok, Option, ParsedFile, Result, SyntaxFault, TextFault, [], ap, append-nil}
 use Rattle.sudoers_tree.proofs.Common.{append_assoc, ap₂, cut_outcome_of_text, join, lines_parsed_until_fault, load_result_and_then, map, named_file_of_parsed, named_files_of_policy, parsed_file_of_texts}
-use Rattle.sudoers_tree.proofs.Common.{parsed_file_or_cut_fault, parsed_files_or_cut_fault, policy_or_load_fault, refl, subst, sym, texts_of_lines, whole, ℕ, ◌++◌, ◌∙◌, ◌∷◌, ◌≡◌}
+use Rattle.sudoers_tree.proofs.Common.{parsed_file_of_cut_or_fault, parsed_files_or_cut_fault, policy_or_load_fault, refl, subst, sym, texts_of_lines, whole, ℕ, ◌++◌, ◌∙◌, ◌∷◌, ◌≡◌}
 use Rattle.sudoers_tree.specs.Files.{broken}
 use Rattle.sudoers_tree.proofs.Outcomes.{ComputedCutsAreCutOutcomes}
 use Rattle.sudoers_tree.proofs.ParsedFiles.{IsParsedWithoutFault, loaded_files_are_parsed_without_fault}
@@ -53,7 +53,7 @@ parsed_files_keep_names_and_bytes cuts reads before read (file ∷ files) is =
         → AreParsedFilesBeforeThenKept (before ++ parsed_file_of_texts file.name lines ∷ []) read files
 
     by : (r : Result (List (List ℕ)) TextFault) → IsCutOutcome file.bytes r
-        → load_result_and_then (parsed_file_or_cut_fault file.name r) (λ reading. parsed_files_or_cut_fault (before ++ reading ∷ []) files) ≡ Ok read → Later
+        → load_result_and_then (parsed_file_of_cut_or_fault file.name r) (λ reading. parsed_files_or_cut_fault (before ++ reading ∷ []) files) ≡ Ok read → Later
         → AreParsedFilesBeforeThenKept before read (file ∷ files)
     by (Ok lines) cut e later =
         let behind = later lines e in

@@ -1,6 +1,6 @@
 -- A walk that stays, and the names that its lines define.
 use Rattle.sudoers_tree.proofs.Common.{AliasNameIndex, All, Bool, ChangesDefinedNames, HasAliasRenamed, IsAcceptedNamesChange, IsInPlaceWalkUpdate, IsIndexOfDefinitions, IsLastingLineRow, IsNewAliasNameFree}
-use Rattle.sudoers_tree.proofs.Common.{IsSoundWalkBeforeChange, KeepsFileLineCount, KeepsWalkSpots, Kind, Line, LineRow, List, None, Ok, Option, ParsedFile, Place, PlacedDefinition, RenamesOneDefinition}
+use Rattle.sudoers_tree.proofs.Common.{IsSoundWalkBeforeChange, KeepsLineCountWithoutFault, KeepsWalkSpots, Kind, Line, LineRow, List, None, Ok, Option, ParsedFile, Place, PlacedDefinition, RenamesOneDefinition}
 use Rattle.sudoers_tree.proofs.Common.{ReplaceLinesAtSpots, Some, Tables, [], ap, bytes_eq, definitions_of_lines, entries_of_definitions, entries_with_one_renamed, false, file_names, files_before_change}
 use Rattle.sudoers_tree.proofs.Common.{first_definition_fault, if◌then◌else◌, index_entries_of_kind, is_equal_kind, is_reserved, is_some, length, length-map, line_of_row, map, name_of_numbered_file}
 use Rattle.sudoers_tree.proofs.Common.{number_of_named_entry, option_map, place_of_named_entry, refl, slice_get_within, subst, sym, text_in_tables, true, walk_before_change, walk_lines_before_change}
@@ -67,7 +67,7 @@ accepted_names_change_can_be_entered t index olds news Other fresh sound known s
 
 -- A walk stays.
 pub kept_lines_make_in_place_walk_update : (t : Tables) (b : WalkBeforeChange) (others : List ParsedFile) (lines : List LineRow) (change : DefinedNamesChange) (new : InPlaceWalkUpdate)
-    → IsSoundWalkBeforeChange t b → file_names others ≡ file_names (files_before_change t b) → All (KeepsFileLineCount (files_before_change t b) others) b.on.now
+    → IsSoundWalkBeforeChange t b → file_names others ≡ file_names (files_before_change t b) → All (KeepsLineCountWithoutFault (files_before_change t b) others) b.on.now
     → All (IsLastingLineRow t) lines → length lines ≡ length b.spots.now → ReplaceLinesAtSpots others (walk_lines_before_change t b) b.spots.now (map (line_of_row t) lines)
     → ChangesDefinedNames t change (definitions_of_lines (walk_lines_before_change t b)) (definitions_of_lines (map (line_of_row t) lines)) → IsAcceptedNamesChange t b.index.now change new.fresh
     → new.lines.items ≡ lines → IsInPlaceWalkUpdate t b others new

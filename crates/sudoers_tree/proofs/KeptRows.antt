@@ -1,5 +1,5 @@
 -- The rows of a walk that stays.
-use Rattle.sudoers_tree.proofs.Common.{All, All-head, All-push, All-tail, Bool, KeepsFileLineCount, Line, List, ParsedFile, ReplaceLinesAtSpots, ReplacesLineAtSpot, Some, WalkLineSpot, [], ap, arith, eqb-true, false}
+use Rattle.sudoers_tree.proofs.Common.{All, All-head, All-push, All-tail, Bool, KeepsLineCountWithoutFault, Line, List, ParsedFile, ReplaceLinesAtSpots, ReplacesLineAtSpot, Some, WalkLineSpot, [], ap, arith, eqb-true, false}
 use Rattle.sudoers_tree.proofs.Common.{get_or, inl, inr, length, length_push, list_any, nat_eq, refl, slice_get, subst, suc, sym, take, take_more, true, zero, ℕ, ◌++◌, ◌+◌, ◌<◌, ◌||◌, ◌∙◌, ◌∷◌, ◌≡◌, ◌⊎◌}
 
 -- What holds of the first items and of the next holds of one more.
@@ -8,15 +8,15 @@ pub property_of_front_extends_to_next_item : {A : Type 0} (P : A → Type 0) (xs
 property_of_front_extends_to_next_item P xs i d less all here = subst (All P) (sym (take_more xs i d less)) (All-push P (take i xs) (get_or xs i d) all here)
 
 -- What holds of each of these files holds of one that is among them.
-pub file_on_walk_keeps_its_line_count : (files others : List ParsedFile) (on : List ℕ) → All (KeepsFileLineCount files others) on → (f : ℕ) → list_any (nat_eq f) on ≡ true
-    → KeepsFileLineCount files others f
+pub file_on_walk_keeps_its_line_count : (files others : List ParsedFile) (on : List ℕ) → All (KeepsLineCountWithoutFault files others) on → (f : ℕ) → list_any (nat_eq f) on ≡ true
+    → KeepsLineCountWithoutFault files others f
 file_on_walk_keeps_its_line_count files others [] all f is = absurd cc
 file_on_walk_keeps_its_line_count files others (g ∷ on) all f is =
-    by (nat_eq f g) refl is (file_on_walk_keeps_its_line_count files others on (All-tail (KeepsFileLineCount files others) g on all) f)
+    by (nat_eq f g) refl is (file_on_walk_keeps_its_line_count files others on (All-tail (KeepsLineCountWithoutFault files others) g on all) f)
   where
     by : (b : Bool) → nat_eq f g ≡ b → (b || list_any (nat_eq f) on) ≡ true
-        → (list_any (nat_eq f) on ≡ true → KeepsFileLineCount files others f) → KeepsFileLineCount files others f
-    by true e found later = subst (KeepsFileLineCount files others) (sym (eqb-true f g e)) (All-head (KeepsFileLineCount files others) g on all)
+        → (list_any (nat_eq f) on ≡ true → KeepsLineCountWithoutFault files others f) → KeepsLineCountWithoutFault files others f
+    by true e found later = subst (KeepsLineCountWithoutFault files others) (sym (eqb-true f g e)) (All-head (KeepsLineCountWithoutFault files others) g on all)
     by false e found later = later found
 
 -- ---- the lines at the spots

@@ -1,5 +1,5 @@
 -- Walks over files of which lines were changed: what a walk appends, and a walk that follows another.
-use Rattle.sudoers_tree.proofs.Common.{Bool, Err, InFile, Line, LineMapping, List, LoadFault, None, Ok, Option, PlacedDefinition, ReadFault, Result, Some, WalkLineSpot, WalkState, [], ap, append-nil, append_assoc}
+use Rattle.sudoers_tree.proofs.Common.{Bool, Err, InFile, Line, LineToLinesMapping, List, LoadFault, None, Ok, Option, PlacedDefinition, ReadFault, Result, Some, WalkLineSpot, WalkState, [], ap, append-nil, append_assoc}
 use Rattle.sudoers_tree.proofs.Common.{ap₂, arith, definitions_from_line_number, definitions_in_line, definitions_of_lines, eq-eqb, false, first_definition_fault, first_of_two_faults, is_file_on_walk, length}
 use Rattle.sudoers_tree.proofs.Common.{length-append, length_push, list_any, list_any-append, load_result_and_then, mapped_lines_at_spots, nat_eq, refl, subst, sym, true, value_unless_file_fault}
 use Rattle.sudoers_tree.proofs.Common.{walk_with_file_entered, walk_with_line_appended, ℕ, ◌++◌, ◌+◌, ◌||◌, ◌∙◌, ◌∷◌, ◌≡◌}
@@ -11,7 +11,7 @@ abbrev pub WalkResult : Type 0
 WalkResult = Result WalkState LoadFault
 
 -- The lines that come of lines and of more lines are those that come of each.
-mapped_lines_of_appended_lines_are_appended : (g : LineMapping) (spots more : List WalkLineSpot) (lines others : List Line) → length spots ≡ length lines
+mapped_lines_of_appended_lines_are_appended : (g : LineToLinesMapping) (spots more : List WalkLineSpot) (lines others : List Line) → length spots ≡ length lines
     → mapped_lines_at_spots g (spots ++ more) (lines ++ others) ≡ mapped_lines_at_spots g spots lines ++ mapped_lines_at_spots g more others
 mapped_lines_of_appended_lines_are_appended g [] more [] others paired = refl
 mapped_lines_of_appended_lines_are_appended g [] more (line ∷ lines) others paired = absurd (omega (arith, paired))
@@ -20,7 +20,7 @@ mapped_lines_of_appended_lines_are_appended g (at ∷ spots) more (line ∷ line
     ap (λ ls. g at.file at.line line ++ ls) (mapped_lines_of_appended_lines_are_appended g spots more lines others (omega (arith, paired)))
     ∙ sym (append_assoc (g at.file at.line line) (mapped_lines_at_spots g spots lines) (mapped_lines_at_spots g more others))
 
-mapped_lines_with_last_line_are_appended : (g : LineMapping) (spots : List WalkLineSpot) (at : WalkLineSpot) (lines : List Line) (line : Line) → length spots ≡ length lines
+mapped_lines_with_last_line_are_appended : (g : LineToLinesMapping) (spots : List WalkLineSpot) (at : WalkLineSpot) (lines : List Line) (line : Line) → length spots ≡ length lines
     → mapped_lines_at_spots g (spots ++ at ∷ []) (lines ++ line ∷ []) ≡ mapped_lines_at_spots g spots lines ++ g at.file at.line line
 mapped_lines_with_last_line_are_appended g spots at lines line paired =
     mapped_lines_of_appended_lines_are_appended g spots (at ∷ []) lines (line ∷ []) paired
@@ -94,13 +94,13 @@ extended_walk_keeps_files_on_it f w now more on =
 
 -- The lines of the walk v are those that come of the lines of the walk w, and no name that they define has a fault. The walk v has passed
 -- the same files.
-pub record IsWalkFollowedByMappedWalk (g : LineMapping) (v w : WalkState) : Type 0 where
+pub record IsWalkFollowedByMappedWalk (g : LineToLinesMapping) (v w : WalkState) : Type 0 where
   pub paired : length w.spots ≡ length w.lines
   pub lines : v.lines ≡ mapped_lines_at_spots g w.spots w.lines
   pub on : v.on ≡ w.on
   pub stand : first_definition_fault [] (definitions_of_lines v.lines) ≡ None
 
-pub entering_file_keeps_mapped_walk_following : (g : LineMapping) (f : ℕ) (v w : WalkState) → IsWalkFollowedByMappedWalk g v w → IsWalkFollowedByMappedWalk g (walk_with_file_entered f v) (walk_with_file_entered f w)
+pub entering_file_keeps_mapped_walk_following : (g : LineToLinesMapping) (f : ℕ) (v w : WalkState) → IsWalkFollowedByMappedWalk g v w → IsWalkFollowedByMappedWalk g (walk_with_file_entered f v) (walk_with_file_entered f w)
 entering_file_keeps_mapped_walk_following g f v w is = record { paired = is.paired; lines = is.lines; on = ap (λ on. on ++ f ∷ []) is.on; stand = is.stand }
 
 -- the walk with this line at this spot appended
@@ -118,13 +118,13 @@ appending_line_extends_walk at line w = record {
   on_are = append-nil w.on;
 }
 
-mapped_lines_after_line_are_appended : (g : LineMapping) (at : WalkLineSpot) (line : Line) (v w : WalkState) → IsWalkFollowedByMappedWalk g v w
+mapped_lines_after_line_are_appended : (g : LineToLinesMapping) (at : WalkLineSpot) (line : Line) (v w : WalkState) → IsWalkFollowedByMappedWalk g v w
     → v.lines ++ g at.file at.line line ≡ mapped_lines_at_spots g (w.spots ++ at ∷ []) (w.lines ++ line ∷ [])
 mapped_lines_after_line_are_appended g at line v w is =
     ap (λ ls. ls ++ g at.file at.line line) is.lines ∙ sym (mapped_lines_with_last_line_are_appended g w.spots at w.lines line is.paired)
 
 -- One walk has passed a line, and the other the lines that come of it.
-pub mapped_walk_follows_after_line : (g : LineMapping) (at : WalkLineSpot) (line : Line) (v last w : WalkState) → IsWalkFollowedByMappedWalk g v w → last.lines ≡ v.lines ++ g at.file at.line line
+pub mapped_walk_follows_after_line : (g : LineToLinesMapping) (at : WalkLineSpot) (line : Line) (v last w : WalkState) → IsWalkFollowedByMappedWalk g v w → last.lines ≡ v.lines ++ g at.file at.line line
     → last.on ≡ v.on → first_definition_fault [] (definitions_of_lines last.lines) ≡ None → IsWalkFollowedByMappedWalk g last (walk_with_line_at_spot at line w)
 mapped_walk_follows_after_line g at line v last w is lines on stand = record {
   paired = omega (arith, is.paired, length_push w.spots at, length_push w.lines line);
@@ -136,7 +136,7 @@ mapped_walk_follows_after_line g at line v last w is lines on stand = record {
 -- ---- the fault of a name
 
 -- this is the first fault of a name that the lines define which come of those of the whole walk
-abbrev pub IsFirstNameFaultOfMappedWalk : LineMapping → WalkState → ReadFault → Type 0
+abbrev pub IsFirstNameFaultOfMappedWalk : LineToLinesMapping → WalkState → ReadFault → Type 0
 IsFirstNameFaultOfMappedWalk g total fault = first_definition_fault [] (definitions_of_lines (mapped_lines_at_spots g total.spots total.lines)) ≡ Some fault
 
 -- A fault among the first lines is the first of all.
@@ -149,7 +149,7 @@ name_fault_of_first_lines_is_first_of_all lines others fault is =
     ∙ ap (λ o. first_of_two_faults o (first_definition_fault (definitions_of_lines lines) behind)) is
 
 -- So is one in the lines that come of a line on the walk.
-pub name_fault_in_mapped_lines_is_first_of_walk : (g : LineMapping) (at : WalkLineSpot) (line : Line) (v w total : WalkState) → IsWalkFollowedByMappedWalk g v w → IsExtendedWalk (walk_with_line_at_spot at line w) total
+pub name_fault_in_mapped_lines_is_first_of_walk : (g : LineToLinesMapping) (at : WalkLineSpot) (line : Line) (v w total : WalkState) → IsWalkFollowedByMappedWalk g v w → IsExtendedWalk (walk_with_line_at_spot at line w) total
     → (fault : ReadFault) → first_definition_fault [] (definitions_of_lines (v.lines ++ g at.file at.line line)) ≡ Some fault → IsFirstNameFaultOfMappedWalk g total fault
 name_fault_in_mapped_lines_is_first_of_walk g at line v w total follows more fault is =
     let passed : WalkState = walk_with_line_at_spot at line w in
@@ -165,32 +165,32 @@ name_fault_in_mapped_lines_is_first_of_walk g at line v w total follows more fau
 -- ---- one part of a walk after another
 
 -- The outcome is the first fault of a name in the lines that come of those of the whole walk.
-pub record IsOutcomeWithFirstNameFault (g : LineMapping) (total : WalkState) (outcome : WalkResult) : Type 0 where
+pub record IsOutcomeWithFirstNameFault (g : LineToLinesMapping) (total : WalkState) (outcome : WalkResult) : Type 0 where
   pub name : List ℕ
   pub fault : ReadFault
   pub is : outcome ≡ Err (InFile name fault)
   pub first : IsFirstNameFaultOfMappedWalk g total fault
 
 -- The outcome is a walk that follows this one, unless a name has a fault.
-pub data ArrivesAtFollowingWalkOrNameFault (g : LineMapping) (total now : WalkState) (outcome : WalkResult) : Type 0 where
+pub data ArrivesAtFollowingWalkOrNameFault (g : LineToLinesMapping) (total now : WalkState) (outcome : WalkResult) : Type 0 where
   arrived : (last : WalkState) → outcome ≡ Ok last → IsWalkFollowedByMappedWalk g last now → ArrivesAtFollowingWalkOrNameFault g total now outcome
   faulty : IsOutcomeWithFirstNameFault g total outcome → ArrivesAtFollowingWalkOrNameFault g total now outcome
 
 -- One part of a walk goes from w to `now`. The other walk goes along: from a walk that follows w it arrives at one that follows `now`, if
 -- the whole walk has both parts.
-pub record MappedWalkGoesAlongPart (g : LineMapping) (total w now : WalkState) (go : WalkState → WalkResult) : Type 0 where
+pub record MappedWalkGoesAlongPart (g : LineToLinesMapping) (total w now : WalkState) (go : WalkState → WalkResult) : Type 0 where
   pub more : IsExtendedWalk w now
   pub arrives : (v : WalkState) → IsWalkFollowedByMappedWalk g v w → IsExtendedWalk now total → ArrivesAtFollowingWalkOrNameFault g total now (go v)
 
 -- The other walk goes on where it arrives.
-pub mapped_walk_goes_on_where_it_arrives : (g : LineMapping) (total within now : WalkState) (outcome : WalkResult) (later : WalkState → WalkResult) → ArrivesAtFollowingWalkOrNameFault g total within outcome
+pub mapped_walk_goes_on_where_it_arrives : (g : LineToLinesMapping) (total within now : WalkState) (outcome : WalkResult) (later : WalkState → WalkResult) → ArrivesAtFollowingWalkOrNameFault g total within outcome
     → ((last : WalkState) → IsWalkFollowedByMappedWalk g last within → ArrivesAtFollowingWalkOrNameFault g total now (later last)) → ArrivesAtFollowingWalkOrNameFault g total now (load_result_and_then outcome later)
 mapped_walk_goes_on_where_it_arrives g total within now outcome later (arrived last is follows) next =
     subst (ArrivesAtFollowingWalkOrNameFault g total now) (ap (λ r. load_result_and_then r later) (sym is)) (next last follows)
 mapped_walk_goes_on_where_it_arrives g total within now outcome later (faulty wrong) next =
     faulty (record { name = wrong.name; fault = wrong.fault; is = ap (λ r. load_result_and_then r later) wrong.is; first = wrong.first })
 
-pub mapped_walk_goes_along_two_parts : (g : LineMapping) (total w within now : WalkState) (first later : WalkState → WalkResult) → MappedWalkGoesAlongPart g total w within first
+pub mapped_walk_goes_along_two_parts : (g : LineToLinesMapping) (total w within now : WalkState) (first later : WalkState → WalkResult) → MappedWalkGoesAlongPart g total w within first
     → MappedWalkGoesAlongPart g total within now later → MappedWalkGoesAlongPart g total w now (λ v. load_result_and_then (first v) later)
 mapped_walk_goes_along_two_parts g total w within now first later one two = record {
   more = walk_extension_is_transitive w within now one.more two.more;
@@ -200,7 +200,7 @@ mapped_walk_goes_along_two_parts g total w within now first later one two = reco
 }
 
 -- The other walk takes a line, unless one of its names has a fault.
-pub mapped_walk_takes_line_or_has_name_fault : (g : LineMapping) (total now : WalkState) (name : List ℕ) (at : WalkLineSpot) (line : Line) (v : WalkState) (later : WalkState → WalkResult)
+pub mapped_walk_takes_line_or_has_name_fault : (g : LineToLinesMapping) (total now : WalkState) (name : List ℕ) (at : WalkLineSpot) (line : Line) (v : WalkState) (later : WalkState → WalkResult)
     → first_definition_fault [] (definitions_of_lines v.lines) ≡ None
     → ((fault : ReadFault) → first_definition_fault [] (definitions_of_lines (v.lines ++ line ∷ [])) ≡ Some fault → IsFirstNameFaultOfMappedWalk g total fault)
     → (first_definition_fault [] (definitions_of_lines (v.lines ++ line ∷ [])) ≡ None → ArrivesAtFollowingWalkOrNameFault g total now (later (walk_with_line_at_spot at line v)))

@@ -1,8 +1,8 @@
 -- Loading files of which lines were changed, where each line keeps its lead.
-use Rattle.sudoers_tree.proofs.Common.{AllByRecursion, AreDefinedNamesValid, AreFilesMapped, AreParsedUntilFault, Bool, CanReplaceFiles, IsCorrectlyParsed, IsMappedWalk, Line, LineMapping, List, LoadFault}
+use Rattle.sudoers_tree.proofs.Common.{AllByRecursion, AreDefinedNamesValid, AreFilesMapped, AreParsedUntilFault, Bool, CanReplaceFiles, IsCorrectlyParsed, IsMappedWalk, Line, LineToLinesMapping, List, LoadFault}
 use Rattle.sudoers_tree.proofs.Common.{LoadedPolicy, NamedFile, None, Ok, Option, ParsedFile, ReadFault, Result, Some, SyntaxFault, WalkState, [], ap, append-nil, append_assoc, drop, false, fault_of_optional_file}
 use Rattle.sudoers_tree.proofs.Common.{file_limit, file_names, first_fault_of_unreached_file, if◌then◌else◌, is_file_on_walk, lines_of_optional_file, lines_parsed_until_fault, list_any, load_result_and_then, map}
-use Rattle.sudoers_tree.proofs.Common.{mapped_lines_at_spots, named_file_of_parsed, named_files_of_policy, nat_eq, nat_lt, parsed_file_from_pair, parsed_file_of_texts, parsed_file_or_cut_fault}
+use Rattle.sudoers_tree.proofs.Common.{mapped_lines_at_spots, named_file_of_parsed, named_files_of_policy, nat_eq, nat_lt, parsed_file_from_pair, parsed_file_of_texts, parsed_file_of_cut_or_fault}
 use Rattle.sudoers_tree.proofs.Common.{parsed_files_or_cut_fault, policy_of_parsed_files, policy_or_load_fault, refl, slice_get, subst, suc, sym, texts_of_lines, true, value_unless_file_fault, walk_or_fault_of_files}
 use Rattle.sudoers_tree.proofs.Common.{walk_or_first_fault, walk_or_unreached_file_fault, whole, zero, ℕ, ◌++◌, ◌+◌, ◌∙◌, ◌∷◌, ◌≡◌}
 use Rattle.sudoers_tree.proofs.ChangedLoads.{AreFewFilesWithDistinctNames, loaded_files_are_few_with_distinct_names}
@@ -38,7 +38,7 @@ files_read_again_are_parsed_as_they_are : LinesAreParsedInOneWay → (before fil
     → parsed_files_or_cut_fault before (map named_file_of_parsed files) ≡ Ok (before ++ files)
 files_read_again_are_parsed_as_they_are one before [] all = ap (λ fs. Ok fs) (sym (append-nil before))
 files_read_again_are_parsed_as_they_are one before (file ∷ files) all =
-    ap (λ o. load_result_and_then (parsed_file_or_cut_fault file.name o) (λ reading. parsed_files_or_cut_fault (before ++ reading ∷ []) (map named_file_of_parsed files))) all.0.cut
+    ap (λ o. load_result_and_then (parsed_file_of_cut_or_fault file.name o) (λ reading. parsed_files_or_cut_fault (before ++ reading ∷ []) (map named_file_of_parsed files))) all.0.cut
     ∙ ap (λ reading. parsed_files_or_cut_fault (before ++ reading ∷ []) (map named_file_of_parsed files)) (file_read_again_is_parsed_as_it_is one file all.0)
     ∙ files_read_again_are_parsed_as_they_are one (before ++ file ∷ []) files all.1
     ∙ ap (λ fs. Ok fs) (append_assoc before (file ∷ []) files)
@@ -63,7 +63,7 @@ loaded_file_is_read_again_as_it_is cuts reads joins lines files p is f file at =
     }
 
 -- So is each of the files of which lines were changed.
-replacing_files_are_read_again_as_they_are : (g : LineMapping) (files others : List ParsedFile) (w : WalkState) → AreFilesMapped g files others w → CanReplaceFiles files others w
+replacing_files_are_read_again_as_they_are : (g : LineToLinesMapping) (files others : List ParsedFile) (w : WalkState) → AreFilesMapped g files others w → CanReplaceFiles files others w
     → ((f : ℕ) (file : ParsedFile) → slice_get files f ≡ Some file → IsFileReadAgainAsItIs file) → AllByRecursion IsFileReadAgainAsItIs others
 replacing_files_are_read_again_as_they_are g files others w are can again = property_of_each_numbered_item_is_of_all IsFileReadAgainAsItIs others (λ f file at. by f file at (is_file_on_walk w f) refl)
   where
@@ -116,12 +116,12 @@ unreached_files_are_checked_alike_on_walks w other all behind on stay n (file �
 -- ---- all files
 
 -- The policy of files of which lines were changed: the files, and the walk over them.
-abbrev pub LoadsAsMappedPolicy : LineMapping → LoadedPolicy → List ParsedFile → Type 0
+abbrev pub LoadsAsMappedPolicy : LineToLinesMapping → LoadedPolicy → List ParsedFile → Type 0
 LoadsAsMappedPolicy g policy others =
     (other : WalkState) × (policy_or_load_fault (map named_file_of_parsed others) ≡ Ok (record { files = others; walk = other })) × (walk_or_fault_of_files others ≡ Ok other)
     × IsMappedWalk g policy.walk other
 
-pub mapped_files_load_as_mapped_policy : ComputedCutsAreCutOutcomes → LinesAreParsedUntilFault → LinesAreParsedInOneWay → SeparateLinesAreCutFromTheirJoin → ComputedLineOutcomesAreLineOutcomes → (g : LineMapping) (policy : LoadedPolicy) (others : List ParsedFile)
+pub mapped_files_load_as_mapped_policy : ComputedCutsAreCutOutcomes → LinesAreParsedUntilFault → LinesAreParsedInOneWay → SeparateLinesAreCutFromTheirJoin → ComputedLineOutcomesAreLineOutcomes → (g : LineToLinesMapping) (policy : LoadedPolicy) (others : List ParsedFile)
     → policy_or_load_fault (named_files_of_policy policy) ≡ Ok policy → AreFilesMapped g policy.files others policy.walk → CanReplaceFiles policy.files others policy.walk
     → AreDefinedNamesValid (mapped_lines_at_spots g policy.walk.spots policy.walk.lines) → LoadsAsMappedPolicy g policy others
 mapped_files_load_as_mapped_policy cuts reads one joins lines g policy others is are can names =

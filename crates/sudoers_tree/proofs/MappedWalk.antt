@@ -1,7 +1,7 @@
 -- The walk over files of which lines were changed, where each line keeps its lead.
-use Rattle.sudoers_tree.proofs.Common.{AllByRecursion, AreDefinedNamesValid, AreFilesMapped, Bool, Err, FileVisit, InFile, IncludeSite, IsMappedWalk, KeepsIncludeLead, Lead, Line, LineMapping, List, LoadFault, None}
+use Rattle.sudoers_tree.proofs.Common.{AllByRecursion, AreDefinedNamesValid, AreFilesMapped, Bool, Err, FileVisit, InFile, IncludeSite, IsMappedWalk, KeepsIncludeLead, Lead, Line, LineToLinesMapping, List, LoadFault, None}
 use Rattle.sudoers_tree.proofs.Common.{Ok, Option, ParsedFile, PlacedDefinition, ReadFault, Result, Some, SyntaxFault, WalkLineSpot, WalkState, [], ap, append-nil, append_assoc, definitions_in_line}
-use Rattle.sudoers_tree.proofs.Common.{definitions_of_lines, drop, empty_walk, false, fault_of_numbered_file, file_names, files_opened_by_lead, files_unless_missing, files_unless_on_walk, first_definition_fault}
+use Rattle.sudoers_tree.proofs.Common.{definitions_of_lines, drop, empty_walk, false, fault_of_numbered_file, file_names, files_opened_by_lead, files_unless_missing_or_on_walk, files_unless_on_walk, first_definition_fault}
 use Rattle.sudoers_tree.proofs.Common.{first_file_on_walk, if◌then◌else◌, include_depth_limit, include_site_of_line, is_file_on_walk, lead_of_file_line, lead_of_parsed_line, length, lines_of_numbered_file, list_any}
 use Rattle.sudoers_tree.proofs.Common.{load_result_and_then, mapped_lines_at_spots, mapped_lines_from_number, name_of_numbered_file, nat_eq, nowhere, one, option_map, refl, repeated_include_fault, slice_get}
 use Rattle.sudoers_tree.proofs.Common.{spot_of_file_line, subst, suc, sym, syntax_fault_as_read_fault, targets_of_lead, true, value_unless_file_fault, walk_after_file_lines, walk_after_file_visit}
@@ -41,11 +41,11 @@ lead_opens_same_files_on_walks_alike files others names at other_at v w (Some le
     by_on None found none e = ap (files_unless_on_walk others other_at found) (walks_of_same_files_have_same_first_file v w found same ∙ none) ∙ e
     by_on (Some f) found first e = absurd cc
 
-    by_targets : (t : Option (List ℕ)) → targets_of_lead files lead ≡ t → files_unless_missing files at lead w t ≡ Ok inner
+    by_targets : (t : Option (List ℕ)) → targets_of_lead files lead ≡ t → files_unless_missing_or_on_walk files at lead w t ≡ Ok inner
         → files_opened_by_lead others other_at v (Some lead) ≡ Ok inner
     by_targets None e f = absurd cc
     by_targets (Some found) e f =
-        ap (files_unless_missing others other_at lead v) (sym (same_targets files others names lead) ∙ e) ∙ by_on (first_file_on_walk w found) found refl f
+        ap (files_unless_missing_or_on_walk others other_at lead v) (sym (same_targets files others names lead) ∙ e) ∙ by_on (first_file_on_walk w found) found refl f
 
 -- A line that leads nowhere opens no file.
 line_without_lead_opens_no_file : (files : List ParsedFile) (at : IncludeSite) (w : WalkState) (o : Option Lead) (inner : List ℕ) → o ≡ None → files_opened_by_lead files at w o ≡ Ok inner
@@ -56,7 +56,7 @@ line_without_lead_opens_no_file files at w (Some lead) inner none is = absurd cc
 -- ---- lines that lead nowhere
 
 -- The other walk goes on behind lines that lead nowhere, unless a name that they define has a fault.
-mapped_walk_passes_lines_without_leads : (g : LineMapping) (total now : WalkState) (visit : FileVisit) (files : List ParsedFile) (f n : ℕ) (lines rest : List Line) (v : WalkState)
+mapped_walk_passes_lines_without_leads : (g : LineToLinesMapping) (total now : WalkState) (visit : FileVisit) (files : List ParsedFile) (f n : ℕ) (lines rest : List Line) (v : WalkState)
     → AllByRecursion (λ (line : Line). lead_of_parsed_line (name_of_numbered_file files f) line.node ≡ None) lines
     → first_definition_fault [] (definitions_of_lines v.lines) ≡ None
     → ((fault : ReadFault) → first_definition_fault [] (definitions_of_lines (v.lines ++ lines)) ≡ Some fault → IsFirstNameFaultOfMappedWalk g total fault)
@@ -92,7 +92,7 @@ mapped_walk_passes_lines_without_leads g total now visit files f n (line ∷ lin
 
 -- ---- the walk
 
-module _ (g : LineMapping) (files others : List ParsedFile) (total : WalkState) (are : AreFilesMapped g files others total) where
+module _ (g : LineToLinesMapping) (files others : List ParsedFile) (total : WalkState) (are : AreFilesMapped g files others total) where
   -- a visit over the others goes along with one over the files
   abbrev VisitsAlong : FileVisit → FileVisit → Type 0
   VisitsAlong visit beside = (at other_at : IncludeSite) (f : ℕ) (w now : WalkState) → visit at f w ≡ Ok now → MappedWalkGoesAlongPart g total w now (beside other_at f)
@@ -269,7 +269,7 @@ module _ (g : LineMapping) (files others : List ParsedFile) (total : WalkState) 
   visits_along (suc left) at other_at f w now is = file_along (walk_after_file_visit left files) (walk_after_file_visit left others) (visits_along left) f w now is
 
 -- The walk over files of which lines were changed follows that over the files before, unless a name has a fault.
-mapped_files_walk_arrives_or_has_name_fault : (g : LineMapping) (files others : List ParsedFile) (w : WalkState) → walk_or_fault_of_files files ≡ Ok w → AreFilesMapped g files others w
+mapped_files_walk_arrives_or_has_name_fault : (g : LineToLinesMapping) (files others : List ParsedFile) (w : WalkState) → walk_or_fault_of_files files ≡ Ok w → AreFilesMapped g files others w
     → ArrivesAtFollowingWalkOrNameFault g w w (walk_or_fault_of_files others)
 unfolding walk_or_fault_of_files
 mapped_files_walk_arrives_or_has_name_fault g files others w is are =
@@ -277,11 +277,11 @@ mapped_files_walk_arrives_or_has_name_fault g files others w is are =
     file_along g files others w are (walk_after_file_visit include_depth_limit files) (walk_after_file_visit include_depth_limit others) (visits_along g files others w are include_depth_limit) 0 empty_walk w is in
     along.arrives empty_walk (record { paired = refl; lines = refl; on = refl; stand = refl }) (walk_extends_itself w)
 
-following_walk_is_mapped_walk : (g : LineMapping) (w other : WalkState) → IsWalkFollowedByMappedWalk g other w → IsMappedWalk g w other
+following_walk_is_mapped_walk : (g : LineToLinesMapping) (w other : WalkState) → IsWalkFollowedByMappedWalk g other w → IsMappedWalk g w other
 following_walk_is_mapped_walk g w other is = record { lines = is.lines; on = is.on }
 
 -- A walk over files passes the same files in the files of which lines were changed, and its lines are those that come of its lines.
-pub walk_of_mapped_files_is_mapped_walk : (g : LineMapping) (files others : List ParsedFile) (w : WalkState) → walk_or_fault_of_files files ≡ Ok w → AreFilesMapped g files others w
+pub walk_of_mapped_files_is_mapped_walk : (g : LineToLinesMapping) (files others : List ParsedFile) (w : WalkState) → walk_or_fault_of_files files ≡ Ok w → AreFilesMapped g files others w
     → AreDefinedNamesValid (mapped_lines_at_spots g w.spots w.lines) → (other : WalkState) × (walk_or_fault_of_files others ≡ Ok other) × IsMappedWalk g w other
 walk_of_mapped_files_is_mapped_walk g files others w is are names = by (mapped_files_walk_arrives_or_has_name_fault g files others w is are)
   where
@@ -298,7 +298,7 @@ walk_of_mapped_files_is_mapped_walk g files others w is are names = by (mapped_f
         absurd cc
 
 -- If the files of which lines were changed have a walk, it is that one.
-pub walk_found_of_mapped_files_is_mapped_walk : (g : LineMapping) (files others : List ParsedFile) (w other : WalkState) → walk_or_fault_of_files files ≡ Ok w → AreFilesMapped g files others w
+pub walk_found_of_mapped_files_is_mapped_walk : (g : LineToLinesMapping) (files others : List ParsedFile) (w other : WalkState) → walk_or_fault_of_files files ≡ Ok w → AreFilesMapped g files others w
     → walk_or_fault_of_files others ≡ Ok other → IsMappedWalk g w other
 walk_found_of_mapped_files_is_mapped_walk g files others w other is are walk = by (mapped_files_walk_arrives_or_has_name_fault g files others w is are)
   where

@@ -1,5 +1,5 @@
 -- Items of lists by their numbers, and lists in order.
-use Rattle.sudoers_tree.proofs.Common.{List, ParsedFile, Some, [], ap, arith, base_name_of_file, bytes_eq, drop, ends_in_tilde, false, file_inserted_in_name_order, folder_of, if◌then◌else◌, included_files_of_folder}
+use Rattle.sudoers_tree.proofs.Common.{List, ParsedFile, Some, [], ap, arith, base_name_of_file_name, bytes_eq, drop, ends_in_tilde, false, file_inserted_in_name_order, folder_of, if◌then◌else◌, included_files_of_folder}
 use Rattle.sudoers_tree.proofs.Common.{insert, is_file_name_before, is_includable_from_folder, length, length-drop, length-take-le, name_of_numbered_file, number_of_first_file_named, refl, slice_get, suc, sym, take}
 use Rattle.sudoers_tree.proofs.Common.{take_all, true, zero, ℕ, ◌++◌, ◌+◌, ◌-◌, ◌<◌, ◌==◌, ◌∙◌, ◌∷◌, ◌≡◌}
 
@@ -36,13 +36,13 @@ ends_in_tilde_is_told_by_last_byte (a ∷ c ∷ rest) b = ends_in_tilde_is_told_
 
 -- The name without its folder, where its last `/` stands at a byte, and where there is none.
 pub bytes_after_last_slash_are_base_name : (name : List ℕ) (at : ℕ) → at < length name → take (at + 1) name ≡ folder_of name
-    → take (length name - (at + 1)) (drop (at + 1) name) ≡ base_name_of_file name
+    → take (length name - (at + 1)) (drop (at + 1) name) ≡ base_name_of_file_name name
 bytes_after_last_slash_are_base_name name at less front =
     let whole : take (length name - (at + 1)) (drop (at + 1) name) ≡ drop (at + 1) name = take_all (length name - (at + 1)) (drop (at + 1) name) (omega (arith, length-drop (at + 1) name)) in
     let count : length (folder_of name) ≡ at + 1 = ap length (sym front) ∙ length-take-le (at + 1) name (omega (arith, less)) in
     whole ∙ ap (λ n. drop n name) (sym count)
 
-pub name_without_folder_is_base_name : (name : List ℕ) → folder_of name ≡ [] → name ≡ base_name_of_file name
+pub name_without_folder_is_base_name : (name : List ℕ) → folder_of name ≡ [] → name ≡ base_name_of_file_name name
 name_without_folder_is_base_name name front = ap (λ ns. drop (length ns) name) (sym front)
 
 -- ---- files by their names

@@ -1,14 +1,14 @@
 -- Files that are not on the walk.
 use Rattle.sudoers_tree.proofs.Common.{Bool, Err, InFile, Line, List, LoadFault, NoMemory, None, Ok, Option, ParsedFile, ReadFault, Result, Some, WalkState, ap, definitions_in_line, drop, false}
 use Rattle.sudoers_tree.proofs.Common.{fault_of_numbered_file, fault_of_optional_file, first_of_two_faults, if◌then◌else◌, inl, inr, is_file_on_walk, length, lines_of_numbered_file, lines_of_optional_file}
-use Rattle.sudoers_tree.proofs.Common.{load_result_and_then, name_of_numbered_file, name_of_optional_file, option_map, reserved_name_fault, reserved_name_fault_in_lines, slice_get, sym, syntax_fault_as_read_fault}
+use Rattle.sudoers_tree.proofs.Common.{load_result_and_then, name_of_numbered_file, name_of_optional_file, option_map, reserved_name_fault_of_definitions, reserved_name_fault_in_lines, slice_get, sym, syntax_fault_as_read_fault}
 use Rattle.sudoers_tree.proofs.Common.{true, value_unless_file_fault, walk_or_unreached_file_fault, ℕ, ◌+◌, ◌<◌, ◌∙◌, ◌≡◌, ◌⊎◌}
 use Rattle.sudoers_tree.proofs.Numbered.{drop_begins_with_numbered_item, item_below_length_exists}
 
 -- ---- the lines of one file
 
 pub reserved_name_fault_is_of_line_or_rest : (lines : List Line) (n : ℕ) (line : Line) (o : Option ReadFault) → slice_get lines n ≡ Some line
-    → reserved_name_fault (definitions_in_line 0 line.node) ≡ o → reserved_name_fault_in_lines (drop n lines) ≡ first_of_two_faults o (reserved_name_fault_in_lines (drop (n + 1) lines))
+    → reserved_name_fault_of_definitions (definitions_in_line 0 line.node) ≡ o → reserved_name_fault_in_lines (drop n lines) ≡ first_of_two_faults o (reserved_name_fault_in_lines (drop (n + 1) lines))
 reserved_name_fault_is_of_line_or_rest lines n line o at is = ap reserved_name_fault_in_lines (drop_begins_with_numbered_item lines n line at) ∙ ap (λ f. first_of_two_faults f (reserved_name_fault_in_lines (drop (n + 1) lines))) is
 
 -- ---- all files

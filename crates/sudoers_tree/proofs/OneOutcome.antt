@@ -1,6 +1,6 @@
 -- A text has one outcome.
-use Rattle.sudoers_tree.proofs.Common.{AllByRecursion, Duplicate, Err, IsCorrectlyParsed, IsCutOutcome, IsFaultOfLineAfter, IsFirstLineFault, IsLineOutcome, IsLineSyntaxFault, IsNameFaultInLine, IsPolicy}
-use Rattle.sudoers_tree.proofs.Common.{IsReadOutcome, Line, LineFault, LineReadsAsNode, List, Node, None, NotLoaded, Ok, ReadFault, Reserved, Result, Syntax, Text, TextFault, TooDeep, TooMany, Twice, Why, [], ap}
+use Rattle.sudoers_tree.proofs.Common.{AllByRecursion, Duplicate, Err, IsCorrectlyParsed, IsCutOutcome, IsFaultOfLineAfter, IsFirstLineFault, IsLineOutcome, IsLineSyntaxFault, IsNameFaultInLine, AreLinesOfSingleTextPolicy}
+use Rattle.sudoers_tree.proofs.Common.{IsPolicyOrFirstFaultOfText, Line, LineFault, LineReadsAsNode, List, Node, None, NotLoaded, Ok, ReadFault, Reserved, Result, Syntax, Text, TextFault, TooDeep, TooMany, Twice, Why, [], ap}
 use Rattle.sudoers_tree.proofs.Common.{append-nil, append_assoc, ap₂, cut_outcome_of_text, definitions_in_line, definitions_of_lines, first_definition_fault, join, length, line_from_parse_outcome}
 use Rattle.sudoers_tree.proofs.Common.{line_or_fault_after, line_result_and_then, lines_read_after, outcome_of_line, policy_lines_of_cut, policy_lines_of_text, sym, texts_of_lines, value_unless_fault, ℕ, ◌++◌, ◌∙◌}
 use Rattle.sudoers_tree.proofs.Common.{◌∷◌, ◌≡◌}
@@ -97,7 +97,7 @@ policy_lines_are_those_of_cut : ComputedCutsAreCutOutcomes → TextHasUniqueCutO
 unfolding policy_lines_of_text
 policy_lines_are_those_of_cut cuts one text r is = ap policy_lines_of_cut (one text (cut_outcome_of_text text) r (cuts text) is)
 
-policy_text_is_read_as_its_lines : ComputedCutsAreCutOutcomes → TextHasUniqueCutOutcome → LineOutcomeIsComputedOutcome → (lines : List Line) → IsPolicy lines → policy_lines_of_text (join (texts_of_lines lines)) ≡ Ok lines
+policy_text_is_read_as_its_lines : ComputedCutsAreCutOutcomes → TextHasUniqueCutOutcome → LineOutcomeIsComputedOutcome → (lines : List Line) → AreLinesOfSingleTextPolicy lines → policy_lines_of_text (join (texts_of_lines lines)) ≡ Ok lines
 policy_text_is_read_as_its_lines cuts one_cut one lines is =
     policy_lines_are_those_of_cut cuts one_cut (join (texts_of_lines lines)) (Ok (texts_of_lines lines)) is.cut
     ∙ ap (lines_read_after []) (sym (append-nil (texts_of_lines lines)))
@@ -111,7 +111,7 @@ text_with_line_fault_reads_as_fault cuts one_cut one text fault is =
     ∙ ap (λ r. line_result_and_then r (λ l. lines_read_after (is.before ++ l ∷ []) is.after)) (line_with_fault_is_refused one is.before is.line fault is.wrong)
 
 -- Each outcome is the computed one.
-read_outcome_is_computed_outcome : ComputedCutsAreCutOutcomes → TextHasUniqueCutOutcome → LineOutcomeIsComputedOutcome → (text : List ℕ) (outcome : Result (List Line) ReadFault) → IsReadOutcome text outcome → policy_lines_of_text text ≡ outcome
+read_outcome_is_computed_outcome : ComputedCutsAreCutOutcomes → TextHasUniqueCutOutcome → LineOutcomeIsComputedOutcome → (text : List ℕ) (outcome : Result (List Line) ReadFault) → IsPolicyOrFirstFaultOfText text outcome → policy_lines_of_text text ≡ outcome
 read_outcome_is_computed_outcome cuts one_cut one text (Ok lines) is = ap policy_lines_of_text (sym is.1) ∙ policy_text_is_read_as_its_lines cuts one_cut one lines is.0
 read_outcome_is_computed_outcome cuts one_cut one text (Err (Text fault)) is = policy_lines_are_those_of_cut cuts one_cut text (Err fault) is
 read_outcome_is_computed_outcome cuts one_cut one text (Err (Syntax row col why)) is = text_with_line_fault_reads_as_fault cuts one_cut one text (Syntax row col why) is
@@ -124,7 +124,7 @@ read_outcome_is_computed_outcome cuts one_cut one text (Err (TooDeep row)) is = 
 read_outcome_is_computed_outcome cuts one_cut one text (Err NoMemory) is = absurd is
 
 pub read_outcome_of_text_is_unique : ComputedCutsAreCutOutcomes → TextHasUniqueCutOutcome → ComputedLineOutcomesAreLineOutcomes → LineHasUniqueNode → ParsedLineHasNoSyntaxFault → LineHasUniqueSyntaxFault
-    → (text : List ℕ) (outcome other : Result (List Line) ReadFault) → IsReadOutcome text outcome → IsReadOutcome text other → outcome ≡ other
+    → (text : List ℕ) (outcome other : Result (List Line) ReadFault) → IsPolicyOrFirstFaultOfText text outcome → IsPolicyOrFirstFaultOfText text other → outcome ≡ other
 read_outcome_of_text_is_unique cuts one_cut lines reading none fault text outcome other x y =
     let one = line_outcome_is_computed_outcome lines reading none fault in
     sym (read_outcome_is_computed_outcome cuts one_cut one text outcome x) ∙ read_outcome_is_computed_outcome cuts one_cut one text other y

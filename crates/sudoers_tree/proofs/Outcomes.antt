@@ -1,6 +1,6 @@
 -- A text has an outcome.
 use Rattle.sudoers_tree.proofs.Common.{AllByRecursion, Duplicate, Err, IsCorrectlyParsed, IsCutOutcome, IsFaultOfLineAfter, IsFaultlessCut, IsFirstFaultOfText, IsFirstLineFault, IsLineOutcome, IsNameFaultInLine}
-use Rattle.sudoers_tree.proofs.Common.{IsReadOutcome, Line, LineFault, LineReadsAsNode, List, Node, None, NotLoaded, Ok, Option, ReadFault, Reserved, Result, Some, Syntax, Text, TextFault, TooDeep, TooMany, Twice}
+use Rattle.sudoers_tree.proofs.Common.{IsPolicyOrFirstFaultOfText, Line, LineFault, LineReadsAsNode, List, Node, None, NotLoaded, Ok, Option, ReadFault, Reserved, Result, Some, Syntax, Text, TextFault, TooDeep, TooMany, Twice}
 use Rattle.sudoers_tree.proofs.Common.{[], ap, append-nil, append_assoc, cut_outcome_of_text, definitions_in_line, definitions_of_lines, first_definition_fault, length, line_from_parse_outcome, line_or_fault_after}
 use Rattle.sudoers_tree.proofs.Common.{line_result_and_then, lines_read_after, map-append, outcome_of_line, policy_lines_of_cut, policy_lines_of_text, refl, subst, sym, texts_of_lines, value_unless_fault, ℕ, ◌++◌}
 use Rattle.sudoers_tree.proofs.Common.{◌∙◌, ◌∷◌, ◌≡◌}
@@ -98,7 +98,7 @@ record AreLinesReadOfText (text : List ℕ) (before : List Line) (more : List (L
   says : AllByRecursion IsCorrectlyParsed before
   none : first_definition_fault [] (definitions_of_lines before) ≡ None
 
-lines_read_to_end_are_policy : (text : List ℕ) (before : List Line) → AreLinesReadOfText text before [] → IsReadOutcome text (Ok before)
+lines_read_to_end_are_policy : (text : List ℕ) (before : List Line) → AreLinesReadOfText text before [] → IsPolicyOrFirstFaultOfText text (Ok before)
 lines_read_to_end_are_policy text before read =
     let cut = subst (IsFaultlessCut text) (append-nil (texts_of_lines before)) read.cut in (
       record {
@@ -116,8 +116,8 @@ lines_read_to_end_are_policy text before read =
 
 outcome_of_line_extends_read_outcome : (text : List ℕ) (before : List Line) (line : List ℕ) (more : List (List ℕ)) → AreLinesReadOfText text before (line ∷ more)
     → (r : Result Line ReadFault) → IsOutcomeOfLineAfter before line r
-    → ((l : Line) → AreLinesReadOfText text (before ++ l ∷ []) more → IsReadOutcome text (lines_read_after (before ++ l ∷ []) more))
-    → IsReadOutcome text (line_result_and_then r (λ l. lines_read_after (before ++ l ∷ []) more))
+    → ((l : Line) → AreLinesReadOfText text (before ++ l ∷ []) more → IsPolicyOrFirstFaultOfText text (lines_read_after (before ++ l ∷ []) more))
+    → IsPolicyOrFirstFaultOfText text (line_result_and_then r (λ l. lines_read_after (before ++ l ∷ []) more))
 outcome_of_line_extends_read_outcome text before line more read (Ok l) is later =
     later l (record {
       cut = subst (IsFaultlessCut text) (ap (λ t. texts_of_lines before ++ t ∷ more) (sym is.0) ∙ texts_with_line_moved_to_front_are_same before l more) read.cut;
@@ -136,17 +136,17 @@ outcome_of_line_extends_read_outcome text before line more read (Err fault) is l
     })
 
 lines_read_after_are_read_outcome : ComputedLineOutcomesAreLineOutcomes → (text : List ℕ) (before : List Line) (more : List (List ℕ)) → AreLinesReadOfText text before more
-    → IsReadOutcome text (lines_read_after before more)
+    → IsPolicyOrFirstFaultOfText text (lines_read_after before more)
 lines_read_after_are_read_outcome lines text before [] read = lines_read_to_end_are_policy text before read
 lines_read_after_are_read_outcome lines text before (line ∷ more) read =
     outcome_of_line_extends_read_outcome text before line more read (line_or_fault_after before line) (line_or_fault_is_outcome_of_line_after lines before line read.none)
     (λ l. lines_read_after_are_read_outcome lines text (before ++ l ∷ []) more)
 
-policy_lines_of_cut_are_read_outcome : ComputedLineOutcomesAreLineOutcomes → (text : List ℕ) (r : Result (List (List ℕ)) TextFault) → IsCutOutcome text r → IsReadOutcome text (policy_lines_of_cut r)
+policy_lines_of_cut_are_read_outcome : ComputedLineOutcomesAreLineOutcomes → (text : List ℕ) (r : Result (List (List ℕ)) TextFault) → IsCutOutcome text r → IsPolicyOrFirstFaultOfText text (policy_lines_of_cut r)
 policy_lines_of_cut_are_read_outcome lines text (Ok ts) cut = lines_read_after_are_read_outcome lines text [] ts (record { cut = cut; says = tt; none = refl })
 policy_lines_of_cut_are_read_outcome lines text (Err fault) is = is
 
 -- The computed outcome is one of the text.
-pub policy_lines_of_text_are_read_outcome : ComputedCutsAreCutOutcomes → ComputedLineOutcomesAreLineOutcomes → (text : List ℕ) → IsReadOutcome text (policy_lines_of_text text)
+pub policy_lines_of_text_are_read_outcome : ComputedCutsAreCutOutcomes → ComputedLineOutcomesAreLineOutcomes → (text : List ℕ) → IsPolicyOrFirstFaultOfText text (policy_lines_of_text text)
 unfolding policy_lines_of_text
 policy_lines_of_text_are_read_outcome cuts lines text = policy_lines_of_cut_are_read_outcome lines text (cut_outcome_of_text text) (cuts text)

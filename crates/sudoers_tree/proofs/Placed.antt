@@ -1,5 +1,5 @@
 -- Lines of the walk and the spots at which they stand.
-use Rattle.sudoers_tree.proofs.Common.{AreLinesAtSpots, HasBoundedSpot, IsLineAtSpot, Line, List, LoadedPolicy, ParsedFile, Some, WalkLineSpot, [], ap, arith, join, length, lines_of_numbered_file}
+use Rattle.sudoers_tree.proofs.Common.{AreLinesAtSpots, IsLineAtBoundedSpot, IsLineAtSpot, Line, List, LoadedPolicy, ParsedFile, Some, WalkLineSpot, [], ap, arith, join, length, lines_of_numbered_file}
 use Rattle.sudoers_tree.proofs.Common.{physical_line_of_file_line, refl, slice_get, subst, suc, text_limit, texts_of_lines, zero, ℕ, ◌∷◌, ◌≡◌, ◌≤◌}
 use Rattle.sudoers_tree.proofs.LineRows.{physical_line_plus_line_length_is_bounded}
 
@@ -20,7 +20,7 @@ numbered_line_has_its_spot files (at ∷ spots) [] all number line is = absurd a
 
 pub walk_line_has_bounded_spot : (policy : LoadedPolicy) → ((file : ℕ) → length (join (texts_of_lines (lines_of_numbered_file policy.files file))) ≤ text_limit)
     → AreLinesAtSpots policy.files policy.walk.spots policy.walk.lines → (number : ℕ) (line : Line) → slice_get policy.walk.lines number ≡ Some line
-    → HasBoundedSpot policy number line
+    → IsLineAtBoundedSpot policy number line
 walk_line_has_bounded_spot policy fit all number line is =
     let here = numbered_line_has_its_spot policy.files policy.walk.spots policy.walk.lines all number line is in
     let stands : IsLineAtSpot policy.files here.0 line = here.2 in

@@ -1,6 +1,6 @@
 -- Definitions with the keys of others, and definitions of which one has another name.
 use Rattle.sudoers_tree.proofs.Common.{AliasNameIndex, Bool, DefinitionKey, IsDefinitionRenamed, IsIndexOfDefinitions, Kind, List, None, Option, Place, PlacedDefinition, ReadFault, RenamesOneDefinition, Some, Tables}
-use Rattle.sudoers_tree.proofs.Common.{[], alias_limit, ap, ap₂, arith, bytes_eq, bytes_eq-Decides, definition_count_of_kind, entries_of_definitions, entries_with_one_renamed, false, fault_of_definition_name}
+use Rattle.sudoers_tree.proofs.Common.{[], alias_limit_of_each_kind, ap, ap₂, arith, bytes_eq, bytes_eq-Decides, definition_count_of_kind, entries_of_definitions, entries_with_one_renamed, false, fault_of_definition_name}
 use Rattle.sudoers_tree.proofs.Common.{fault_of_new_entry, first_definition_fault, first_definition_of, first_of_two_faults, if◌then◌else◌, index_entries_of_kind, is_definition_of_name, is_equal_kind, is_reserved}
 use Rattle.sudoers_tree.proofs.Common.{is_some, key_of_definition, keys_of_definitions, length, map-append, number_of_named_entry, option_map, place_of_named_entry, refl, subst, suc, sym, text_in_tables, true}
 use Rattle.sudoers_tree.proofs.Common.{true≢false, ℕ, ◌&&◌, ◌++◌, ◌+◌, ◌<◌, ◌∙◌, ◌∷◌, ◌≡◌}
@@ -200,7 +200,7 @@ definitions_after_renamed_stay_faultless before old now mid (d ∷ after) same n
     ap₂ first_of_two_faults
     (new_definition_within_limit_is_faultless (before ++ now ∷ mid) d here.0
     (replacing_definition_keeps_name_undefined d.kind d.def.name before old now mid (difference_of_kind_or_name_is_symmetric now.kind d.kind now.def.name d.def.name names.0) here.1)
-    (subst (λ n. n < alias_limit) (sym (replaced_definition_keeps_count_of_kind d.kind before old now mid same)) here.2))
+    (subst (λ n. n < alias_limit_of_each_kind) (sym (replaced_definition_keeps_count_of_kind d.kind before old now mid same)) here.2))
     (ap (λ xs. first_definition_fault xs after) (append_assoc before (now ∷ mid) (d ∷ [])) ∙ rest)
 
 pub renaming_to_free_name_keeps_faultless : (ds es : List PlacedDefinition) (r : RenamesOneDefinition ds es) → first_definition_fault [] ds ≡ None

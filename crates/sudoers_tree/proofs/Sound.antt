@@ -1,6 +1,6 @@
 -- Definitions that can stand, each after those before it.
 use Rattle.sudoers_tree.proofs.Common.{AllByRecursion, AreSoundDefinitions, Bool, Cmnd, Duplicate, HasUnreservedName, HaveDistinctNames, Host, IfSome, Kind, Line, List, None, NotLoaded, Option, PlacedDefinition}
-use Rattle.sudoers_tree.proofs.Common.{ReadFault, Reserved, Runas, Some, Syntax, Text, TooDeep, TooMany, Twice, User, [], alias_limit, ap, append-nil, append_assoc, arith, definition_count_of_kind}
+use Rattle.sudoers_tree.proofs.Common.{ReadFault, Reserved, Runas, Some, Syntax, Text, TooDeep, TooMany, Twice, User, [], alias_limit_of_each_kind, ap, append-nil, append_assoc, arith, definition_count_of_kind}
 use Rattle.sudoers_tree.proofs.Common.{definitions_from_line_number, definitions_of_lines, entries_of_definitions, false, fault_of_definition_name, first_definition_fault, first_definition_of, first_of_two_faults}
 use Rattle.sudoers_tree.proofs.Common.{if◌then◌else◌, is_equal_kind, is_reserved, is_some, length, length-append, nat_le, nat_tests, refl, subst, sym, true, ◌++◌, ◌+◌, ◌<◌, ◌∙◌, ◌∷◌, ◌≡◌, ◌≤◌}
 use Rattle.sudoers_tree.specs.declared.fault.ReadFault.TheVariants.{NoMemory}
@@ -146,7 +146,7 @@ is_name_defined_before before d = is_some (first_definition_of d.kind d.def.name
 
 -- As many of its kind as may be are defined before.
 abbrev is_alias_limit_reached_before : List PlacedDefinition → PlacedDefinition → Bool
-is_alias_limit_reached_before before d = nat_le alias_limit (definition_count_of_kind d.kind before)
+is_alias_limit_reached_before before d = nat_le alias_limit_of_each_kind (definition_count_of_kind d.kind before)
 
 pub fault_of_definition_is_name_fault : (before : List PlacedDefinition) (d : PlacedDefinition) (fault : ReadFault) → fault_of_definition_name before d ≡ Some fault → IsFaultOfDefinitionName fault
 unfolding fault_of_definition_name
@@ -157,20 +157,20 @@ fault_of_definition_is_name_fault before d fault e =
 
 -- A definition can stand after others exactly if it defines no reserved word, its name is new, and it is not one too many.
 pub faultless_definition_is_new_and_within_limit : (before : List PlacedDefinition) (d : PlacedDefinition) → fault_of_definition_name before d ≡ None
-    → HasUnreservedName d × (first_definition_of d.kind d.def.name before ≡ None) × (definition_count_of_kind d.kind before < alias_limit)
+    → HasUnreservedName d × (first_definition_of d.kind d.def.name before ≡ None) × (definition_count_of_kind d.kind before < alias_limit_of_each_kind)
 unfolding fault_of_definition_name
 faultless_definition_is_new_and_within_limit before d e =
     let three =
     no_fault_of_three_implies_tests_false (is_reserved d.def.name) (is_name_defined_before before d) (is_alias_limit_reached_before before d) (Reserved d.kind d.def.name) (Duplicate d.kind d.def.name)
     (TooMany d.kind) e in
-    let test : nat_le alias_limit (definition_count_of_kind d.kind before) ≡ false = three.2 in
+    let test : nat_le alias_limit_of_each_kind (definition_count_of_kind d.kind before) ≡ false = three.2 in
     (three.0, definition_that_is_not_some_is_none (first_definition_of d.kind d.def.name before) three.1, grind (arith, nat_tests))
 
 pub new_definition_within_limit_is_faultless : (before : List PlacedDefinition) (d : PlacedDefinition) → HasUnreservedName d → first_definition_of d.kind d.def.name before ≡ None
-    → definition_count_of_kind d.kind before < alias_limit → fault_of_definition_name before d ≡ None
+    → definition_count_of_kind d.kind before < alias_limit_of_each_kind → fault_of_definition_name before d ≡ None
 unfolding fault_of_definition_name
 new_definition_within_limit_is_faultless before d free new few =
-    let test : nat_le alias_limit (definition_count_of_kind d.kind before) ≡ false = grind (arith, nat_tests) in
+    let test : nat_le alias_limit_of_each_kind (definition_count_of_kind d.kind before) ≡ false = grind (arith, nat_tests) in
     false_tests_imply_no_fault_of_three (is_reserved d.def.name) (is_name_defined_before before d) (is_alias_limit_reached_before before d) (Reserved d.kind d.def.name) (Duplicate d.kind d.def.name)
     (TooMany d.kind) free (ap is_some new) test
 
@@ -190,23 +190,23 @@ equal_kinds_are_same Cmnd Cmnd e = refl
 equal_kinds_are_same k j e = absurd cc
 
 -- one more of a kind of which there are fewer than may be
-next_definition_keeps_count_within_limit : (k : Kind) (before : List PlacedDefinition) (d : PlacedDefinition) → definition_count_of_kind d.kind before < alias_limit → definition_count_of_kind k before ≤ alias_limit
-    → definition_count_of_kind k (before ++ d ∷ []) ≤ alias_limit
+next_definition_keeps_count_within_limit : (k : Kind) (before : List PlacedDefinition) (d : PlacedDefinition) → definition_count_of_kind d.kind before < alias_limit_of_each_kind → definition_count_of_kind k before ≤ alias_limit_of_each_kind
+    → definition_count_of_kind k (before ++ d ∷ []) ≤ alias_limit_of_each_kind
 next_definition_keeps_count_within_limit k before d less few = by (is_equal_kind k d.kind) refl
   where
     one : (t : Bool) → is_equal_kind k d.kind ≡ t → definition_count_of_kind k (d ∷ []) ≡ (if t then 1 else 0)
     one t e = ap (λ t. if t then 1 + 0 else 0) e
 
-    by : (t : Bool) → is_equal_kind k d.kind ≡ t → definition_count_of_kind k (before ++ d ∷ []) ≤ alias_limit
+    by : (t : Bool) → is_equal_kind k d.kind ≡ t → definition_count_of_kind k (before ++ d ∷ []) ≤ alias_limit_of_each_kind
     by true e = omega (arith, definition_count_adds_over_append k before (d ∷ []), one true e, less, ap (λ j. definition_count_of_kind j before) (equal_kinds_are_same k d.kind e))
     by false e = omega (arith, definition_count_adds_over_append k before (d ∷ []), one false e, few)
 
-faultless_definitions_keep_count_in_limit : (k : Kind) (before ds : List PlacedDefinition) → first_definition_fault before ds ≡ None → definition_count_of_kind k before ≤ alias_limit
-    → definition_count_of_kind k (before ++ ds) ≤ alias_limit
-faultless_definitions_keep_count_in_limit k before [] e few = subst (λ ds. definition_count_of_kind k ds ≤ alias_limit) (sym (append-nil before)) few
+faultless_definitions_keep_count_in_limit : (k : Kind) (before ds : List PlacedDefinition) → first_definition_fault before ds ≡ None → definition_count_of_kind k before ≤ alias_limit_of_each_kind
+    → definition_count_of_kind k (before ++ ds) ≤ alias_limit_of_each_kind
+faultless_definitions_keep_count_in_limit k before [] e few = subst (λ ds. definition_count_of_kind k ds ≤ alias_limit_of_each_kind) (sym (append-nil before)) few
 faultless_definitions_keep_count_in_limit k before (d ∷ ds) e few =
     let both = no_first_fault_implies_neither_fault (fault_of_definition_name before d) (first_definition_fault (before ++ d ∷ []) ds) e in
-    subst (λ xs. definition_count_of_kind k xs ≤ alias_limit) (append_assoc before (d ∷ []) ds)
+    subst (λ xs. definition_count_of_kind k xs ≤ alias_limit_of_each_kind) (append_assoc before (d ∷ []) ds)
     (faultless_definitions_keep_count_in_limit k (before ++ d ∷ []) ds both.1 (next_definition_keeps_count_within_limit k before d (faultless_definition_is_new_and_within_limit before d both.0).2 few))
 
 faultless_definitions_after_are_unreserved : (before ds : List PlacedDefinition) → first_definition_fault before ds ≡ None → AllByRecursion HasUnreservedName ds
@@ -222,7 +222,7 @@ faultless_definitions_are_unreserved ds e = faultless_definitions_after_are_unre
 pub faultless_definitions_have_distinct_names : (ds : List PlacedDefinition) → first_definition_fault [] ds ≡ None → HaveDistinctNames ds
 faultless_definitions_have_distinct_names ds e before after d is = (faultless_definition_is_new_and_within_limit before d (definitions_without_fault_are_sound ds e before after d is)).1
 
-pub faultless_definitions_are_within_limit : (ds : List PlacedDefinition) → first_definition_fault [] ds ≡ None → (k : Kind) → definition_count_of_kind k ds ≤ alias_limit
+pub faultless_definitions_are_within_limit : (ds : List PlacedDefinition) → first_definition_fault [] ds ≡ None → (k : Kind) → definition_count_of_kind k ds ≤ alias_limit_of_each_kind
 faultless_definitions_are_within_limit ds e k = faultless_definitions_keep_count_in_limit k [] ds e (omega arith)
 
 middle_definition_is_unreserved : (before : List PlacedDefinition) (d : PlacedDefinition) (after : List PlacedDefinition) → AllByRecursion HasUnreservedName (before ++ d ∷ after) → HasUnreservedName d
@@ -230,7 +230,7 @@ middle_definition_is_unreserved [] d after free = free.0
 middle_definition_is_unreserved (first ∷ before) d after free = middle_definition_is_unreserved before d after free.1
 
 -- Such definitions are sound.
-pub valid_definitions_are_sound : (ds : List PlacedDefinition) → AllByRecursion HasUnreservedName ds → HaveDistinctNames ds → ((k : Kind) → definition_count_of_kind k ds ≤ alias_limit)
+pub valid_definitions_are_sound : (ds : List PlacedDefinition) → AllByRecursion HasUnreservedName ds → HaveDistinctNames ds → ((k : Kind) → definition_count_of_kind k ds ≤ alias_limit_of_each_kind)
     → AreSoundDefinitions ds
 valid_definitions_are_sound ds free once few before after d is =
     let rest = definition_count_of_kind d.kind after in

@@ -1,10 +1,10 @@
 -- How many files and how many bytes there are on a walk.
 use Rattle.sudoers_tree.proofs.Common.{AllByRecursion, Bool, Err, FileVisit, IncludeSite, IsCutOutcome, IsDistinct, Lead, Line, List, LoadFault, LoadedPolicy, NamedFile, None, Ok, Option, ParsedFile, ReadFault}
 use Rattle.sudoers_tree.proofs.Common.{Result, Some, TextFault, WalkLineSpot, WalkState, [], ap, arith, bytes_eq, cut_outcome_of_text, definitions_in_line, definitions_of_lines, empty_walk, eqb-true, false}
-use Rattle.sudoers_tree.proofs.Common.{fault_of_numbered_file, file_inserted_in_name_order, file_limit, files_opened_by_lead, files_unless_missing, files_unless_on_walk, first_definition_fault, first_file_on_walk}
+use Rattle.sudoers_tree.proofs.Common.{fault_of_numbered_file, file_inserted_in_name_order, file_limit, files_opened_by_lead, files_unless_missing_or_on_walk, files_unless_on_walk, first_definition_fault, first_file_on_walk}
 use Rattle.sudoers_tree.proofs.Common.{if◌then◌else◌, include_depth_limit, include_site_of_line, included_files_of_folder, is_file_name_before, is_file_on_walk, is_includable_from_folder, join, lead_of_file_line}
 use Rattle.sudoers_tree.proofs.Common.{length, length-append, length_push, lines_of_numbered_file, list_any, list_any-append, load_result_and_then, name_of_numbered_file, nat_eq, number_of_first_file_named}
-use Rattle.sudoers_tree.proofs.Common.{option_map, parsed_file_of_texts, parsed_file_or_cut_fault, parsed_files_or_cut_fault, policy_or_load_fault, refl, repeated_include_fault, spot_of_file_line, subst, suc, sym}
+use Rattle.sudoers_tree.proofs.Common.{option_map, parsed_file_of_texts, parsed_file_of_cut_or_fault, parsed_files_or_cut_fault, policy_or_load_fault, refl, repeated_include_fault, spot_of_file_line, subst, suc, sym}
 use Rattle.sudoers_tree.proofs.Common.{syntax_fault_as_read_fault, targets_of_lead, text_limit, texts_of_lines, true, value_unless_file_fault, walk_after_file_lines, walk_after_file_visit, walk_after_file_visits}
 use Rattle.sudoers_tree.proofs.Common.{walk_or_fault_of_files, walk_with_file_entered, walk_with_line_appended, zero, ℕ, ◌*◌, ◌++◌, ◌+◌, ◌<◌, ◌||◌, ◌∙◌, ◌∷◌, ◌≡◌, ◌≤◌}
 use Rattle.std.specs.Cmp.{nat_eq_equiv}
@@ -68,7 +68,7 @@ opened_files_are_below_count files at w (Some lead) inner is = by_targets (targe
     by_on None found all e = subst (AllByRecursion (λ k. k < length files)) (let same : found ≡ inner = cc in same) all
     by_on (Some f) found all e = absurd cc
 
-    by_targets : (t : Option (List ℕ)) → targets_of_lead files lead ≡ t → files_unless_missing files at lead w t ≡ Ok inner → AllByRecursion (λ k. k < length files) inner
+    by_targets : (t : Option (List ℕ)) → targets_of_lead files lead ≡ t → files_unless_missing_or_on_walk files at lead w t ≡ Ok inner → AllByRecursion (λ k. k < length files) inner
     by_targets None e f = absurd cc
     by_targets (Some found) e f = by_on (first_file_on_walk w found) found (targets_of_lead_are_below_count files lead found e) f
 
@@ -226,7 +226,7 @@ parsed_files_fit_text_limit cuts before read [] fit is =
 parsed_files_fit_text_limit cuts before read (file ∷ files) fit is = by (cut_outcome_of_text file.bytes) (cuts file.bytes) is
     (λ lines fits. parsed_files_fit_text_limit cuts (before ++ parsed_file_of_texts file.name lines ∷ []) read files (property_of_all_extends_to_last_item (λ (f : ParsedFile). length (join (texts_of_lines f.lines)) ≤ text_limit) before (parsed_file_of_texts file.name lines) fit (parsed_file_fits_text_limit file.name lines fits)))
   where
-    by : (r : Result (List (List ℕ)) TextFault) → IsCutOutcome file.bytes r → load_result_and_then (parsed_file_or_cut_fault file.name r) (λ reading. parsed_files_or_cut_fault (before ++ reading ∷ []) files) ≡ Ok read
+    by : (r : Result (List (List ℕ)) TextFault) → IsCutOutcome file.bytes r → load_result_and_then (parsed_file_of_cut_or_fault file.name r) (λ reading. parsed_files_or_cut_fault (before ++ reading ∷ []) files) ≡ Ok read
         → ((lines : List (List ℕ)) → length (join lines) ≤ text_limit → parsed_files_or_cut_fault (before ++ parsed_file_of_texts file.name lines ∷ []) files ≡ Ok read
         → AllByRecursion (λ (f : ParsedFile). length (join (texts_of_lines f.lines)) ≤ text_limit) read × (length read ≡ length (before ++ parsed_file_of_texts file.name lines ∷ []) + length files))
         → AllByRecursion (λ (f : ParsedFile). length (join (texts_of_lines f.lines)) ≤ text_limit) read × (length read ≡ length before + length (file ∷ files))

@@ -4,7 +4,7 @@ use Rattle.sudoers_tree.proofs.Common.{LoadedPolicy, NamedFile, Node, None, Ok, 
 use Rattle.sudoers_tree.proofs.Common.{definitions_in_line, definitions_of_lines, drop, empty_walk, false, fault_of_numbered_file, file_limit, files_opened_by_lead, first_definition_fault}
 use Rattle.sudoers_tree.proofs.Common.{first_fault_of_unreached_file, first_repeated_file_name, if◌then◌else◌, include_depth_limit, include_site_of_line, is_file_on_walk, lead_of_file_line, length}
 use Rattle.sudoers_tree.proofs.Common.{lines_of_numbered_file, lines_parsed_until_fault, load_result_and_then, ltb-false, name_of_numbered_file, nat_lt, option_map, outcome_of_line, parsed_file_of_texts}
-use Rattle.sudoers_tree.proofs.Common.{parsed_file_or_cut_fault, parsed_files_or_cut_fault, parsed_lines_from_outcome, policy_of_parsed_files, policy_or_load_fault, refl, repeated_include_fault}
+use Rattle.sudoers_tree.proofs.Common.{parsed_file_of_cut_or_fault, parsed_files_or_cut_fault, parsed_lines_from_outcome, policy_of_parsed_files, policy_or_load_fault, refl, repeated_include_fault}
 use Rattle.sudoers_tree.proofs.Common.{result_unless_repeated_name, spot_of_file_line, subst, suc, sym, syntax_fault_as_read_fault, true, value_unless_file_fault, walk_after_file_lines, walk_after_file_visit}
 use Rattle.sudoers_tree.proofs.Common.{walk_after_file_visits, walk_or_fault_of_files, walk_or_unreached_file_fault, walk_with_file_entered, walk_with_line_appended, zero, ℕ, ◌++◌, ◌+◌, ◌∙◌, ◌∷◌, ◌≡◌, ◌≤◌}
 use Rattle.sudoers_grammar.specs.declared.fault.LineFault.TheVariants as line_fault
@@ -48,7 +48,7 @@ parsed_files_have_correct_lines are before read [] said is = subst AreFilesOfCor
 parsed_files_have_correct_lines are before read (file ∷ files) said is =
     by (cut_outcome_of_text file.bytes) is (λ lines. parsed_files_have_correct_lines are (before ++ parsed_file_of_texts file.name lines ∷ []) read files (property_of_list_holds_with_last_item (λ (f : ParsedFile). AllByRecursion IsCorrectlyParsed f.lines) before (parsed_file_of_texts file.name lines) said (parsed_file_has_correct_lines are file.name lines)))
   where
-    by : (r : Result (List (List ℕ)) TextFault) → load_result_and_then (parsed_file_or_cut_fault file.name r) (λ reading. parsed_files_or_cut_fault (before ++ reading ∷ []) files) ≡ Ok read
+    by : (r : Result (List (List ℕ)) TextFault) → load_result_and_then (parsed_file_of_cut_or_fault file.name r) (λ reading. parsed_files_or_cut_fault (before ++ reading ∷ []) files) ≡ Ok read
         → ((lines : List (List ℕ)) → parsed_files_or_cut_fault (before ++ parsed_file_of_texts file.name lines ∷ []) files ≡ Ok read → AreFilesOfCorrectlyParsedLines read) → AreFilesOfCorrectlyParsedLines read
     by (Ok lines) e later = later lines e
     by (Err fault) e later = absurd cc

@@ -2,7 +2,7 @@
 use Rattle.sudoers_tree.proofs.Common.{All, AreSoundWalkedFiles, Err, HasSoundFileRows, IsIndexOfDefinitions, IsLastingLineRow, IsSoundWalkBeforeChange, Line, LineChange, List, LoadedPolicy, NamedFile, Ok}
 use Rattle.sudoers_tree.proofs.Common.{ParsedFile, Result, Tables, TablesHaveGrown, TextFault, WalkLineSpot, WalkedFiles, [], ap, append-nil, append_assoc, ap₂, changed_files_from_number, cut_outcome_of_text}
 use Rattle.sudoers_tree.proofs.Common.{definitions_of_lines, entries_of_definitions, file_names, files_after_changes, first_definition_fault, index_entries_of_kind, length, length-map, line_of_row}
-use Rattle.sudoers_tree.proofs.Common.{lines_of_kept_walk, load_result_and_then, map, map-append, named_files_of_policy, parsed_file_of_rows, parsed_file_of_texts, parsed_file_or_cut_fault, parsed_files_or_cut_fault}
+use Rattle.sudoers_tree.proofs.Common.{lines_of_kept_walk, load_result_and_then, map, map-append, named_files_of_policy, parsed_file_of_rows, parsed_file_of_texts, parsed_file_of_cut_or_fault, parsed_files_or_cut_fault}
 use Rattle.sudoers_tree.proofs.Common.{policy_of_walked_files, policy_or_load_fault, refl, subst, sym, walk_lines_before_change, walk_or_fault_of_files, ℕ, ◌++◌, ◌+◌, ◌∙◌, ◌∷◌, ◌≡◌}
 use Rattle.sudoers_tree.specs.declared.in_place_update.WalkBeforeChange.{WalkBeforeChange}
 use Rattle.sudoers_tree.proofs.FileRows.{grown_tables_keep_all_file_rows_sound, grown_tables_keep_parsed_files}
@@ -69,7 +69,7 @@ parsed_files_have_names_of_files before (file ∷ files) read is =
     Later = (reading : ParsedFile) → parsed_files_or_cut_fault (before ++ reading ∷ []) files ≡ Ok read
         → file_names read ≡ file_names (before ++ reading ∷ []) ++ map (λ (f : NamedFile). f.name) files
 
-    by : (r : Result (List (List ℕ)) TextFault) → load_result_and_then (parsed_file_or_cut_fault file.name r) (λ reading. parsed_files_or_cut_fault (before ++ reading ∷ []) files) ≡ Ok read → Later
+    by : (r : Result (List (List ℕ)) TextFault) → load_result_and_then (parsed_file_of_cut_or_fault file.name r) (λ reading. parsed_files_or_cut_fault (before ++ reading ∷ []) files) ≡ Ok read → Later
         → file_names read ≡ file_names before ++ file.name ∷ map (λ (f : NamedFile). f.name) files
     by (Ok lines) rest later =
         later (parsed_file_of_texts file.name lines) rest

@@ -1,6 +1,6 @@
 -- Each line of the walk over loaded files is one logical line.
 use Rattle.sudoers_tree.proofs.Common.{AllByRecursion, AreLinesAtSpots, Err, IsLogicalLine, Line, List, LoadedPolicy, NamedFile, Ok, ParsedFile, Result, Some, TextFault, WalkLineSpot, [], cut_outcome_of_text}
-use Rattle.sudoers_tree.proofs.Common.{lines_of_numbered_file, load_result_and_then, parsed_file_of_texts, parsed_file_or_cut_fault, parsed_files_or_cut_fault, policy_or_load_fault, refl, slice_get, subst, suc}
+use Rattle.sudoers_tree.proofs.Common.{lines_of_numbered_file, load_result_and_then, parsed_file_of_texts, parsed_file_of_cut_or_fault, parsed_files_or_cut_fault, policy_or_load_fault, refl, slice_get, subst, suc}
 use Rattle.sudoers_tree.proofs.Common.{texts_of_lines, zero, ℕ, ◌++◌, ◌∷◌, ◌≡◌}
 use Rattle.sudoers_tree.proofs.FileRows.{property_of_lines_holds_of_parsed_lines}
 use Rattle.sudoers_tree.proofs.WalkSound.{loaded_policy_is_load_of_files}
@@ -27,7 +27,7 @@ parsed_files_have_only_logical_lines cuts before read (file ∷ files) all is =
     (λ lines whole. parsed_files_have_only_logical_lines cuts (before ++ parsed_file_of_texts file.name lines ∷ []) read files (appended_file_keeps_only_logical_lines before (parsed_file_of_texts file.name lines) all (parsed_file_has_only_logical_lines file.name lines whole)))
   where
     by : (r : Result (List (List ℕ)) TextFault) → ((lines : List (List ℕ)) → r ≡ Ok lines → AllByRecursion IsLogicalLine lines)
-        → load_result_and_then (parsed_file_or_cut_fault file.name r) (λ reading. parsed_files_or_cut_fault (before ++ reading ∷ []) files) ≡ Ok read
+        → load_result_and_then (parsed_file_of_cut_or_fault file.name r) (λ reading. parsed_files_or_cut_fault (before ++ reading ∷ []) files) ≡ Ok read
         → ((lines : List (List ℕ)) → AllByRecursion IsLogicalLine lines → parsed_files_or_cut_fault (before ++ parsed_file_of_texts file.name lines ∷ []) files ≡ Ok read → AllByRecursion HasOnlyLogicalLines read)
         → AllByRecursion HasOnlyLogicalLines read
     by (Ok lines) whole e later = later lines (whole lines refl) e

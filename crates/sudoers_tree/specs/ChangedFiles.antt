@@ -30,14 +30,14 @@ abbrev pub files_after_changes : List LineChange → List ParsedFile → List Na
 files_after_changes changes files = changed_files_from_number 0 changes files
 
 -- The numbers of the files of the changes do not descend, and lie from f on below this count.
-abbrev pub AreChangesInFileOrder : ℕ → List LineChange → ℕ → Type 0
-AreChangesInFileOrder f [] count = Unit {0}
-AreChangesInFileOrder f (change ∷ changes) count = (f ≤ file_number_of_change change) × (file_number_of_change change < count) × AreChangesInFileOrder (file_number_of_change change) changes count
+abbrev pub AreFileNumbersOfChangesInOrder : ℕ → List LineChange → ℕ → Type 0
+AreFileNumbersOfChangesInOrder f [] count = Unit {0}
+AreFileNumbersOfChangesInOrder f (change ∷ changes) count = (f ≤ file_number_of_change change) × (file_number_of_change change < count) × AreFileNumbersOfChangesInOrder (file_number_of_change change) changes count
 
 -- The changes can be made of these files at once. They go by the files. In each file their places ascend among its lines. Each text is one
 -- logical line. No line without LF then stands before another.
 pub record AreApplicableChanges (changes : List LineChange) (files : List ParsedFile) : Type 0 where
-  pub by_files : AreChangesInFileOrder 0 changes (length files)
+  pub by_files : AreFileNumbersOfChangesInOrder 0 changes (length files)
   pub order : (f : ℕ) → AreChangesInOrder 0 (changes_of_file f changes) (length (lines_of_numbered_file files f))
   pub lines : AllByRecursion IsLogicalLine (texts_of_changes changes)
   pub ended : (f : ℕ) → has_inner_line_without_lf (lines_after_changes (changes_of_file f changes) (texts_of_lines (lines_of_numbered_file files f))) ≡ false

@@ -14,7 +14,7 @@ use Rattle.sudoers_tree.specs.declared.fault.SyntaxFault.{SyntaxFault}
 use Rattle.sudoers_tree.specs.declared.fault.ReadFault.TheVariants.{Text, Syntax, Reserved, Duplicate, TooMany, NotLoaded, Twice, TooDeep, NoMemory}
 use Rattle.sudoers_tree.specs.Physical.{physical_line_after_bytes, column_behind}
 use Rattle.sudoers_tree.specs.Definition.{PlacedDefinition, definitions_of_lines, definitions_in_line, first_definition_of}
-use Rattle.sudoers_tree.specs.Policy.{alias_limit, texts_of_lines, definition_count_of_kind, IsCorrectlyParsed}
+use Rattle.sudoers_tree.specs.Policy.{alias_limit_of_each_kind, texts_of_lines, definition_count_of_kind, IsCorrectlyParsed}
 
 abbrev pub is_some : {X : Type 0} → Option X → Bool
 is_some None = false
@@ -25,7 +25,7 @@ unfoldable pub fault_of_definition_name : List PlacedDefinition → PlacedDefini
 fault_of_definition_name before d =
     if is_reserved d.def.name then Some (Reserved d.kind d.def.name)
     else (if is_some (first_definition_of d.kind d.def.name before) then Some (Duplicate d.kind d.def.name)
-    else (if nat_le alias_limit (definition_count_of_kind d.kind before) then Some (TooMany d.kind) else None))
+    else (if nat_le alias_limit_of_each_kind (definition_count_of_kind d.kind before) then Some (TooMany d.kind) else None))
 
 -- Each can stand after those before it.
 abbrev pub AreSoundDefinitions : List PlacedDefinition → Type 0

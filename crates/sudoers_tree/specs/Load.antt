@@ -44,25 +44,25 @@ result_unless_repeated_name None next = next
 result_unless_repeated_name (Some name) next = Err (SameName name)
 
 -- a file with this cut of its text, as it is read, or the fault of the cut
-abbrev pub parsed_file_or_cut_fault : List ℕ → Result (List (List ℕ)) TextFault → Result ParsedFile LoadFault
-parsed_file_or_cut_fault name (Ok lines) = Ok (parsed_file_of_texts name lines)
-parsed_file_or_cut_fault name (Err fault) = Err (InFile name (Text fault))
+abbrev pub parsed_file_of_cut_or_fault : List ℕ → Result (List (List ℕ)) TextFault → Result ParsedFile LoadFault
+parsed_file_of_cut_or_fault name (Ok lines) = Ok (parsed_file_of_texts name lines)
+parsed_file_of_cut_or_fault name (Err fault) = Err (InFile name (Text fault))
 
 -- the files `before`, and then these files as they are read, or the fault of the first text that cannot be cut
 abbrev pub parsed_files_or_cut_fault : List ParsedFile → List NamedFile → Result (List ParsedFile) LoadFault
 parsed_files_or_cut_fault before [] = Ok before
-parsed_files_or_cut_fault before (file ∷ files) = load_result_and_then (parsed_file_or_cut_fault file.name (cut_outcome_of_text file.bytes)) (λ reading. parsed_files_or_cut_fault (before ++ reading ∷ []) files)
+parsed_files_or_cut_fault before (file ∷ files) = load_result_and_then (parsed_file_of_cut_or_fault file.name (cut_outcome_of_text file.bytes)) (λ reading. parsed_files_or_cut_fault (before ++ reading ∷ []) files)
 
 -- ---- files that are not on the walk
 
 -- the fault of the first of these definitions that defines a reserved word
-abbrev pub reserved_name_fault : List PlacedDefinition → Option ReadFault
-reserved_name_fault [] = None
-reserved_name_fault (d ∷ ds) = if is_reserved d.def.name then Some (Reserved d.kind d.def.name) else reserved_name_fault ds
+abbrev pub reserved_name_fault_of_definitions : List PlacedDefinition → Option ReadFault
+reserved_name_fault_of_definitions [] = None
+reserved_name_fault_of_definitions (d ∷ ds) = if is_reserved d.def.name then Some (Reserved d.kind d.def.name) else reserved_name_fault_of_definitions ds
 
 abbrev pub reserved_name_fault_in_lines : List Line → Option ReadFault
 reserved_name_fault_in_lines [] = None
-reserved_name_fault_in_lines (line ∷ lines) = first_of_two_faults (reserved_name_fault (definitions_in_line 0 line.node)) (reserved_name_fault_in_lines lines)
+reserved_name_fault_in_lines (line ∷ lines) = first_of_two_faults (reserved_name_fault_of_definitions (definitions_in_line 0 line.node)) (reserved_name_fault_in_lines lines)
 
 -- the first fault of a file that is not on the walk: a reserved word that is defined, or else a line that does not parse
 abbrev pub first_fault_of_unreached_file : ParsedFile → Option ReadFault
@@ -114,7 +114,7 @@ AreLinesAtSpots files (at ∷ spots) [] = ⊥
 
 -- The line with this number of the walk stands at its spot. Its row and the length of its text together are at most twice the limit of a
 -- text, plus one.
-pub record HasBoundedSpot (policy : LoadedPolicy) (number : ℕ) (line : Line) : Type 0 where
+pub record IsLineAtBoundedSpot (policy : LoadedPolicy) (number : ℕ) (line : Line) : Type 0 where
   pub at : WalkLineSpot
   pub is : slice_get policy.walk.spots number ≡ Some at
   pub stands : IsLineAtSpot policy.files at line

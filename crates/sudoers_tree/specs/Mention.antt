@@ -75,10 +75,10 @@ mentions_in_lines k name lines = mentions_from_line_number k name 0 lines
 -- ---- the same, picked from the members of all lists
 
 -- those of the members that stand in lists of this kind
-abbrev pub listed_members_of_kind : Kind → List ListedMember → List Member
-listed_members_of_kind k [] = []
-listed_members_of_kind k (l ∷ ls) = if is_equal_kind k l.0 then l.1 ∷ listed_members_of_kind k ls else listed_members_of_kind k ls
+abbrev pub members_of_kind_among_listed : Kind → List ListedMember → List Member
+members_of_kind_among_listed k [] = []
+members_of_kind_among_listed k (l ∷ ls) = if is_equal_kind k l.0 then l.1 ∷ members_of_kind_among_listed k ls else members_of_kind_among_listed k ls
 
 -- the place of an alias, if it is this name in a list of this kind
-abbrev pub mention_span_of_alias : Kind → List ℕ → ℕ → AliasMember → List Span
-mention_span_of_alias k name line a = if is_equal_kind k a.kind && bytes_eq name a.name then record { line = line; start = a.stop - length name; stop = a.stop } ∷ [] else []
+abbrev pub mention_span_if_alias_named : Kind → List ℕ → ℕ → AliasMember → List Span
+mention_span_if_alias_named k name line a = if is_equal_kind k a.kind && bytes_eq name a.name then record { line = line; start = a.stop - length name; stop = a.stop } ∷ [] else []

@@ -10,8 +10,8 @@ use Rattle.sudoers_tree.specs.Line.{Line}
 use Rattle.sudoers_tree.specs.Definition.{PlacedDefinition, definitions_of_lines, first_definition_of, is_equal_kind}
 
 -- how many definitions of one kind a policy may have
-abbrev pub alias_limit : ℕ
-alias_limit = 4096
+abbrev pub alias_limit_of_each_kind : ℕ
+alias_limit_of_each_kind = 4096
 
 abbrev pub texts_of_lines : List Line → List (List ℕ)
 texts_of_lines lines = map (λ (line : Line). line.text) lines
@@ -38,9 +38,9 @@ pub record AreValidWalkLines (lines : List Line) : Type 0 where
   pub says : AllByRecursion IsCorrectlyParsed lines
   pub free : AllByRecursion HasUnreservedName (definitions_of_lines lines)
   pub once : HaveDistinctNames (definitions_of_lines lines)
-  pub few : (k : Kind) → definition_count_of_kind k (definitions_of_lines lines) ≤ alias_limit
+  pub few : (k : Kind) → definition_count_of_kind k (definitions_of_lines lines) ≤ alias_limit_of_each_kind
 
 -- The lines are those of a text, in its order.
-pub record IsPolicy (lines : List Line) : Type 0 where
+pub record AreLinesOfSingleTextPolicy (lines : List Line) : Type 0 where
   pub cut : IsFaultlessCut (join (texts_of_lines lines)) (texts_of_lines lines)
   pub walk : AreValidWalkLines lines

@@ -1,5 +1,5 @@
 -- The policy that a text is, or its first fault, as a function that computes. By the law `read_is` it is the policy or the first fault
--- that `IsReadOutcome` defines. By the law `one_outcome` a text has one outcome only.
+-- that `IsPolicyOrFirstFaultOfText` defines. By the law `one_outcome` a text has one outcome only.
 use Rattle.std.specs.Prelude.{◌≡◌, ℕ, List, [], ◌∷◌, ◌++◌, take, length, Option, Some, None, Result, Ok, Err}
 use Rattle.sudoers_text.specs.Line.{join}
 use Rattle.sudoers_text.specs.Cut.{cut_outcome_of_text}
@@ -13,7 +13,7 @@ use Rattle.sudoers_tree.specs.declared.fault.ReadFault.{ReadFault}
 use Rattle.sudoers_tree.specs.declared.fault.ReadFault.TheVariants.{Text, Syntax, NoMemory}
 use Rattle.sudoers_tree.specs.Physical.{physical_line_after_bytes, column_behind}
 use Rattle.sudoers_tree.specs.Definition.{PlacedDefinition, definitions_of_lines, definitions_in_line}
-use Rattle.sudoers_tree.specs.Policy.{texts_of_lines, IsPolicy}
+use Rattle.sudoers_tree.specs.Policy.{texts_of_lines, AreLinesOfSingleTextPolicy}
 use Rattle.sudoers_tree.specs.Fault.{fault_of_definition_name, IsFirstFaultOfText}
 
 -- the first of two
@@ -60,6 +60,6 @@ unfoldable pub policy_lines_of_text : List ℕ → Result (List Line) ReadFault
 policy_lines_of_text text = policy_lines_of_cut (cut_outcome_of_text text)
 
 -- The outcome of a text: the policy that it is, or its first fault.
-abbrev pub IsReadOutcome : List ℕ → Result (List Line) ReadFault → Type 0
-IsReadOutcome text (Ok lines) = IsPolicy lines × (join (texts_of_lines lines) ≡ text)
-IsReadOutcome text (Err fault) = IsFirstFaultOfText text fault
+abbrev pub IsPolicyOrFirstFaultOfText : List ℕ → Result (List Line) ReadFault → Type 0
+IsPolicyOrFirstFaultOfText text (Ok lines) = AreLinesOfSingleTextPolicy lines × (join (texts_of_lines lines) ≡ text)
+IsPolicyOrFirstFaultOfText text (Err fault) = IsFirstFaultOfText text fault

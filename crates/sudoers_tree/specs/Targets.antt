@@ -17,8 +17,8 @@ ends_in_tilde (b ∷ []) = b == 126
 ends_in_tilde (b ∷ c ∷ bytes) = ends_in_tilde (c ∷ bytes)
 
 -- the name without its folder
-abbrev pub base_name_of_file : List ℕ → List ℕ
-base_name_of_file name = drop (length (folder_of name)) name
+abbrev pub base_name_of_file_name : List ℕ → List ℕ
+base_name_of_file_name name = drop (length (folder_of name)) name
 
 -- An include of a folder leads to a file of this name in it: one without `/` and `.` that does not end in `~`.
 abbrev pub is_includable_base_name : List ℕ → Bool
@@ -26,7 +26,7 @@ is_includable_base_name base = not (has_byte 47 base) && not (has_byte 46 base) 
 
 -- An include of the folder leads to the file `name`. The name of the folder ends in `/`.
 abbrev pub is_includable_from_folder : List ℕ → List ℕ → Bool
-is_includable_from_folder folder name = bytes_eq (folder_of name) folder && is_includable_base_name (base_name_of_file name)
+is_includable_from_folder folder name = bytes_eq (folder_of name) folder && is_includable_base_name (base_name_of_file_name name)
 
 -- the number of the first file of this name, of files that are numbered from n on
 abbrev pub number_of_first_file_named : List ℕ → ℕ → List ParsedFile → Option ℕ

@@ -73,14 +73,14 @@ abbrev pub files_unless_on_walk : List ParsedFile → IncludeSite → List ℕ �
 files_unless_on_walk files at inner None = Ok inner
 files_unless_on_walk files at inner (Some f) = Err (repeated_include_fault files at f)
 
-abbrev pub files_unless_missing : List ParsedFile → IncludeSite → Lead → WalkState → Option (List ℕ) → Result (List ℕ) LoadFault
-files_unless_missing files at lead w None = Err (InFile at.file (NotLoaded at.row (name_of_lead lead)))
-files_unless_missing files at lead w (Some inner) = files_unless_on_walk files at inner (first_file_on_walk w inner)
+abbrev pub files_unless_missing_or_on_walk : List ParsedFile → IncludeSite → Lead → WalkState → Option (List ℕ) → Result (List ℕ) LoadFault
+files_unless_missing_or_on_walk files at lead w None = Err (InFile at.file (NotLoaded at.row (name_of_lead lead)))
+files_unless_missing_or_on_walk files at lead w (Some inner) = files_unless_on_walk files at inner (first_file_on_walk w inner)
 
 -- the files to which a line leads, or the fault that one is missing or on the walk already
 abbrev pub files_opened_by_lead : List ParsedFile → IncludeSite → WalkState → Option Lead → Result (List ℕ) LoadFault
 files_opened_by_lead files at w None = Ok []
-files_opened_by_lead files at w (Some lead) = files_unless_missing files at lead w (targets_of_lead files lead)
+files_opened_by_lead files at w (Some lead) = files_unless_missing_or_on_walk files at lead w (targets_of_lead files lead)
 
 -- where the line with this number of a file stands
 abbrev pub spot_of_file_line : List ParsedFile → ℕ → ℕ → WalkLineSpot

@@ -4,7 +4,7 @@ ghost use Rattle.std.specs.Prelude.{◌≡◌, ◌<◌, [], ◌∷◌, ◌++◌,
 ghost use Rattle.sudoers_grammar.specs.declared.node.Kind.{Kind as KindOf};
 ghost use Rattle.sudoers_line_rows.specs.View.{alias_definitions_of_view, node_of_view};
 ghost use Rattle.sudoers_tree.specs.Definition.{PlacedDefinition, definitions_from_place, definitions_in_line, is_equal_kind};
-ghost use Rattle.sudoers_tree.specs.Load.{reserved_name_fault};
+ghost use Rattle.sudoers_tree.specs.Load.{reserved_name_fault_of_definitions};
 ghost use Rattle.sudoers_tree.specs.internal.Index.{place_of_named_entry, index_entries_of_kind, IsIndexOfDefinitions, fault_of_new_entry, entries_with_definitions, entries_after_update, index_after_update, IsEntryOutcome, IsIndexEntryOutcome};
 ghost use Rattle.sudoers_tree.specs.internal.Keys.{entries_with_one_renamed};
 
@@ -231,25 +231,25 @@ fn entry_fault_of_name(
 /// # Errors
 ///
 /// Memory ran out.
-pub fn find_reserved_name_in_line(
+pub fn find_reserved_name_fault_in_line(
     alloc: Global,
     node: &Node<'_>,
 ) -> Result<Option<ReadFault>, AllocError>
-    ensures { IfOk result (λ fault. fault ≡ reserved_name_fault (definitions_in_line 0 (node_of_view node.now))) }
+    ensures { IfOk result (λ fault. fault ≡ reserved_name_fault_of_definitions (definitions_in_line 0 (node_of_view node.now))) }
 {
     match *node {
-        Node::Alias { kind, defs } => find_reserved_definition_name(alloc, kind, &defs),
+        Node::Alias { kind, defs } => find_reserved_name_fault_of_definitions(alloc, kind, &defs),
         _ => Ok(None),
     }
 }
 
 /// Returns the fault of the first reserved word that the definitions `defs` define. Returns nothing if they define none.
-fn find_reserved_definition_name(
+fn find_reserved_name_fault_of_definitions(
     alloc: Global,
     kind: Kind,
     defs: &RowsOfTable<'_, AliasDefinitionRow>,
 ) -> Result<Option<ReadFault>, AllocError>
-    ensures { IfOk result (λ fault. fault ≡ reserved_name_fault (definitions_from_place kind 0 0 (alias_definitions_of_view defs.now))) }
+    ensures { IfOk result (λ fault. fault ≡ reserved_name_fault_of_definitions (definitions_from_place kind 0 0 (alias_definitions_of_view defs.now))) }
 {
     let tables = defs.tables;
     for row in defs.rows {

@@ -4,7 +4,7 @@ ghost use Rattle.std.specs.Prelude.{◌≡◌, ◌++◌, OnOk};
 ghost use Rattle.std.specs.List.{flat_map};
 ghost use Rattle.sudoers_line_rows.specs.View.{node_of_view};
 ghost use Rattle.sudoers_tree.specs.Definition.{is_equal_kind as same_kind};
-ghost use Rattle.sudoers_tree.specs.Mention.{mentions_in_line, mention_span_of_alias};
+ghost use Rattle.sudoers_tree.specs.Mention.{mentions_in_line, mention_span_if_alias_named};
 
 use crate::place::Span;
 use std::alloc::{AllocError, Global};
@@ -38,7 +38,7 @@ fn append_mention_spans(
     aliases: &[AliasMember<'_>],
     spans: &mut Vec<Span>,
 ) -> Result<(), AllocError>
-    ensures { OnOk result (spans.new.items ≡ spans.old.items ++ flat_map (mention_span_of_alias kind name.now line) aliases.now) }
+    ensures { OnOk result (spans.new.items ≡ spans.old.items ++ flat_map (mention_span_if_alias_named kind name.now line) aliases.now) }
 {
     for alias in aliases {
         if is_same_kind(kind, alias.kind) && name == alias.name {

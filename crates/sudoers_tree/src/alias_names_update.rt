@@ -99,7 +99,7 @@ impl AliasNamesUpdate {
         }
         let mut places = std::mem::replace(&mut self.places, Vec::new(alloc));
         places.truncate(known.len());
-        let mut names = known.take_first_with_places(alloc, places)?;
+        let mut names = known.copy_first_names_with_places(alloc, places)?;
         names.push(alloc, name, place)?;
         self.own = Some(names);
         Ok(())

@@ -10,7 +10,7 @@ ghost use Rattle.sudoers_text.specs.Whole.{IsLogicalLine};
 ghost use Rattle.sudoers_line_rows.specs.Tables.{TablesHaveGrown};
 ghost use Rattle.sudoers_tree.specs.Files.{lines_parsed_until_fault};
 ghost use Rattle.sudoers_tree.specs.Line.{line_of_row};
-ghost use Rattle.sudoers_tree.specs.Load.{parsed_file_or_cut_fault};
+ghost use Rattle.sudoers_tree.specs.Load.{parsed_file_of_cut_or_fault};
 ghost use Rattle.sudoers_tree.specs.Policy.{texts_of_lines};
 ghost use Rattle.sudoers_tree.specs.internal.Files.{IsFileReadOutcome};
 ghost use Rattle.sudoers_tree.specs.internal.Pieces.{line_texts_of_pieces, line_texts_of_piece, AreKeptPieces, IsKeptRow, HasKeptRows, IsSizeWithinLimits, IsSizeWithinLimitsAfter, ContinuesReadingLines};
@@ -184,7 +184,7 @@ pub fn read_file_of_pieces(
     requires whole { AllByRecursion IsLogicalLine (line_texts_of_pieces tables.old pieces.now) }
     requires ended { has_inner_line_without_lf (line_texts_of_pieces tables.old pieces.now) ≡ false }
     ensures grown { TablesHaveGrown tables.old tables.new }
-    ensures read { IsFileReadOutcome result tables.new (parsed_file_or_cut_fault name (cut_outcome_of_text (join (line_texts_of_pieces tables.old pieces.now)))) }
+    ensures read { IsFileReadOutcome result tables.new (parsed_file_of_cut_or_fault name (cut_outcome_of_text (join (line_texts_of_pieces tables.old pieces.now)))) }
 {
     match checked_size_of_pieces(alloc, tables, pieces) {
         Ok(_) => {

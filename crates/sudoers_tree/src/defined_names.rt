@@ -118,7 +118,7 @@ impl DefinedAliasNames {
     /// # Errors
     ///
     /// A growth of memory was refused.
-    pub fn take_first_with_places(
+    pub fn copy_first_names_with_places(
         &self,
         alloc: Global,
         places: Vec<Place>,

@@ -13,7 +13,7 @@ ghost use Rattle.sudoers_tree.specs.Standing.{IsAliasNameAbsent};
 ghost use Rattle.sudoers_tree.specs.internal.Files.{HaveSoundFileRows, parsed_files_of_view};
 ghost use Rattle.sudoers_tree.specs.internal.Tree.{IsLastingLineRow};
 
-use crate::alias_index::find_reserved_name_in_line;
+use crate::alias_index::find_reserved_name_fault_in_line;
 use crate::fault::{ReadFault, SyntaxFault};
 use crate::line::{Line, LineRow};
 use crate::line_kind::LineKind;
@@ -139,7 +139,7 @@ impl<'a> FilesInTables<'a> {
             let Some(line) = self.parsed_line_at(file, line) else {
                 return Ok(None);
             };
-            if let Some(fault) = find_reserved_name_in_line(alloc, &line.node)? {
+            if let Some(fault) = find_reserved_name_fault_in_line(alloc, &line.node)? {
                 return Ok(Some(fault));
             }
         }
@@ -151,7 +151,7 @@ impl<'a> FilesInTables<'a> {
 
     /// Returns the physical line, from 1, on which the line begins that follows the line with the number `number` of the file with the
     /// number `file`. That line begins on the physical line `row`.
-    pub fn physical_line_number_after(&self, file: usize, number: usize, row: usize) -> usize
+    pub fn physical_line_of_next_file_line(&self, file: usize, number: usize, row: usize) -> usize
         requires files { HaveSoundFileRows self.now }
         requires row { row ≡ physical_line_of_file_line (lines_of_numbered_file (parsed_files_of_view self.now) file) number }
         ensures { (line : LineOf) → slice_get (lines_of_numbered_file (parsed_files_of_view self.now) file) number ≡ Some line
@@ -170,7 +170,7 @@ impl<'a> FilesInTables<'a> {
     {
         let mut row = 1;
         for line in 0..number.min(self.line_count(file)) {
-            row = self.physical_line_number_after(file, line, row);
+            row = self.physical_line_of_next_file_line(file, line, row);
         }
         row
     }

@@ -11,7 +11,7 @@ ghost use Rattle.sudoers_tree.specs.Changed.{AreChangesInOrder, texts_of_changes
 ghost use Rattle.sudoers_tree.specs.ChangedFiles.{AreApplicableChanges, files_after_changes};
 ghost use Rattle.sudoers_tree.specs.declared.load_fault.LoadFault.TheVariants.{NoMemory};
 ghost use Rattle.sudoers_tree.specs.Line.{line_of_row};
-ghost use Rattle.sudoers_tree.specs.Load.{parsed_file_or_cut_fault, parsed_files_or_cut_fault};
+ghost use Rattle.sudoers_tree.specs.Load.{parsed_file_of_cut_or_fault, parsed_files_or_cut_fault};
 ghost use Rattle.sudoers_tree.specs.Policy.{texts_of_lines};
 ghost use Rattle.sudoers_tree.specs.internal.Changing.{leading_change_count_of_file};
 ghost use Rattle.sudoers_tree.specs.internal.Files.{HasSoundFileRows, IsFileReadOutcome, parsed_file_of_rows};
@@ -86,7 +86,7 @@ fn read_file_with_changes(
     requires ended { has_inner_line_without_lf (lines_after_changes changes.now (texts_of_lines (map (line_of_row tables.old) file.now.rows.items))) ≡ false }
     ensures grown { TablesHaveGrown tables.old tables.new }
     ensures read { IsFileReadOutcome result tables.new
-        (parsed_file_or_cut_fault file.now.name (cut_outcome_of_text (join (lines_after_changes changes.now (texts_of_lines (map (line_of_row tables.old) file.now.rows.items)))))) }
+        (parsed_file_of_cut_or_fault file.now.name (cut_outcome_of_text (join (lines_after_changes changes.now (texts_of_lines (map (line_of_row tables.old) file.now.rows.items)))))) }
 {
     let name = Items::from_slice(alloc, file.name.as_slice())?;
     let pieces = pieces_of_changed_lines(alloc, file.rows.as_slice(), changes)?;

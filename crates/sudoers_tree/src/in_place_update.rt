@@ -6,7 +6,7 @@ ghost use Rattle.sudoers_tree.specs.Line.{Line as LineOf, line_of_row};
 ghost use Rattle.sudoers_tree.specs.Mapped.{file_names};
 ghost use Rattle.sudoers_tree.specs.declared.place.WalkLineSpot.{WalkLineSpot as SpotOf};
 ghost use Rattle.sudoers_tree.specs.internal.Files.{HaveSoundFileRows, parsed_files_of_view};
-ghost use Rattle.sudoers_tree.specs.internal.KeptLines.{IsInPlaceWalkUpdate, KeepsFileLineCount, IsSoundWalkBeforeChange, ReplaceLinesAtSpots, ReplacesLineAtSpot, IsAcceptedAliasName, IsAcceptedNamesChange, files_before_change};
+ghost use Rattle.sudoers_tree.specs.internal.KeptLines.{IsInPlaceWalkUpdate, KeepsLineCountWithoutFault, IsSoundWalkBeforeChange, ReplaceLinesAtSpots, ReplacesLineAtSpot, IsAcceptedAliasName, IsAcceptedNamesChange, files_before_change};
 ghost use Rattle.sudoers_tree.specs.internal.KeptWalk.{HasSameLeadAndLineEnds};
 ghost use Rattle.sudoers_tree.specs.internal.Tree.{IsLastingLineRow};
 
@@ -67,7 +67,7 @@ pub fn find_in_place_walk_update(
         tables: files.tables,
         files: before.files,
     };
-    if !are_line_counts_kept(&old, files, before.on) {
+    if !are_line_counts_kept_without_fault(&old, files, before.on) {
         return Ok(None);
     }
     let Some(lines) = gather_rows_at_spots(alloc, files, before.lines, before.spots)? else {
@@ -78,8 +78,12 @@ pub fn find_in_place_walk_update(
 }
 
 /// Returns whether each of the files with the numbers `on` has as many lines in `new` as in `old`, and no fault.
-fn are_line_counts_kept(old: &FilesInTables<'_>, new: &FilesInTables<'_>, on: &[usize]) -> bool
-    ensures { result ≡ true → All (KeepsFileLineCount (parsed_files_of_view old.now) (parsed_files_of_view new.now)) on.now }
+fn are_line_counts_kept_without_fault(
+    old: &FilesInTables<'_>,
+    new: &FilesInTables<'_>,
+    on: &[usize],
+) -> bool
+    ensures { result ≡ true → All (KeepsLineCountWithoutFault (parsed_files_of_view old.now) (parsed_files_of_view new.now)) on.now }
 {
     for file in on {
         if new.line_count(*file) != old.line_count(*file)
@@ -188,7 +192,7 @@ fn into_walk_update_with_names(
             name,
             fresh,
             ..
-        } => match check_new_alias_name(
+        } => match make_new_alias_name_if_free(
             alloc,
             known,
             kind,
@@ -210,7 +214,7 @@ fn into_walk_update_with_names(
 /// # Errors
 ///
 /// Memory ran out.
-fn check_new_alias_name(
+fn make_new_alias_name_if_free(
     alloc: Global,
     known: &AliasNameIndex,
     kind: Kind,

@@ -3,7 +3,7 @@
 ghost use Rattle.std.specs.Prelude.{◌≡◌, IfOk, MatchOption, OnOk, Some, None};
 ghost use Rattle.sudoers_grammar.specs.Piece.{has_byte};
 ghost use Rattle.sudoers_tree.specs.internal.Files.{parsed_files_of_view};
-ghost use Rattle.sudoers_tree.specs.Targets.{base_name_of_file, ends_in_tilde, included_files_of_folder, is_includable_base_name, is_file_name_before, is_includable_from_folder, number_of_first_file_named, file_inserted_in_name_order, targets_of_lead};
+ghost use Rattle.sudoers_tree.specs.Targets.{base_name_of_file_name, ends_in_tilde, included_files_of_folder, is_includable_base_name, is_file_name_before, is_includable_from_folder, number_of_first_file_named, file_inserted_in_name_order, targets_of_lead};
 
 use crate::files::FilesInTables;
 use crate::include_leads::{Lead, folder_of};
@@ -37,8 +37,8 @@ pub fn is_included_base_name(base: &[u8]) -> bool
 }
 
 /// Returns `name` without its folder, which ends in the last `/`.
-pub fn base_name_of(name: &[u8]) -> &[u8]
-    ensures { result.now ≡ base_name_of_file name.now }
+pub fn base_name_of_path(name: &[u8]) -> &[u8]
+    ensures { result.now ≡ base_name_of_file_name name.now }
 {
     match memrchr(b'/', name) {
         Some(at) => &name[at + 1..],
@@ -50,7 +50,7 @@ pub fn base_name_of(name: &[u8]) -> &[u8]
 fn is_included_from_folder(folder: &[u8], name: &[u8]) -> bool
     ensures { result ≡ is_includable_from_folder folder.now name.now }
 {
-    folder_of(name) == folder && is_included_base_name(base_name_of(name))
+    folder_of(name) == folder && is_included_base_name(base_name_of_path(name))
 }
 
 /// Returns the number, from 0, of the first file with the name `name`. Returns nothing if there is none.
@@ -92,7 +92,7 @@ fn insert_file_by_name(
 
 /// Returns the numbers of the files to which an include of the folder `folder` leads, in the order of their names. The name of the folder
 /// ends in `/`.
-fn find_files_in_folder(
+fn find_files_included_from_folder(
     alloc: Global,
     files: &FilesInTables<'_>,
     folder: &[u8],
@@ -135,7 +135,7 @@ pub fn find_lead_targets(
         Lead::Dir(dir) => {
             let mut folder = Vec::from_slice(alloc, dir.as_slice())?;
             folder.push(b'/')?;
-            Ok(Some(find_files_in_folder(alloc, files, folder.as_slice())?))
+            Ok(Some(find_files_included_from_folder(alloc, files, folder.as_slice())?))
         }
     }
 }

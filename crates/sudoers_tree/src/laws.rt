@@ -5,18 +5,18 @@ ghost use Rattle.sudoers_text.specs.Line.{join};
 ghost use Rattle.sudoers_text.specs.Whole.{IsLogicalLine};
 ghost use Rattle.sudoers_tree.specs.Line.{Line as LineOf};
 ghost use Rattle.sudoers_tree.specs.ChangedFiles.{AreApplicableChanges, changes_of_file, files_after_changes};
-ghost use Rattle.sudoers_tree.specs.Mapped.{AreFilesMapped, CanReplaceFiles, IsMappedWalk, MakeMappedLines, LineMapping, AreDefinedNamesValid, file_names, mapped_lines_at_spots};
+ghost use Rattle.sudoers_tree.specs.Mapped.{AreFilesMapped, CanReplaceFiles, IsMappedWalk, MakeMappedLines, LineToLinesMapping, AreDefinedNamesValid, file_names, mapped_lines_at_spots};
 ghost use Rattle.sudoers_tree.specs.Changed.{lines_after_changes, lines_changed_from_number, lines_with_one_replaced, line_number_of_change, min_line_number_after_change, text_of_change, AreChangesInOrder};
 ghost use Rattle.sudoers_tree.specs.declared.line_change.LineChange.{LineChange as LineChangeOf};
 ghost use Rattle.sudoers_tree.specs.declared.line_change.LineChange.TheVariants.{Put, Swap, Take};
-ghost use Rattle.sudoers_tree.specs.Reading.{policy_lines_of_text, IsReadOutcome};
+ghost use Rattle.sudoers_tree.specs.Reading.{policy_lines_of_text, IsPolicyOrFirstFaultOfText};
 ghost use Rattle.std.specs.List.{AllByRecursion, IsDistinct};
 ghost use Rattle.sudoers_text.specs.Cut.{cut_outcome_of_text};
 ghost use Rattle.sudoers_tree.specs.declared.fault.ReadFault.{ReadFault as FaultOf};
 ghost use Rattle.sudoers_grammar.specs.declared.node.Kind.{Kind as KindOf};
 ghost use Rattle.sudoers_grammar.specs.Node.{Node as NodeOf};
 ghost use Rattle.sudoers_grammar.specs.Listed.{listed_members_of_node};
-ghost use Rattle.sudoers_tree.specs.Mention.{members_of_kind_in_line, listed_members_of_kind};
+ghost use Rattle.sudoers_tree.specs.Mention.{members_of_kind_in_line, members_of_kind_among_listed};
 ghost use Rattle.sudoers_tree.specs.Policy.{AreValidWalkLines, IsCorrectlyParsed, texts_of_lines};
 ghost use Rattle.sudoers_tree.specs.Load.{LoadedPolicy, AreLinesAtSpots, file_limit, named_file_of_parsed, named_files_of_policy, policy_or_load_fault};
 ghost use Rattle.sudoers_text.specs.Fault.{text_limit};
@@ -37,7 +37,7 @@ use sudoers_text::laws::{
 
 /// A text has an outcome: the policy that it is, or its first fault.
 pub fn read_is()
-    ensures { (text : List ℕ) → IsReadOutcome text (policy_lines_of_text text) }
+    ensures { (text : List ℕ) → IsPolicyOrFirstFaultOfText text (policy_lines_of_text text) }
 {
     cut_is();
     outcome_is();
@@ -45,8 +45,8 @@ pub fn read_is()
 
 /// A text has one outcome only.
 pub fn one_outcome()
-    ensures { (text : List ℕ) (outcome other : Result (List LineOf) FaultOf) → IsReadOutcome text outcome
-        → IsReadOutcome text other → outcome ≡ other }
+    ensures { (text : List ℕ) (outcome other : Result (List LineOf) FaultOf) → IsPolicyOrFirstFaultOfText text outcome
+        → IsPolicyOrFirstFaultOfText text other → outcome ≡ other }
 {
     cut_is();
     one_cut();
@@ -81,7 +81,7 @@ pub fn lines_are_said()
 
 /// The members of lists of a kind are those of all members that stand in such lists.
 pub fn members_are_listed()
-    ensures { (kind : KindOf) (says : NodeOf) → members_of_kind_in_line kind says ≡ listed_members_of_kind kind (listed_members_of_node says) }
+    ensures { (kind : KindOf) (says : NodeOf) → members_of_kind_in_line kind says ≡ members_of_kind_among_listed kind (listed_members_of_node says) }
 {}
 
 /// Lines after changes are made of the first change and the others: the lines up to its place, the text that it brings, and what the others
@@ -207,16 +207,16 @@ pub fn walk_is()
 /// lines are those that come of the lines of the walk before. There is that walk if no name that they define has a fault. Any walk over
 /// the changed files is that one.
 pub fn walk_is_mapped()
-    ensures stands { (g : LineMapping) (files others : List ParsedFile) (w : WalkState) → walk_or_fault_of_files files ≡ Ok w → AreFilesMapped g files others w
+    ensures stands { (g : LineToLinesMapping) (files others : List ParsedFile) (w : WalkState) → walk_or_fault_of_files files ≡ Ok w → AreFilesMapped g files others w
         → AreDefinedNamesValid (mapped_lines_at_spots g w.spots w.lines) → (other : WalkState) × (walk_or_fault_of_files others ≡ Ok other) × IsMappedWalk g w other }
-    ensures agrees { (g : LineMapping) (files others : List ParsedFile) (w other : WalkState) → walk_or_fault_of_files files ≡ Ok w → AreFilesMapped g files others w
+    ensures agrees { (g : LineToLinesMapping) (files others : List ParsedFile) (w other : WalkState) → walk_or_fault_of_files files ≡ Ok w → AreFilesMapped g files others w
         → walk_or_fault_of_files others ≡ Ok other → IsMappedWalk g w other }
 {}
 
 /// A law: lines of the files of a policy change, and each keeps its lead. If no name has a fault then, the changed files load. Their policy
 /// has the walk of `walk_is_mapped`.
 pub fn mapped_files_load()
-    ensures { (g : LineMapping) (policy : LoadedPolicy) (others : List ParsedFile) → policy_or_load_fault (named_files_of_policy policy) ≡ Ok policy
+    ensures { (g : LineToLinesMapping) (policy : LoadedPolicy) (others : List ParsedFile) → policy_or_load_fault (named_files_of_policy policy) ≡ Ok policy
         → AreFilesMapped g policy.files others policy.walk → CanReplaceFiles policy.files others policy.walk
         → AreDefinedNamesValid (mapped_lines_at_spots g policy.walk.spots policy.walk.lines)
         → (other : WalkState) × (policy_or_load_fault (map named_file_of_parsed others) ≡ Ok (record { files = others; walk = other })) × (walk_or_fault_of_files others ≡ Ok other)
@@ -231,7 +231,7 @@ pub fn mapped_files_load()
 /// A law: changes of a policy make the lines that come of its lines, and each line keeps its lead. Where the changed files load, their walk
 /// is that of `walk_is_mapped`.
 pub fn changed_walk_is_mapped()
-    ensures { (g : LineMapping) (changes : List LineChangeOf) (old new : LoadedPolicy) → policy_or_load_fault (named_files_of_policy old) ≡ Ok old → AreApplicableChanges changes old.files
+    ensures { (g : LineToLinesMapping) (changes : List LineChangeOf) (old new : LoadedPolicy) → policy_or_load_fault (named_files_of_policy old) ≡ Ok old → AreApplicableChanges changes old.files
         → policy_or_load_fault (files_after_changes changes old.files) ≡ Ok new → MakeMappedLines g changes old.files old.walk → IsMappedWalk g old.walk new.walk }
 {
     loaded_files_are();

@@ -39,7 +39,7 @@ pub use alias_index::ALIAS_LIMIT;
 pub use alias_mentions::is_same_kind;
 pub use fault::{ReadFault, SyntaxFault};
 pub use include_leads::{Lead, folder_of, lead_of_include_node, leads, may_include_files};
-pub use include_targets::{base_name_of, is_included_base_name};
+pub use include_targets::{base_name_of_path, is_included_base_name};
 pub use line::{Line, LineRow};
 pub use line_change::LineChange;
 pub use line_kind::LineKind;

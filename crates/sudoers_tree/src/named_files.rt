@@ -6,7 +6,7 @@ ghost use Rattle.sudoers_line_rows.specs.Tables.{TablesHaveGrown};
 ghost use Rattle.sudoers_text.specs.Cut.{IsOutcomeUnlessNoMemory, cut_outcome_of_text};
 ghost use Rattle.sudoers_text.specs.declared.fault.TextFault.{TextFault as TextFaultOf};
 ghost use Rattle.sudoers_tree.specs.declared.load_fault.LoadFault.TheVariants.{NoMemory};
-ghost use Rattle.sudoers_tree.specs.Load.{parsed_file_or_cut_fault, first_repeated_file_name, has_file_with_name, parsed_files_or_cut_fault};
+ghost use Rattle.sudoers_tree.specs.Load.{parsed_file_of_cut_or_fault, first_repeated_file_name, has_file_with_name, parsed_files_or_cut_fault};
 ghost use Rattle.sudoers_tree.specs.internal.Files.{HasSoundFileRows, IsFileReadOutcome, parsed_file_of_rows};
 
 use crate::fault::ReadFault;
@@ -57,7 +57,7 @@ pub fn has_file_named(files: &[NamedFile], name: &[u8]) -> bool
 }
 
 /// Reads the files `files` into `tables`. If the text of a file cannot be cut into lines, returns the fault of the first such file.
-pub fn read_files_into_tables(
+pub fn read_files_into_tables_until_fault(
     alloc: Global,
     tables: &mut Tables,
     files: &[NamedFile],
@@ -79,7 +79,7 @@ fn read_file_into_tables(
     file: &NamedFile,
 ) -> Result<ParsedFileRows, LoadFault>
     ensures grown { TablesHaveGrown tables.old tables.new }
-    ensures read { IsFileReadOutcome result tables.new (parsed_file_or_cut_fault file.now.name (cut_outcome_of_text file.now.bytes)) }
+    ensures read { IsFileReadOutcome result tables.new (parsed_file_of_cut_or_fault file.now.name (cut_outcome_of_text file.now.bytes)) }
 {
     let name = Items::from_slice(alloc, file.name.as_slice())?;
     match cut(alloc, file.bytes.as_slice()) {
@@ -95,7 +95,7 @@ fn read_file_into_tables(
 /// Returns the fault `fault` of the cut of a text as one of the file `file`.
 pub fn load_fault_of_text_fault(file: Items<u8>, fault: TextFault) -> LoadFault
     ensures { (outcome : Result (List (List ℕ)) TextFaultOf) → IsOutcomeUnlessNoMemory (Err fault) outcome
-        → (result ≡ NoMemory) ⊎ (parsed_file_or_cut_fault file outcome ≡ Err result) }
+        → (result ≡ NoMemory) ⊎ (parsed_file_of_cut_or_fault file outcome ≡ Err result) }
 {
     match fault {
         TextFault::NoMemory => LoadFault::NoMemory,

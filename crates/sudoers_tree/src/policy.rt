@@ -12,7 +12,7 @@ ghost use Rattle.sudoers_tree.specs.ChangedFiles.{AreApplicableChanges, files_af
 ghost use Rattle.sudoers_tree.specs.Files.{lines_of_numbered_file, name_of_numbered_file};
 ghost use Rattle.sudoers_tree.specs.Kind.{line_kind};
 ghost use Rattle.sudoers_tree.specs.Line.{Line as LineOf, line_of_view, lines_of_rows};
-ghost use Rattle.sudoers_tree.specs.Load.{HasBoundedSpot, named_files_of_policy, policy_or_load_fault, single_file_named_policy};
+ghost use Rattle.sudoers_tree.specs.Load.{IsLineAtBoundedSpot, named_files_of_policy, policy_or_load_fault, single_file_named_policy};
 ghost use Rattle.sudoers_tree.specs.NameBits.{bits_of_name};
 ghost use Rattle.sudoers_tree.specs.Policy.{texts_of_lines};
 ghost use Rattle.sudoers_tree.specs.Standing.{IsAliasNameAbsent};
@@ -27,7 +27,9 @@ use crate::line_kind::LineKind;
 use crate::line_texts::append_texts_of_rows;
 use crate::load_fault::LoadFault;
 use crate::name_bits::NameFilterBits;
-use crate::named_files::{FILE_LIMIT, NamedFile, find_repeated_file_name, read_files_into_tables};
+use crate::named_files::{
+    FILE_LIMIT, NamedFile, find_repeated_file_name, read_files_into_tables_until_fault,
+};
 use crate::place::WalkLineSpot;
 use crate::walk::Walk;
 use std::alloc::{AllocError, Global};
@@ -76,7 +78,7 @@ impl Policy {
             return Err(LoadFault::SameName { file });
         }
         let mut tables = Tables::new(alloc);
-        let files = read_files_into_tables(alloc, &mut tables, files)?;
+        let files = read_files_into_tables_until_fault(alloc, &mut tables, files)?;
         let walked = walk_files(alloc, tables, files)?;
         Ok(Policy {
             walked: Box::new(alloc, walked)?,
@@ -167,7 +169,7 @@ impl Policy {
     /// plus one.
     pub fn lines_stand(&self)
         ensures count { length self.now.walk.spots ≡ length self.now.walk.lines }
-        ensures stand { (number : ℕ) (line : LineOf) → slice_get self.now.walk.lines number ≡ Some line → HasBoundedSpot self.now number line }
+        ensures stand { (number : ℕ) (line : LineOf) → slice_get self.now.walk.lines number ≡ Some line → IsLineAtBoundedSpot self.now number line }
     {
         let _ = &self.walked;
     }
@@ -348,7 +350,12 @@ impl Policy {
 
     /// Returns whether an alias of a name with the bits `bits` may stand in the line with the number `line` of the file with the number
     /// `file`, both from 0. If it returns false, none stands there.
-    pub fn may_have_alias_in_line(&self, file: usize, line: usize, bits: NameFilterBits) -> bool
+    pub fn may_have_alias_with_bits_in_line(
+        &self,
+        file: usize,
+        line: usize,
+        bits: NameFilterBits,
+    ) -> bool
         ensures { (name : List ℕ) (says : LineOf) → bits.set ≡ bits_of_name name → result ≡ false
             → slice_get (lines_of_numbered_file self.now.files file) line ≡ Some says → IsAliasNameAbsent name says.node }
     {

@@ -280,7 +280,7 @@ impl WalkBuilder {
             let at = WalkLineSpot { file, line, row };
             self.append_walk_line_at(alloc, files, known, at)?;
             self.follow_include_at(alloc, files, known, left, at)?;
-            row = files.physical_line_number_after(file, line, row);
+            row = files.physical_line_of_next_file_line(file, line, row);
         }
         self.check_parse_of_file(alloc, files, file)
     }

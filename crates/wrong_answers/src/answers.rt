@@ -2,11 +2,11 @@
 
 ghost use Rattle.std.specs.Prelude.{◌≡◌, ◌<◌, ◌≤◌, ◌⊎◌, ◌↔◌, IsTrue, length, IfOk, IfErr, IfSome};
 ghost use Rattle.std.specs.Option.{option_map};
-ghost use Rattle.sudoers_check.specs.Chains.{HasReachableCycle};
+ghost use Rattle.sudoers_check.specs.Chains.{HasCyclicAliasReachedFromSpecOrDefaults};
 ghost use Rattle.sudoers_match.specs.Answer.{IsAnswerToRequest, answer_of_view, joined_arguments_limit, words_joined_with_spaces};
 ghost use Rattle.sudoers_match.specs.Default.{IsRunasDefault};
-ghost use Rattle.sudoers_match.specs.Found.{IsFoundInLines, answer_of_found};
-ghost use Rattle.sudoers_match.specs.Groups.{AreMatchingHostGroups};
+ghost use Rattle.sudoers_match.specs.Found.{HasMemberAndSettingsFromLines, answer_without_member_and_settings};
+ghost use Rattle.sudoers_match.specs.Groups.{ArePlacesOfMatchingHostGroups};
 ghost use Rattle.sudoers_line_rows.specs.View.{members_of_view};
 ghost use Rattle.sudoers_match_list.specs.declared.verdict.AskFault.TheVariants.{Cycle, TooLong, NoMemory};
 ghost use Rattle.sudoers_match_list.specs.Cycle.{ListLeadsToCyclicAlias};
@@ -15,8 +15,8 @@ ghost use Rattle.sudoers_match_list.specs.Flat.{IsListVerdict};
 use std::alloc::{AllocError, Global};
 use sudoers_line_rows::{MemberRow, RowsOfTable};
 use sudoers_match::{
-    Answer, AnswerWithCommand, AskFault, HostGroupPlace, Request, Who, answer, find_answer,
-    host_groups, runas_default,
+    Answer, AnswerWithMemberAndSettings, AskFault, HostGroupPlace, Request, Who, answer,
+    find_answer, host_groups, runas_default,
 };
 use sudoers_match_list::{AcyclicWalk, MemberKind, Verdict, decide, has_reachable_cycle_in_policy};
 use sudoers_tree::{Kind, Policy};
@@ -34,9 +34,9 @@ pub fn decide_list<K: MemberKind>(
     asked: &K::Asked,
 ) -> Result<Verdict, AskFault>
     ensures verdict { IfOk result (λ verdict. IsListVerdict kind policy.now.walk.lines (K.test asked.now) (members_of_view members.now) verdict) }
-    ensures straight { IfOk result (λ verdict. (HasReachableCycle policy.now.walk.lines ⊎ ListLeadsToCyclicAlias kind policy.now.walk.lines (members_of_view members.now)) → ⊥) }
+    ensures straight { IfOk result (λ verdict. (HasCyclicAliasReachedFromSpecOrDefaults policy.now.walk.lines ⊎ ListLeadsToCyclicAlias kind policy.now.walk.lines (members_of_view members.now)) → ⊥) }
     ensures fault { IfErr result (λ fault. (fault ≡ NoMemory)
-        ⊎ ((fault ≡ Cycle) × (HasReachableCycle policy.now.walk.lines ⊎ ListLeadsToCyclicAlias kind policy.now.walk.lines (members_of_view members.now)))) }
+        ⊎ ((fault ≡ Cycle) × (HasCyclicAliasReachedFromSpecOrDefaults policy.now.walk.lines ⊎ ListLeadsToCyclicAlias kind policy.now.walk.lines (members_of_view members.now)))) }
 {
     decide::<K>(alloc, policy, kind, members, asked)
 }
@@ -47,7 +47,7 @@ pub fn decide_list<K: MemberKind>(
 ///
 /// Memory ran out.
 pub fn find_cycle(alloc: Global, policy: &Policy) -> Result<bool, AllocError>
-    ensures { IfOk result (λ cycle. IsTrue cycle ↔ HasReachableCycle policy.now.walk.lines) }
+    ensures { IfOk result (λ cycle. IsTrue cycle ↔ HasCyclicAliasReachedFromSpecOrDefaults policy.now.walk.lines) }
 {
     has_reachable_cycle_in_policy(alloc, policy)
 }
@@ -63,10 +63,10 @@ pub fn answer_request<'a>(
     request: &Request,
 ) -> Result<Option<Answer<'a>>, AskFault>
     ensures answer { IfOk result (λ answer. IsAnswerToRequest policy.now.walk.lines request.now (option_map answer_of_view answer)) }
-    ensures straight { IfOk result (λ _. HasReachableCycle policy.now.walk.lines → ⊥) }
+    ensures straight { IfOk result (λ _. HasCyclicAliasReachedFromSpecOrDefaults policy.now.walk.lines → ⊥) }
     ensures short { IfOk result (λ _. length (words_joined_with_spaces request.now.args) ≤ joined_arguments_limit) }
-    ensures fault { IfErr result (λ fault. (fault ≡ NoMemory) ⊎ (((fault ≡ Cycle) × HasReachableCycle policy.now.walk.lines)
-        ⊎ ((fault ≡ TooLong) × (HasReachableCycle policy.now.walk.lines → ⊥) × (joined_arguments_limit < length (words_joined_with_spaces request.now.args))))) }
+    ensures fault { IfErr result (λ fault. (fault ≡ NoMemory) ⊎ (((fault ≡ Cycle) × HasCyclicAliasReachedFromSpecOrDefaults policy.now.walk.lines)
+        ⊎ ((fault ≡ TooLong) × (HasCyclicAliasReachedFromSpecOrDefaults policy.now.walk.lines → ⊥) × (joined_arguments_limit < length (words_joined_with_spaces request.now.args))))) }
 {
     answer(alloc, policy, request)
 }
@@ -81,10 +81,10 @@ pub fn find_rule<'a>(
     policy: &AcyclicWalk<'a>,
     request: &Request,
     default: &'a [u8],
-) -> Result<Option<AnswerWithCommand<'a>>, AskFault>
+) -> Result<Option<AnswerWithMemberAndSettings<'a>>, AskFault>
     requires { IsRunasDefault policy.now request.now.who default.now }
-    ensures answer { IfOk result (λ found. IsAnswerToRequest policy.now request.now (option_map answer_of_found found)) }
-    ensures found { IfOk result (λ found. IfSome found (IsFoundInLines policy.now)) }
+    ensures answer { IfOk result (λ found. IsAnswerToRequest policy.now request.now (option_map answer_without_member_and_settings found)) }
+    ensures found { IfOk result (λ found. IfSome found (HasMemberAndSettingsFromLines policy.now)) }
     ensures short { IfOk result (λ _. length (words_joined_with_spaces request.now.args) ≤ joined_arguments_limit) }
     ensures fault { IfErr result (λ fault. (fault ≡ NoMemory) ⊎ ((fault ≡ TooLong) × (joined_arguments_limit < length (words_joined_with_spaces request.now.args)))) }
 {
@@ -98,8 +98,8 @@ pub fn find_rule<'a>(
 /// `Cycle`: a reachable alias is cyclic. Or memory ran out.
 pub fn default_user<'a>(alloc: Global, policy: &'a Policy, who: &Who) -> Result<&'a [u8], AskFault>
     ensures name { IfOk result (λ name. IsRunasDefault policy.now.walk.lines who.now name.now) }
-    ensures straight { IfOk result (λ _. HasReachableCycle policy.now.walk.lines → ⊥) }
-    ensures fault { IfErr result (λ fault. (fault ≡ NoMemory) ⊎ ((fault ≡ Cycle) × HasReachableCycle policy.now.walk.lines)) }
+    ensures straight { IfOk result (λ _. HasCyclicAliasReachedFromSpecOrDefaults policy.now.walk.lines → ⊥) }
+    ensures fault { IfErr result (λ fault. (fault ≡ NoMemory) ⊎ ((fault ≡ Cycle) × HasCyclicAliasReachedFromSpecOrDefaults policy.now.walk.lines)) }
 {
     runas_default(alloc, policy, who)
 }
@@ -114,9 +114,9 @@ pub fn groups_of_hosts(
     policy: &Policy,
     who: &Who,
 ) -> Result<Vec<HostGroupPlace>, AskFault>
-    ensures groups { IfOk result (λ places. AreMatchingHostGroups policy.now.walk.lines who.now places.items) }
-    ensures straight { IfOk result (λ _. HasReachableCycle policy.now.walk.lines → ⊥) }
-    ensures fault { IfErr result (λ fault. (fault ≡ NoMemory) ⊎ ((fault ≡ Cycle) × HasReachableCycle policy.now.walk.lines)) }
+    ensures groups { IfOk result (λ places. ArePlacesOfMatchingHostGroups policy.now.walk.lines who.now places.items) }
+    ensures straight { IfOk result (λ _. HasCyclicAliasReachedFromSpecOrDefaults policy.now.walk.lines → ⊥) }
+    ensures fault { IfErr result (λ fault. (fault ≡ NoMemory) ⊎ ((fault ≡ Cycle) × HasCyclicAliasReachedFromSpecOrDefaults policy.now.walk.lines)) }
 {
     host_groups(alloc, policy, who)
 }

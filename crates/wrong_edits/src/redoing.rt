@@ -2,7 +2,9 @@
 
 ghost use Rattle.std.specs.Prelude.{◌≡◌, [], take, Ok, IfErr, OnOk, OnErr, MatchResult, true, false};
 ghost use Rattle.sudoers_edit.specs.declared.fault.EditFault.TheVariants as EditFault;
+ghost use Rattle.sudoers_edit.specs.Editing.{EditorState, initial_policy_of_editor};
 ghost use Rattle.sudoers_edit.specs.Redoing.{RedoesLastUndone, undone_edits_after_edits};
+ghost use Rattle.sudoers_edit.specs.Undoing.{UndoesLastEdit};
 
 use sudoers_edit::{Edit, EditFault, Editor};
 
@@ -13,6 +15,7 @@ use sudoers_edit::{Edit, EditFault, Editor};
 /// Memory ran out. The editor is then as it was.
 pub fn redo_edit(editor: &mut Editor) -> Result<bool, EditFault>
     ensures made { result ≡ Ok true → RedoesLastUndone editor.old editor.new }
+    ensures back { (begun : EditorState) → UndoesLastEdit begun editor.old → OnOk result (editor.new ≡ begun) }
     ensures none { result ≡ Ok false → (editor.old.undone ≡ []) × (editor.new ≡ editor.old) }
     ensures refused { IfErr result (λ fault. fault ≡ EditFault.NoMemory) }
     ensures unchanged { OnErr result (editor.new ≡ editor.old) }
@@ -26,6 +29,7 @@ pub fn redo_edit(editor: &mut Editor) -> Result<bool, EditFault>
 ///
 /// The first cause for which the edit is refused, or memory ran out. The editor is then as it was.
 pub fn apply_anew(editor: &mut Editor, edit: &Edit) -> Result<(), EditFault>
+    ensures begun { initial_policy_of_editor editor.new ≡ initial_policy_of_editor editor.old }
     ensures undone { OnOk result (editor.new.undone ≡ []) }
     ensures unchanged { OnErr result (editor.new ≡ editor.old) }
 {

@@ -2,7 +2,7 @@
 
 ghost use Rattle.std.specs.Prelude.{◌≡◌, IfOk, map};
 ghost use Rattle.sudoers_check.specs.Led.{unused_definitions_of_lines};
-ghost use Rattle.sudoers_check.specs.Report.{is_report_without_faults, report_of_walk, report_text as text_of_report};
+ghost use Rattle.sudoers_check.specs.Report.{is_report_parsed_ok, report_of_walk, report_text as text_of_report};
 ghost use Rattle.sudoers_tree.specs.Definition.{PlacedDefinition};
 ghost use Rattle.sudoers_tree.specs.FilePlaces.{file_place_of_walk_place};
 
@@ -23,9 +23,9 @@ pub fn check_policy(alloc: Global, policy: &Policy) -> Result<Report, AllocError
 
 /// Returns whether a policy with this report passes; with `strict`, undefined names and cyclic aliases count.
 pub fn is_fine_report(report: &Report, strict: bool) -> bool
-    ensures { result ≡ is_report_without_faults strict report.now }
+    ensures { result ≡ is_report_parsed_ok strict report.now }
 {
-    report.has_no_faults(strict)
+    report.is_parsed_ok(strict)
 }
 
 /// Returns the text of `report`, a report on `policy`.

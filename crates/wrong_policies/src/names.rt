@@ -32,5 +32,5 @@ pub fn mentions_of(policy: &Policy, kind: Kind, name: &[u8]) -> Result<Vec<FileS
 pub fn may_stand(policy: &Policy, file: usize, line: usize, name: &[u8]) -> bool
     ensures { (says : LineOf) → result ≡ false → slice_get (lines_of_numbered_file policy.now.files file) line ≡ Some says → IsAliasNameAbsent name.now says.node }
 {
-    policy.may_have_alias_in_line(file, line, NameFilterBits::from_alias_name(name))
+    policy.may_have_alias_with_bits_in_line(file, line, NameFilterBits::from_alias_name(name))
 }

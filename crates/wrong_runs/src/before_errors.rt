@@ -1,6 +1,6 @@
 //! What stands in the output before an error: nothing.
 
-ghost use Rattle.sudoers_run.specs.Device.{IsWriteEffect};
+ghost use Rattle.sudoers_run.specs.Writing.{IsWriterStateAfterCommand};
 
 use std::alloc::Global;
 use sudoers_files::Files;
@@ -21,7 +21,7 @@ pub fn edit_before_errors<R: Source, W: Sink>(
     redo: u32,
     writer: &mut W,
 ) -> Result<u8, ToolFault>
-    ensures writes { IsWriteEffect result (W.Sink.failures writer.old) (W.Sink.failures writer.new)
+    ensures writes { IsWriterStateAfterCommand result (W.Sink.failures writer.old) (W.Sink.failures writer.new)
         (W.contents writer.old) (W.contents writer.new) }
 {
     run_edit(alloc, reader, undo, redo, writer)
@@ -39,7 +39,7 @@ pub fn check_before_errors<F: Files, W: Sink>(
     words: &CheckWords,
     writer: &mut W,
 ) -> Result<u8, ToolFault>
-    ensures writes { IsWriteEffect result (W.Sink.failures writer.old) (W.Sink.failures writer.new)
+    ensures writes { IsWriterStateAfterCommand result (W.Sink.failures writer.old) (W.Sink.failures writer.new)
         (W.contents writer.old) (W.contents writer.new) }
 {
     run_check(alloc, files, root, words, writer)
@@ -57,7 +57,7 @@ pub fn convert_before_errors<F: Files, W: Sink>(
     words: &ConvertWords<'_>,
     writer: &mut W,
 ) -> Result<u8, ToolFault>
-    ensures writes { IsWriteEffect result (W.Sink.failures writer.old) (W.Sink.failures writer.new)
+    ensures writes { IsWriterStateAfterCommand result (W.Sink.failures writer.old) (W.Sink.failures writer.new)
         (W.contents writer.old) (W.contents writer.new) }
 {
     run_convert(alloc, files, root, words, writer)
@@ -77,7 +77,7 @@ pub fn list_before_errors<F: Files, U: Source, G: Source, W: Sink>(
     words: &ListWords<'_>,
     writer: &mut W,
 ) -> Result<u8, ToolFault>
-    ensures writes { IsWriteEffect result (W.Sink.failures writer.old) (W.Sink.failures writer.new)
+    ensures writes { IsWriterStateAfterCommand result (W.Sink.failures writer.old) (W.Sink.failures writer.new)
         (W.contents writer.old) (W.contents writer.new) }
 {
     run_list(alloc, files, root, passwd, group, words, writer)

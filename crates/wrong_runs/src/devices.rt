@@ -1,6 +1,6 @@
 //! What the results of `list` say of its readers, and in which order it reads its files.
 
-ghost use Rattle.sudoers_run.specs.List.{ReadsPeopleFiles};
+ghost use Rattle.sudoers_run.specs.List.{AreMetersAfterReadingPeopleFiles};
 
 use std::alloc::Global;
 use sudoers_files::Files;
@@ -21,7 +21,7 @@ pub fn list_devices<F: Files, U: Source, G: Source, W: Sink>(
     words: &ListWords<'_>,
     writer: &mut W,
 ) -> Result<u8, ToolFault>
-    ensures reads { ReadsPeopleFiles result (U.meter passwd.old) (U.meter passwd.new) (G.meter group.old) (G.meter group.new) }
+    ensures reads { AreMetersAfterReadingPeopleFiles result (U.meter passwd.old) (U.meter passwd.new) (G.meter group.old) (G.meter group.new) }
 {
     run_list(alloc, files, root, passwd, group, words, writer)
 }

@@ -34,7 +34,7 @@ pub use gathering::{Passed, gather_files};
 pub use listing::list_status;
 pub use quiet::check_quietly;
 pub use showing::show_policy;
-pub use stopping::edit_within_limit;
+pub use stopping::{edit_within_limit, read_front};
 pub use told_errors::{
     check_told_errors, convert_told_errors, edit_told_errors, list_told_errors, show_told_errors,
 };

@@ -2,7 +2,7 @@
 
 ghost use Rattle.std.specs.Io.KnownBytes.{Appends};
 ghost use Rattle.std.specs.Prelude.{◌≡◌, IfOk, IfSome, IsOkAnd};
-ghost use Rattle.sudoers_run.specs.Device.{IsWriteEffect};
+ghost use Rattle.sudoers_run.specs.Writing.{IsWriterStateAfterCommand};
 ghost use Rattle.sudoers_run.specs.Show.{show_output};
 
 use std::alloc::Global;
@@ -22,7 +22,7 @@ pub fn show_policy<F: Files, W: Sink>(
 ) -> Result<u8, ToolFault>
     ensures ok { IfOk result (λ status. (status ≡ 0) × IfSome (F.shelf files.old).files (λ known.
         IsOkAnd (show_output root.now known) (Appends (W.contents writer.old) (W.contents writer.new)))) }
-    ensures writes { IsWriteEffect result (W.Sink.failures writer.old) (W.Sink.failures writer.new)
+    ensures writes { IsWriterStateAfterCommand result (W.Sink.failures writer.old) (W.Sink.failures writer.new)
         (W.contents writer.old) (W.contents writer.new) }
 {
     run_show(alloc, files, root, writer)

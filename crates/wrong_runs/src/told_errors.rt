@@ -2,11 +2,11 @@
 
 ghost use Rattle.std.specs.Prelude.{◌≡◌, ℕ, List, Ok, Err, IfErr, IfSome, IsOkAnd};
 ghost use Rattle.sudoers_run.specs.Check.{check_output, IsCheckFault};
-ghost use Rattle.sudoers_run.specs.Convert.{convert_output, IsConvertFaultOfFiles};
-ghost use Rattle.sudoers_run.specs.Device.{AppendsPrefixOfBytes};
-ghost use Rattle.sudoers_run.specs.List.{HoldsOfPeopleTexts, IsListOutcome, IsListFaultOfFiles};
-ghost use Rattle.sudoers_run.specs.Edit.{edit_output_of_input, IsFaultOfEditInput};
-ghost use Rattle.sudoers_run.specs.Show.{show_output, IsShowFaultOfFiles};
+ghost use Rattle.sudoers_run.specs.Convert.{convert_output, IsStatedOrOutsideConvertFault};
+ghost use Rattle.sudoers_files.specs.Device.{AppendsPrefixOfBytes};
+ghost use Rattle.sudoers_run.specs.List.{HoldsOfPeopleTexts, IsListOutcome, IsStatedOrOutsideListFault};
+ghost use Rattle.sudoers_run.specs.Edit.{edit_output_of_input, IsStatedOrOutsideEditFault};
+ghost use Rattle.sudoers_run.specs.Show.{show_output, IsStatedOrOutsideShowFault};
 ghost use Rattle.sudoers_run.specs.declared.fault.ToolFault.TheVariants as ToolFault;
 
 use std::alloc::Global;
@@ -27,7 +27,7 @@ pub fn show_told_errors<F: Files, W: Sink>(
     root: &[u8],
     writer: &mut W,
 ) -> Result<u8, ToolFault>
-    ensures fault { IfErr result (λ fault. IfSome (F.shelf files.old).files (IsShowFaultOfFiles root.now fault)) }
+    ensures fault { IfErr result (λ fault. IfSome (F.shelf files.old).files (IsStatedOrOutsideShowFault root.now fault)) }
     ensures front { result ≡ Err ToolFault.Write → IfSome (F.shelf files.old).files (λ known.
         IsOkAnd (show_output root.now known) (AppendsPrefixOfBytes (W.contents writer.old) (W.contents writer.new))) }
 {
@@ -46,7 +46,7 @@ pub fn edit_told_errors<R: Source, W: Sink>(
     redo: u32,
     writer: &mut W,
 ) -> Result<u8, ToolFault>
-    ensures fault { IfErr result (λ fault. IfSome (R.meter reader.old).remaining (IsFaultOfEditInput undo redo fault)) }
+    ensures fault { IfErr result (λ fault. IfSome (R.meter reader.old).remaining (IsStatedOrOutsideEditFault undo redo fault)) }
     ensures front { result ≡ Err ToolFault.Write → IfSome (R.meter reader.old).remaining (λ input.
         IsOkAnd (edit_output_of_input undo redo input) (AppendsPrefixOfBytes (W.contents writer.old) (W.contents writer.new))) }
 {
@@ -85,7 +85,7 @@ pub fn convert_told_errors<F: Files, W: Sink>(
     words: &ConvertWords<'_>,
     writer: &mut W,
 ) -> Result<u8, ToolFault>
-    ensures fault { IfErr result (λ fault. IfSome (F.shelf files.old).files (IsConvertFaultOfFiles words.now root.now fault)) }
+    ensures fault { IfErr result (λ fault. IfSome (F.shelf files.old).files (IsStatedOrOutsideConvertFault words.now root.now fault)) }
     ensures front { result ≡ Err ToolFault.Write → IfSome (F.shelf files.old).files (λ known.
         IsOkAnd (convert_output words.now root.now known) (AppendsPrefixOfBytes (W.contents writer.old) (W.contents writer.new))) }
 {
@@ -107,7 +107,7 @@ pub fn list_told_errors<F: Files, U: Source, G: Source, W: Sink>(
     words: &ListWords<'_>,
     writer: &mut W,
 ) -> Result<u8, ToolFault>
-    ensures fault { IfErr result (λ fault. IfSome (F.shelf files.old).files (λ known. HoldsOfPeopleTexts (U.meter passwd.old) (G.meter group.old) (IsListFaultOfFiles words.now root.now known fault))) }
+    ensures fault { IfErr result (λ fault. IfSome (F.shelf files.old).files (λ known. HoldsOfPeopleTexts (U.meter passwd.old) (G.meter group.old) (IsStatedOrOutsideListFault words.now root.now known fault))) }
     ensures front { result ≡ Err ToolFault.Write → IfSome (F.shelf files.old).files (λ known. HoldsOfPeopleTexts (U.meter passwd.old) (G.meter group.old) (λ u g.
         (text : List ℕ) × ((status : ℕ) × IsListOutcome words.now root.now known u g (Ok (text, status))) × AppendsPrefixOfBytes (W.contents writer.old) (W.contents writer.new) text)) }
 {

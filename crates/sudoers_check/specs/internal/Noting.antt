@@ -15,31 +15,31 @@ use Rattle.sudoers_check.specs.declared.report.Note.{Note}
 use Rattle.sudoers_check.specs.Mentioned.{Mention, mentions_in_node, is_mention_of_name}
 use Rattle.sudoers_check.specs.Numbers.{definition_count_in_node}
 use Rattle.sudoers_check.specs.Report.{note_in_line_text, new_undefined_mentions}
-use Rattle.sudoers_check.specs.internal.Seen.{has_key_of_name}
+use Rattle.sudoers_check.specs.internal.Seen.{is_name_key_among_keys}
 
 -- notes of those of a line's definitions that have this mark
-abbrev pub notes_of_marked_definitions : Bool → WalkLineSpot → List ℕ → Kind → List Bool → List Def → List Note
-notes_of_marked_definitions wanted at text k [] ds = []
-notes_of_marked_definitions wanted at text k (m ∷ ms) [] = []
-notes_of_marked_definitions true at text k (true ∷ ms) (d ∷ ds) = note_in_line_text at text k d.name d.start ∷ notes_of_marked_definitions true at text k ms ds
-notes_of_marked_definitions true at text k (false ∷ ms) (d ∷ ds) = notes_of_marked_definitions true at text k ms ds
-notes_of_marked_definitions false at text k (true ∷ ms) (d ∷ ds) = notes_of_marked_definitions false at text k ms ds
-notes_of_marked_definitions false at text k (false ∷ ms) (d ∷ ds) = note_in_line_text at text k d.name d.start ∷ notes_of_marked_definitions false at text k ms ds
+abbrev pub notes_of_definitions_in_line_with_mark : Bool → WalkLineSpot → List ℕ → Kind → List Bool → List Def → List Note
+notes_of_definitions_in_line_with_mark wanted at text k [] ds = []
+notes_of_definitions_in_line_with_mark wanted at text k (m ∷ ms) [] = []
+notes_of_definitions_in_line_with_mark true at text k (true ∷ ms) (d ∷ ds) = note_in_line_text at text k d.name d.start ∷ notes_of_definitions_in_line_with_mark true at text k ms ds
+notes_of_definitions_in_line_with_mark true at text k (false ∷ ms) (d ∷ ds) = notes_of_definitions_in_line_with_mark true at text k ms ds
+notes_of_definitions_in_line_with_mark false at text k (true ∷ ms) (d ∷ ds) = notes_of_definitions_in_line_with_mark false at text k ms ds
+notes_of_definitions_in_line_with_mark false at text k (false ∷ ms) (d ∷ ds) = note_in_line_text at text k d.name d.start ∷ notes_of_definitions_in_line_with_mark false at text k ms ds
 
-abbrev pub notes_of_marked_in_node : Bool → WalkLineSpot → List ℕ → List Bool → Node → List Note
-notes_of_marked_in_node wanted at text marks (node.Alias k defs) = notes_of_marked_definitions wanted at text k marks defs
-notes_of_marked_in_node wanted at text marks node.Blank = []
-notes_of_marked_in_node wanted at text marks node.Comment = []
-notes_of_marked_in_node wanted at text marks (node.Include dir path) = []
-notes_of_marked_in_node wanted at text marks (node.Defaults scope params) = []
-notes_of_marked_in_node wanted at text marks (node.Spec users groups) = []
+abbrev pub notes_of_definitions_in_line_node_with_mark : Bool → WalkLineSpot → List ℕ → List Bool → Node → List Note
+notes_of_definitions_in_line_node_with_mark wanted at text marks (node.Alias k defs) = notes_of_definitions_in_line_with_mark wanted at text k marks defs
+notes_of_definitions_in_line_node_with_mark wanted at text marks node.Blank = []
+notes_of_definitions_in_line_node_with_mark wanted at text marks node.Comment = []
+notes_of_definitions_in_line_node_with_mark wanted at text marks (node.Include dir path) = []
+notes_of_definitions_in_line_node_with_mark wanted at text marks (node.Defaults scope params) = []
+notes_of_definitions_in_line_node_with_mark wanted at text marks (node.Spec users groups) = []
 
 -- of lines of a walk that are numbered from this number on
-abbrev pub notes_of_marked_in_lines : Bool → WalkState → ℕ → List Bool → List Line → List Note
-notes_of_marked_in_lines wanted walk n marks [] = []
-notes_of_marked_in_lines wanted walk n marks (line ∷ lines) =
-    notes_of_marked_in_node wanted (spot_of_walk_line walk n) line.text (take (definition_count_in_node line.node) marks) line.node
-    ++ notes_of_marked_in_lines wanted walk (n + 1) (drop (definition_count_in_node line.node) marks) lines
+abbrev pub notes_of_definitions_in_lines_with_mark : Bool → WalkState → ℕ → List Bool → List Line → List Note
+notes_of_definitions_in_lines_with_mark wanted walk n marks [] = []
+notes_of_definitions_in_lines_with_mark wanted walk n marks (line ∷ lines) =
+    notes_of_definitions_in_line_node_with_mark wanted (spot_of_walk_line walk n) line.text (take (definition_count_in_node line.node) marks) line.node
+    ++ notes_of_definitions_in_lines_with_mark wanted walk (n + 1) (drop (definition_count_in_node line.node) marks) lines
 
 -- notes of mentions in a line
 abbrev pub notes_of_mentions : WalkLineSpot → List ℕ → List Mention → List Note
@@ -53,14 +53,14 @@ undefined_notes_in_lines ds walk before n (line ∷ lines) =
     ++ undefined_notes_in_lines ds walk (before ++ mentions_in_node n line.node) (n + 1) lines
 
 -- The keys are those of the undefined names among these mentions.
-abbrev pub SeenKeysMatchMentions : List PlacedDefinition → List (List ℕ) → List Mention → Type 0
-SeenKeysMatchMentions ds keys before = (k : Kind) (name : List ℕ) → first_definition_of k name ds ≡ None → has_key_of_name keys k name ≡ list_any (is_mention_of_name k name) before
+abbrev pub AreKeysOfUndefinedMentions : List PlacedDefinition → List (List ℕ) → List Mention → Type 0
+AreKeysOfUndefinedMentions ds keys before = (k : Kind) (name : List ℕ) → first_definition_of k name ds ≡ None → is_name_key_among_keys keys k name ≡ list_any (is_mention_of_name k name) before
 
 -- the places of a line's definitions from this one on that have no mark
-abbrev pub unmarked_places_from : ℕ → Kind → ℕ → List Bool → List (Kind × Place)
-unmarked_places_from line k n [] = []
-unmarked_places_from line k n (true ∷ ms) = unmarked_places_from line k (n + 1) ms
-unmarked_places_from line k n (false ∷ ms) = (k, record { line = line; def = n }) ∷ unmarked_places_from line k (n + 1) ms
+abbrev pub unmarked_places_in_line_counted_from : ℕ → Kind → ℕ → List Bool → List (Kind × Place)
+unmarked_places_in_line_counted_from line k n [] = []
+unmarked_places_in_line_counted_from line k n (true ∷ ms) = unmarked_places_in_line_counted_from line k (n + 1) ms
+unmarked_places_in_line_counted_from line k n (false ∷ ms) = (k, record { line = line; def = n }) ∷ unmarked_places_in_line_counted_from line k (n + 1) ms
 
 -- of which kind a line defines aliases, if it does
 abbrev pub alias_kind_in_node : Node → Option Kind
@@ -71,19 +71,19 @@ alias_kind_in_node (node.Include dir path) = None
 alias_kind_in_node (node.Defaults scope params) = None
 alias_kind_in_node (node.Spec users groups) = None
 
-abbrev pub unmarked_places_in_node : ℕ → List Bool → Node → List (Kind × Place)
-unmarked_places_in_node line marks (node.Alias k defs) = unmarked_places_from line k 0 marks
-unmarked_places_in_node line marks node.Blank = []
-unmarked_places_in_node line marks node.Comment = []
-unmarked_places_in_node line marks (node.Include dir path) = []
-unmarked_places_in_node line marks (node.Defaults scope params) = []
-unmarked_places_in_node line marks (node.Spec users groups) = []
+abbrev pub unmarked_places_in_line_node : ℕ → List Bool → Node → List (Kind × Place)
+unmarked_places_in_line_node line marks (node.Alias k defs) = unmarked_places_in_line_counted_from line k 0 marks
+unmarked_places_in_line_node line marks node.Blank = []
+unmarked_places_in_line_node line marks node.Comment = []
+unmarked_places_in_line_node line marks (node.Include dir path) = []
+unmarked_places_in_line_node line marks (node.Defaults scope params) = []
+unmarked_places_in_line_node line marks (node.Spec users groups) = []
 
 -- of lines that are numbered from this number on
 abbrev pub unmarked_places_in_lines : ℕ → List Bool → List Line → List (Kind × Place)
 unmarked_places_in_lines n marks [] = []
 unmarked_places_in_lines n marks (line ∷ lines) =
-    unmarked_places_in_node n (take (definition_count_in_node line.node) marks) line.node ++ unmarked_places_in_lines (n + 1) (drop (definition_count_in_node line.node) marks) lines
+    unmarked_places_in_line_node n (take (definition_count_in_node line.node) marks) line.node ++ unmarked_places_in_lines (n + 1) (drop (definition_count_in_node line.node) marks) lines
 
 -- the kind of a definition, and its place in its file
 abbrev pub kind_and_file_place : WalkState → Kind × Place → Kind × DefinitionFilePlace

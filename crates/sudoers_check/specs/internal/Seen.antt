@@ -12,5 +12,5 @@ key_of_kind_and_name Host name = 104 ∷ name
 key_of_kind_and_name Cmnd name = 99 ∷ name
 
 -- the name is among those of these keys
-abbrev pub has_key_of_name : List (List ℕ) → Kind → List ℕ → Bool
-has_key_of_name keys k name = list_any (bytes_eq (key_of_kind_and_name k name)) keys
+abbrev pub is_name_key_among_keys : List (List ℕ) → Kind → List ℕ → Bool
+is_name_key_among_keys keys k name = list_any (bytes_eq (key_of_kind_and_name k name)) keys

@@ -20,25 +20,25 @@ use Rattle.sudoers_match.specs.declared.options.CommandOptions.{CommandOptions}
 use Rattle.sudoers_match.specs.declared.tags.CommandTags.{CommandTags}
 use Rattle.sudoers_match.specs.Values.{option_value_of_view}
 use Rattle.sudoers_cvt_spell.specs.Members.{printed_member}
-use Rattle.sudoers_cvt_spell.specs.Commands.{printed_option, printed_tag_or_negated}
+use Rattle.sudoers_cvt_spell.specs.Commands.{printed_option, tag_keyword_or_negated}
 use Rattle.sudoers_cvt_rules.specs.declared.fault.CvtFault.{CvtFault}
 use Rattle.sudoers_cvt_rules.specs.declared.fault.CvtFault.TheVariants.{NotUtf8, NoMemory}
 use Rattle.sudoers_cvt_rules.specs.declared.rule.Rule.{Rule}
 use Rattle.sudoers_cvt_rules.specs.declared.rule.Rule.TheVariants.{Defaults, Def, Spec}
 use Rattle.sudoers_cvt_rules.specs.Effective.{effective_host_group}
 use Rattle.sudoers_cvt_json.specs.Value.{string_array_value, runas_object_or_null, spec_object_value, alias_object_value, defaults_object_value}
-use Rattle.sudoers_cvt_json.specs.Unicode.{items_are_unicode}
+use Rattle.sudoers_cvt_json.specs.Unicode.{are_texts_of_items_unicode}
 
 -- The fault is want of memory, or that some text is not UTF-8.
 abbrev pub IsJsonFault : Bool → CvtFault → Type 0
 IsJsonFault unicode fault = (fault ≡ NoMemory) ⊎ ((fault ≡ NotUtf8) × (unicode ≡ false))
 
 -- items with the bracket behind them; later: others stand before
-abbrev pub array_items_text : Bool → List Data → List ℕ
-array_items_text later ds = items_text later (items_of ds)
+abbrev pub text_of_array_items_and_end : Bool → List Data → List ℕ
+text_of_array_items_and_end later ds = items_text later (items_of ds)
 
 abbrev pub are_values_unicode : List Data → Bool
-are_values_unicode ds = items_are_unicode (items_of ds)
+are_values_unicode ds = are_texts_of_items_unicode (items_of ds)
 
 abbrev pub bytes_of_vectors : List (Vec ℕ Global) → List (List ℕ)
 bytes_of_vectors texts = map (λ (text : Vec ℕ Global). text.items) texts
@@ -57,16 +57,16 @@ printed_option_text_if_given p = option_map (printed_option p.0) (option_value_o
 abbrev pub printed_option_texts : CommandOptions → List (List ℕ)
 printed_option_texts o = filter_map printed_option_text_if_given (option_pairs_in_order o)
 
-abbrev pub tag_pairs_in_order : CommandTags → List (Tag × Option Bool)
-tag_pairs_in_order t =
+abbrev pub tags_with_optional_settings_in_order : CommandTags → List (Tag × Option Bool)
+tags_with_optional_settings_in_order t =
     (tag.Exec, t.exec) ∷ (tag.Follow, t.follow) ∷ (tag.Intercept, t.intercept) ∷ (tag.LogInput, t.log_input) ∷ (tag.LogOutput, t.log_output)
     ∷ (tag.Mail, t.mail) ∷ (tag.Passwd, t.passwd) ∷ (tag.Setenv, t.setenv) ∷ []
 
 abbrev pub printed_tag_text_if_given : Tag × Option Bool → Option (List ℕ)
-printed_tag_text_if_given p = option_map (printed_tag_or_negated p.0) p.1
+printed_tag_text_if_given p = option_map (tag_keyword_or_negated p.0) p.1
 
 abbrev pub printed_tag_texts : CommandTags → List (List ℕ)
-printed_tag_texts t = filter_map printed_tag_text_if_given (tag_pairs_in_order t)
+printed_tag_texts t = filter_map printed_tag_text_if_given (tags_with_optional_settings_in_order t)
 
 -- a command, of which the code holds this
 abbrev pub command_value_of_view : HeadHeld → MemberView → Data

@@ -12,7 +12,7 @@ use Rattle.sudoers_match_list.specs.declared.alias_verdicts.AliasVerdictCache.{A
 use Rattle.sudoers_match_list.specs.Search.{IsValidVerdictCache}
 use Rattle.sudoers_cvt_rewrite.specs.declared.filter.Filter.{Filter}
 use Rattle.sudoers_cvt_rewrite.specs.declared.matching.FilterMatcher.{FilterMatcher}
-use Rattle.sudoers_cvt_rewrite.specs.Filter.{is_atom_of_named_user, is_atom_of_group_user, is_atom_of_named_host, is_allowing_hit, last_hit_in_expanded_list}
+use Rattle.sudoers_cvt_rewrite.specs.Filter.{is_atom_matching_user_name, is_atom_matching_group_name, is_atom_matching_host_name, is_allowing_hit, last_hit_in_expanded_list}
 
 -- There are verdicts for each value, at its place.
 pub record AreValidVerdictCaches {X : Type 0} (k : Kind) (lines : List Line) (test : X → Atom → Bool) (values : List X) (verdicts : List AliasVerdictCache) : Type 0 where
@@ -25,22 +25,22 @@ abbrev pub IsFreshVerdictCache : List Line → AliasVerdictCache → Type 0
 IsFreshVerdictCache lines verdicts = (k : Kind) (test : Atom → Bool) → IsValidVerdictCache k lines test verdicts
 
 -- what the last matching member says is wanted: that it allows, or that there is one
-abbrev pub is_hit_wanted : Bool → Option MemberHit → Bool
-is_hit_wanted true hit = is_allowing_hit hit
-is_hit_wanted false hit = is_some hit
+abbrev pub is_hit_any_or_allowing : Bool → Option MemberHit → Bool
+is_hit_any_or_allowing true hit = is_allowing_hit hit
+is_hit_any_or_allowing false hit = is_some hit
 
 -- Of one of the values the list says what is wanted.
-abbrev pub is_any_value_hit_wanted : {X : Type 0} → Bool → List Line → Kind → (X → Atom → Bool) → List X → List Member → Bool
-is_any_value_hit_wanted allowing lines k test values ms = list_any (λ value. is_hit_wanted allowing (last_hit_in_expanded_list lines k (test value) ms)) values
+abbrev pub is_any_value_matched_or_allowed : {X : Type 0} → Bool → List Line → Kind → (X → Atom → Bool) → List X → List Member → Bool
+is_any_value_matched_or_allowed allowing lines k test values ms = list_any (λ value. is_hit_any_or_allowing allowing (last_hit_in_expanded_list lines k (test value) ms)) values
 
-abbrev pub is_user_list_hit_wanted : Bool → List Line → Filter → List Member → Bool
-is_user_list_hit_wanted allowing lines f ms = is_any_value_hit_wanted allowing lines User is_atom_of_named_user f.users ms || is_any_value_hit_wanted allowing lines User is_atom_of_group_user f.groups ms
+abbrev pub is_filter_user_matched_or_allowed : Bool → List Line → Filter → List Member → Bool
+is_filter_user_matched_or_allowed allowing lines f ms = is_any_value_matched_or_allowed allowing lines User is_atom_matching_user_name f.users ms || is_any_value_matched_or_allowed allowing lines User is_atom_matching_group_name f.groups ms
 
-abbrev pub is_host_list_hit_wanted : Bool → List Line → Filter → List Member → Bool
-is_host_list_hit_wanted allowing lines f ms = is_any_value_hit_wanted allowing lines Host is_atom_of_named_host f.hosts ms
+abbrev pub is_filter_host_matched_or_allowed : Bool → List Line → Filter → List Member → Bool
+is_filter_host_matched_or_allowed allowing lines f ms = is_any_value_matched_or_allowed allowing lines Host is_atom_matching_host_name f.hosts ms
 
 -- It serves for lists of these lines and the values of the filter.
 pub record IsValidFilterMatcher (lines : List Line) (f : Filter) (m : FilterMatcher) : Type 0 where
-  pub users : AreValidVerdictCaches User lines is_atom_of_named_user f.users m.users.items
-  pub groups : AreValidVerdictCaches User lines is_atom_of_group_user f.groups m.groups.items
-  pub hosts : AreValidVerdictCaches Host lines is_atom_of_named_host f.hosts m.hosts.items
+  pub users : AreValidVerdictCaches User lines is_atom_matching_user_name f.users m.users.items
+  pub groups : AreValidVerdictCaches User lines is_atom_matching_group_name f.groups m.groups.items
+  pub hosts : AreValidVerdictCaches Host lines is_atom_matching_host_name f.hosts m.hosts.items

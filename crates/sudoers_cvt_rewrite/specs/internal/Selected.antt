@@ -6,7 +6,7 @@ use Rattle.sudoers_grammar.specs.Node.{HostGroup, Node}
 use Rattle.sudoers_grammar.specs.Node as node
 use Rattle.sudoers_line_rows.specs.declared.rows.NodeRow.{NodeRow}
 use Rattle.sudoers_line_rows.specs.declared.rows.Tables.{Tables}
-use Rattle.sudoers_line_rows.specs.Tables.{commands_in_tables, member_in_tables, node_in_tables}
+use Rattle.sudoers_line_rows.specs.Tables.{commands_of_range_in_tables, member_in_tables, node_in_tables}
 use Rattle.sudoers_tree.specs.Line.{Line}
 use Rattle.sudoers_match.specs.internal.Straight.{HostGroupsLeadToNoCycle, LeadsToNoCyclicAlias, ScopeLeadsToNoCycle}
 use Rattle.sudoers_cvt_rewrite.specs.declared.selecting.FilteredLine.{FilteredLine}
@@ -16,7 +16,7 @@ use Rattle.sudoers_cvt_rewrite.specs.internal.Written.{host_group_of_lists}
 
 -- the host group that is left
 abbrev pub host_group_of_filtered : Tables → FilteredHostGroup → HostGroup
-host_group_of_filtered t s = host_group_of_lists (map (member_in_tables t) s.hosts.items) (commands_in_tables t s.commands)
+host_group_of_filtered t s = host_group_of_lists (map (member_in_tables t) s.hosts.items) (commands_of_range_in_tables t s.commands)
 
 abbrev pub optional_host_group_of_filtered : Tables → Option FilteredHostGroup → Option HostGroup
 optional_host_group_of_filtered t o = option_map (host_group_of_filtered t) o

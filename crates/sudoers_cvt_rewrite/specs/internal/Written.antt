@@ -15,7 +15,7 @@ use Rattle.sudoers_tree.specs.Line.{Line}
 use Rattle.sudoers_match_list.specs.Flattened.{expanded_member_limit, fully_expanded_list}
 use Rattle.sudoers_cvt_rules.specs.declared.fault.CvtFault.{CvtFault}
 use Rattle.sudoers_cvt_rules.specs.declared.fault.CvtFault.TheVariants.{TooLarge, NoMemory}
-use Rattle.sudoers_cvt_rewrite.specs.Expand.{command_with_member}
+use Rattle.sudoers_cvt_rewrite.specs.Expand.{command_with_runas_and_member}
 use Rattle.sudoers_cvt_rewrite.specs.internal.Extended.{IsTableExtension}
 
 -- ---- lines whose aliases are replaced if `expand`
@@ -27,11 +27,11 @@ list_expanded_if false k lines ms = ms
 abbrev pub runas_spec_expanded_if : Bool → List Line → RunasSpec → RunasSpec
 runas_spec_expanded_if expand lines r = record { users = list_expanded_if expand Runas lines r.users; groups = list_expanded_if expand Runas lines r.groups }
 
-abbrev pub command_expanded_if : Bool → List Line → CmdSpec → List CmdSpec
-command_expanded_if expand lines c = map (command_with_member (option_map (runas_spec_expanded_if expand lines) c.runas) c) (list_expanded_if expand Cmnd lines (c.member ∷ []))
+abbrev pub commands_of_command_expanded_if : Bool → List Line → CmdSpec → List CmdSpec
+commands_of_command_expanded_if expand lines c = map (command_with_runas_and_member (option_map (runas_spec_expanded_if expand lines) c.runas) c) (list_expanded_if expand Cmnd lines (c.member ∷ []))
 
 abbrev pub host_group_expanded_if : Bool → List Line → HostGroup → HostGroup
-host_group_expanded_if expand lines g = record { hosts = list_expanded_if expand Host lines g.hosts; commands = flat_map (command_expanded_if expand lines) g.commands }
+host_group_expanded_if expand lines g = record { hosts = list_expanded_if expand Host lines g.hosts; commands = flat_map (commands_of_command_expanded_if expand lines) g.commands }
 
 abbrev pub scope_list_expanded_if : Bool → List Line → Kind → List Member → List Member
 scope_list_expanded_if expand lines User ms = list_expanded_if expand User lines ms
@@ -51,14 +51,14 @@ line_node_expanded_if expand lines node.Comment = node.Comment
 line_node_expanded_if expand lines (node.Include dir path) = node.Include dir path
 
 -- lines that say another thing each, and have no text
-abbrev pub lines_with_nodes_mapped : (Node → Node) → List Line → List Line
-lines_with_nodes_mapped written lines = map (λ (line : Line). record { text = []; node = written line.node }) lines
+abbrev pub textless_lines_with_nodes_mapped : (Node → Node) → List Line → List Line
+textless_lines_with_nodes_mapped written lines = map (λ (line : Line). record { text = []; node = written line.node }) lines
 
 -- ---- what a writer answers
 
 -- Memory ran out; or aliases are replaced, and there are too many members then.
-abbrev pub IsRewriteRefusal : Bool → ℕ → CvtFault → Type 0
-IsRewriteRefusal expand count fault = (fault ≡ NoMemory) ⊎ ((fault ≡ TooLarge) × (expand ≡ true) × (expanded_member_limit < count))
+abbrev pub IsTooManyMembersOrNoMemoryFault : Bool → ℕ → CvtFault → Type 0
+IsTooManyMembersOrNoMemoryFault expand count fault = (fault ≡ NoMemory) ⊎ ((fault ≡ TooLarge) × (expand ≡ true) × (expanded_member_limit < count))
 
 -- The rows say this for good.
 abbrev pub RowsKeepMeaning : {R X : Type 0} → (Tables → R → X) → Tables → List R → List X → Type 0
@@ -73,4 +73,4 @@ host_group_of_lists hosts commands = record { hosts = hosts; commands = commands
 
 -- the command that the row holds, once for each of the members
 abbrev pub commands_for_each_member : Tables → CommandRow → List MemberRow → List CmdSpec
-commands_for_each_member t row ms = map (command_with_member (optional_runas_in_tables t row.runas) (command_in_tables t row)) (map (member_in_tables t) ms)
+commands_for_each_member t row ms = map (command_with_runas_and_member (optional_runas_in_tables t row.runas) (command_in_tables t row)) (map (member_in_tables t) ms)

@@ -9,26 +9,26 @@ use Rattle.sudoers_cvt_rules.specs.declared.fault.CvtFault.{CvtFault}
 use Rattle.sudoers_cvt_rules.specs.declared.fault.CvtFault.TheVariants.{Cycle, TooLarge, NotUtf8, NoMemory}
 
 -- The fault is want of memory, or with its line end the text is too long.
-abbrev pub IsTooLongWithLineEnd : List ℕ → CvtFault → Type 0
-IsTooLongWithLineEnd text NoMemory = Unit {0}
-IsTooLongWithLineEnd text TooLarge = line_limit ≤ length text
-IsTooLongWithLineEnd text Cycle = ⊥
-IsTooLongWithLineEnd text NotUtf8 = ⊥
+abbrev pub IsFaultOfMakingUnendedLine : List ℕ → CvtFault → Type 0
+IsFaultOfMakingUnendedLine text NoMemory = Unit {0}
+IsFaultOfMakingUnendedLine text TooLarge = line_limit ≤ length text
+IsFaultOfMakingUnendedLine text Cycle = ⊥
+IsFaultOfMakingUnendedLine text NotUtf8 = ⊥
 
 -- The fault is want of memory, or the line is too long.
-abbrev pub IsTooLongLineFault : List ℕ → CvtFault → Type 0
-IsTooLongLineFault line NoMemory = Unit {0}
-IsTooLongLineFault line TooLarge = line_limit < length line
-IsTooLongLineFault line Cycle = ⊥
-IsTooLongLineFault line NotUtf8 = ⊥
+abbrev pub IsFaultOfMakingLine : List ℕ → CvtFault → Type 0
+IsFaultOfMakingLine line NoMemory = Unit {0}
+IsFaultOfMakingLine line TooLarge = line_limit < length line
+IsFaultOfMakingLine line Cycle = ⊥
+IsFaultOfMakingLine line NotUtf8 = ⊥
 
 -- The fault is want of memory; or the lines behind the text pass its limit, or one of them that of a line.
-abbrev pub IsTextOrLineLimitFault : List ℕ → List Node → CvtFault → Type 0
-IsTextOrLineLimitFault text lines NoMemory = Unit {0}
-IsTextOrLineLimitFault text lines TooLarge =
+abbrev pub IsFaultOfAppendingLines : List ℕ → List Node → CvtFault → Type 0
+IsFaultOfAppendingLines text lines NoMemory = Unit {0}
+IsFaultOfAppendingLines text lines TooLarge =
     (text_limit < length (text ++ printed_lines lines)) ⊎ (AllByRecursion (λ n. length (printed_line n) ≤ line_limit) lines → ⊥)
-IsTextOrLineLimitFault text lines Cycle = ⊥
-IsTextOrLineLimitFault text lines NotUtf8 = ⊥
+IsFaultOfAppendingLines text lines Cycle = ⊥
+IsFaultOfAppendingLines text lines NotUtf8 = ⊥
 
 -- What is printed of rules, and each of its lines, is within the limit of a policy.
 pub record PrintedRulesFitLimits (r : Rules) : Type 0 where

@@ -7,7 +7,7 @@ use Rattle.sudoers_grammar.specs.Node.{Def}
 use Rattle.sudoers_grammar.specs.Node as node
 use Rattle.sudoers_grammar.specs.declared.node.Kind.{Kind}
 use Rattle.sudoers_tree.specs.Changed.{AreChangesInOrder, texts_of_changes, lines_after_changes, file_number_of_change, lines_with_one_replaced}
-use Rattle.sudoers_tree.specs.ChangedFiles.{AreChangesInFileOrder, changes_of_file}
+use Rattle.sudoers_tree.specs.ChangedFiles.{AreFileNumbersOfChangesInOrder, changes_of_file}
 use Rattle.sudoers_tree.specs.declared.line_change.LineChange.{LineChange}
 use Rattle.sudoers_tree.specs.declared.line_change.LineChange.TheVariants.{Put, Swap, Take}
 use Rattle.sudoers_tree.specs.Files.{lines_of_numbered_file}
@@ -21,13 +21,13 @@ use Rattle.sudoers_edit_script.specs.declared.edit.Edit.TheVariants.{AddDef, Del
 use Rattle.sudoers_edit.specs.declared.extra_item.ItemListKind.TheVariants as among
 use Rattle.sudoers_edit.specs.Splice.{extents_of_definitions, owned_bytes_stop, owned_bytes_start, bytes_between}
 use Rattle.sudoers_edit.specs.declared.fault.EditFault.{EditFault}
-use Rattle.sudoers_edit.specs.declared.pruning.PruneRemoval.{PruneRemoval}
-use Rattle.sudoers_edit.specs.declared.pruning.PruneRemoval.TheVariants as removal
+use Rattle.sudoers_edit.specs.declared.prune_removals.PruneRemoval.{PruneRemoval}
+use Rattle.sudoers_edit.specs.declared.prune_removals.PruneRemoval.TheVariants as removal
 use Rattle.sudoers_edit.specs.Editing.{IsRefusalOrNoMemory, line_text_in_file, edits_undoing_removals, policy_after_removals, run, step}
 use Rattle.sudoers_edit.specs.Pruning.{edit_of_removal}
-use Rattle.sudoers_edit.specs.SpliceEdits.{lines_with_definition_dropped, lines_with_one_changed}
+use Rattle.sudoers_edit.specs.SpliceEdits.{lines_with_definition_dropped, replaced_lines_unless_too_long}
 use Rattle.sudoers_edit.specs.internal.Made.{IsEditMade}
-use Rattle.sudoers_edit.specs.internal.OneMore.{HasItemCutOut}
+use Rattle.sudoers_edit.specs.internal.OneMore.{IsLineTextWithItemCutOut}
 
 -- The new policy is the old one with these lines of the file f.
 pub record DiffersOnlyInFileLines (f : ℕ) (lines : List (List ℕ)) (old new : LoadedPolicy) : Type 0 where
@@ -54,9 +54,9 @@ pub record IsDefinitionCut (n at : ℕ) (lines : List Line) (line : Line) (text 
   pub to : ℕ
   pub begins : owned_bytes_start at (extents_of_definitions defs) ≡ Some from
   pub stops : owned_bytes_stop at (extents_of_definitions defs) ≡ Some to
-  pub cut : HasItemCutOut among.Definitions at from to line text
+  pub cut : IsLineTextWithItemCutOut among.Definitions at from to line text
   pub owned : splice ≡ bytes_between from to line.text
-  pub forth : lines_with_definition_dropped n at lines ≡ lines_with_one_changed n text (texts_of_lines lines)
+  pub forth : lines_with_definition_dropped n at lines ≡ replaced_lines_unless_too_long n text (texts_of_lines lines)
 
 -- what comes of cutting a definition out: the text and the splice, or the refusal
 abbrev pub IsDefinitionCutOutcome : ℕ → ℕ → List Line → Line → Result (List ℕ × List ℕ) EditFault → Type 0
@@ -91,60 +91,60 @@ pub record IsResultOfChanges (policy : LoadedPolicy) (changes : List LineChange)
   pub whole : AllByRecursion IsLogicalLine (texts_of_changes changes)
 
 -- The first change replaces this line of this file.
-abbrev pub ReplacesLineFirst : ℕ → ℕ → List LineChange → Type 0
-ReplacesLineFirst f n [] = ⊥
-ReplacesLineFirst f n (Put file at text ∷ changes) = ⊥
-ReplacesLineFirst f n (Swap file at text ∷ changes) = (file ≡ f) × (at ≡ n)
-ReplacesLineFirst f n (Take file at ∷ changes) = ⊥
+abbrev pub BeginsWithReplacementOfLine : ℕ → ℕ → List LineChange → Type 0
+BeginsWithReplacementOfLine f n [] = ⊥
+BeginsWithReplacementOfLine f n (Put file at text ∷ changes) = ⊥
+BeginsWithReplacementOfLine f n (Swap file at text ∷ changes) = (file ≡ f) × (at ≡ n)
+BeginsWithReplacementOfLine f n (Take file at ∷ changes) = ⊥
 
 -- the text that replaces this line, if the first change does that
-abbrev pub replacement_text_of_line : ℕ → ℕ → List LineChange → Option (List ℕ)
-replacement_text_of_line f n [] = None
-replacement_text_of_line f n (Put file at text ∷ changes) = None
-replacement_text_of_line f n (Swap file at text ∷ changes) = if (file == f) && (at == n) then Some text else None
-replacement_text_of_line f n (Take file at ∷ changes) = None
+abbrev pub replacement_text_by_first_change : ℕ → ℕ → List LineChange → Option (List ℕ)
+replacement_text_by_first_change f n [] = None
+replacement_text_by_first_change f n (Put file at text ∷ changes) = None
+replacement_text_by_first_change f n (Swap file at text ∷ changes) = if (file == f) && (at == n) then Some text else None
+replacement_text_by_first_change f n (Take file at ∷ changes) = None
 
 -- the changes without the first, if that replaces this line
-abbrev pub changes_without_replacement : ℕ → ℕ → List LineChange → List LineChange
-changes_without_replacement f n [] = []
-changes_without_replacement f n (Put file at text ∷ changes) = Put file at text ∷ changes
-changes_without_replacement f n (Swap file at text ∷ changes) = if (file == f) && (at == n) then changes else Swap file at text ∷ changes
-changes_without_replacement f n (Take file at ∷ changes) = Take file at ∷ changes
+abbrev pub changes_without_first_if_it_replaces_line : ℕ → ℕ → List LineChange → List LineChange
+changes_without_first_if_it_replaces_line f n [] = []
+changes_without_first_if_it_replaces_line f n (Put file at text ∷ changes) = Put file at text ∷ changes
+changes_without_first_if_it_replaces_line f n (Swap file at text ∷ changes) = if (file == f) && (at == n) then changes else Swap file at text ∷ changes
+changes_without_first_if_it_replaces_line f n (Take file at ∷ changes) = Take file at ∷ changes
 
 -- No line below these numbers, one for each file, is changed. The first change replaces the line that is cut.
-pub record IsReadyForRemoval (policy : LoadedPolicy) (below : ℕ → ℕ) (cut : ℕ → ℕ → Bool) (changes : List LineChange) : Type 0 where
+pub record LeavesLinesBelowLimitsUnchanged (policy : LoadedPolicy) (below : ℕ → ℕ) (cut : ℕ → ℕ → Bool) (changes : List LineChange) : Type 0 where
   pub order : (f : ℕ) → AreChangesInOrder (below f) (changes_of_file f changes) (length (lines_of_numbered_file policy.files f))
-  pub last : (f n : ℕ) → cut f n ≡ true → ReplacesLineFirst f n changes
+  pub last : (f n : ℕ) → cut f n ≡ true → BeginsWithReplacementOfLine f n changes
 
 -- ---- one removal after another
 
 -- A line below its number may go; a definition of such a line, or of the line that is cut.
-abbrev pub IsAllowedRemoval : LoadedPolicy → PruneRemoval → (ℕ → ℕ) → (ℕ → ℕ → Bool) → Type 0
-IsAllowedRemoval policy (removal.Line f at) below cut = (at < below f) × IsAliasLineOnWalk policy f at
-IsAllowedRemoval policy (removal.Def f line at) below cut = ((line < below f) ⊎ (cut f line ≡ true)) × IsAliasLineOnWalk policy f line
+abbrev pub IsRemovalBelowLimitsOnAliasLine : LoadedPolicy → PruneRemoval → (ℕ → ℕ) → (ℕ → ℕ → Bool) → Type 0
+IsRemovalBelowLimitsOnAliasLine policy (removal.Line f at) below cut = (at < below f) × IsAliasLineOnWalk policy f at
+IsRemovalBelowLimitsOnAliasLine policy (removal.Def f line at) below cut = ((line < below f) ⊎ (cut f line ≡ true)) × IsAliasLineOnWalk policy f line
 
-abbrev pub limit_lowered_for_file : ℕ → ℕ → (ℕ → ℕ) → ℕ → ℕ
-limit_lowered_for_file f n below e = if e == f then n else below e
+abbrev pub limits_with_limit_of_file_set : ℕ → ℕ → (ℕ → ℕ) → ℕ → ℕ
+limits_with_limit_of_file_set f n below e = if e == f then n else below e
 
 -- below which lines may go after a removal, and which line is cut then
 abbrev pub removal_limits_after : PruneRemoval → (ℕ → ℕ) → ℕ → ℕ
-removal_limits_after (removal.Line f at) below = limit_lowered_for_file f at below
-removal_limits_after (removal.Def f line at) below = limit_lowered_for_file f line below
+removal_limits_after (removal.Line f at) below = limits_with_limit_of_file_set f at below
+removal_limits_after (removal.Def f line at) below = limits_with_limit_of_file_set f line below
 
 abbrev pub is_line_cut_by_removal : PruneRemoval → ℕ → ℕ → Bool
 is_line_cut_by_removal (removal.Line f at) e m = false
 is_line_cut_by_removal (removal.Def f line at) e m = (e == f) && (m == line)
 
 -- Each of them may go after those before it.
-abbrev pub AreAllowedRemovals : LoadedPolicy → (ℕ → ℕ) → (ℕ → ℕ → Bool) → List PruneRemoval → Type 0
-AreAllowedRemovals policy below cut [] = Unit {0}
-AreAllowedRemovals policy below cut (one ∷ more) = IsAllowedRemoval policy one below cut × AreAllowedRemovals policy (removal_limits_after one below) (is_line_cut_by_removal one) more
+abbrev pub AreRemovalsBelowLimitsInTurn : LoadedPolicy → (ℕ → ℕ) → (ℕ → ℕ → Bool) → List PruneRemoval → Type 0
+AreRemovalsBelowLimitsInTurn policy below cut [] = Unit {0}
+AreRemovalsBelowLimitsInTurn policy below cut (one ∷ more) = IsRemovalBelowLimitsOnAliasLine policy one below cut × AreRemovalsBelowLimitsInTurn policy (removal_limits_after one below) (is_line_cut_by_removal one) more
 
 -- The removal is made: the changes now lead to the policy to which its edit leads, and one edit leads back.
 pub record IsRemovalMade (policy : LoadedPolicy) (one : PruneRemoval) (below : ℕ → ℕ) (now : LoadedPolicy) (changes : List LineChange) (back : Edit) : Type 0 where
   pub next : LoadedPolicy
   pub draft : IsResultOfChanges policy changes next
-  pub ready : IsReadyForRemoval policy (removal_limits_after one below) (is_line_cut_by_removal one) changes
+  pub ready : LeavesLinesBelowLimitsUnchanged policy (removal_limits_after one below) (is_line_cut_by_removal one) changes
   pub made : IsEditMade (edit_of_removal one) (back ∷ []) now next
 
 -- what comes of a removal: the edit that takes it back, or its refusal
@@ -159,8 +159,8 @@ pub record IsPartialPrune (policy : LoadedPolicy) (left all : List PruneRemoval)
   pub below : ℕ → ℕ
   pub cut : ℕ → ℕ → Bool
   pub draft : IsResultOfChanges policy changes now
-  pub ready : IsReadyForRemoval policy below cut changes
-  pub falls : AreAllowedRemovals policy below cut left
+  pub ready : LeavesLinesBelowLimitsUnchanged policy below cut changes
+  pub falls : AreRemovalsBelowLimitsInTurn policy below cut left
   pub forth : policy_after_removals left now ≡ policy_after_removals all policy
   pub back : edits_undoing_removals left now ++ inverse ≡ edits_undoing_removals all policy
   pub again : run inverse now ≡ Some policy
@@ -170,5 +170,5 @@ pub record IsPartialPrune (policy : LoadedPolicy) (left all : List PruneRemoval)
 -- These are the changes, file by file: those of each file are the same.
 pub record IsFileOrderOfChanges (changes sorted : List LineChange) : Type 0 where
   pub same : (f : ℕ) → changes_of_file f sorted ≡ changes_of_file f changes
-  pub goes : (count : ℕ) → AllByRecursion (λ (change : LineChange). file_number_of_change change < count) changes → AreChangesInFileOrder 0 sorted count
+  pub goes : (count : ℕ) → AllByRecursion (λ (change : LineChange). file_number_of_change change < count) changes → AreFileNumbersOfChangesInOrder 0 sorted count
   pub whole : AllByRecursion IsLogicalLine (texts_of_changes changes) → AllByRecursion IsLogicalLine (texts_of_changes sorted)

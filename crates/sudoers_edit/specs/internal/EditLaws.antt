@@ -16,7 +16,7 @@ use Rattle.sudoers_tree.specs.declared.named_files.NamedFile.{NamedFile}
 use Rattle.sudoers_edit.specs.internal.Splicing.{AreSoundParsedLines}
 
 -- The laws of loaded files, of their lines, and of files of which lines were changed.
-pub record LineEditLaws : Type 0 where
+pub record LawsBehindLineEdits : Type 0 where
   pub bytes : (files : List NamedFile) (policy : LoadedPolicy) → policy_or_load_fault files ≡ Ok policy → named_files_of_policy policy ≡ files
   pub cut : (files : List NamedFile) (policy : LoadedPolicy) → policy_or_load_fault files ≡ Ok policy → (f : ℕ)
       → cut_outcome_of_text (join (texts_of_lines (lines_of_numbered_file policy.files f))) ≡ Ok (texts_of_lines (lines_of_numbered_file policy.files f))
@@ -29,7 +29,7 @@ pub record LineEditLaws : Type 0 where
       → texts_of_lines (lines_of_numbered_file new.files f) ≡ lines_after_changes (changes_of_file f changes) (texts_of_lines (lines_of_numbered_file old.files f))
 
 -- The laws of loaded files, of what their lines say, and of the walk over them.
-pub record MemberEditLaws : Type 0 where
+pub record LawsBehindMemberEdits : Type 0 where
   pub bytes : (files : List NamedFile) (policy : LoadedPolicy) → policy_or_load_fault files ≡ Ok policy → named_files_of_policy policy ≡ files
   pub cut : (files : List NamedFile) (policy : LoadedPolicy) → policy_or_load_fault files ≡ Ok policy → (f : ℕ)
       → cut_outcome_of_text (join (texts_of_lines (lines_of_numbered_file policy.files f))) ≡ Ok (texts_of_lines (lines_of_numbered_file policy.files f))

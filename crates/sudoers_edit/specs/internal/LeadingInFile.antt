@@ -22,14 +22,14 @@ line_texts_of_file policy f = texts_of_lines (lines_of_numbered_file policy.file
 
 -- What the lines of a file of a policy are: each is the one line of itself, and one logical line; all but the last end in LF; together they
 -- are within the limit.
-pub record AreSoundFileLines (lines : List (List ℕ)) : Type 0 where
+pub record AreLogicalLinesOfFileWithinTextLimit (lines : List (List ℕ)) : Type 0 where
   pub each : EachIsOneLineWhenCut lines
   pub whole : AllByRecursion IsLogicalLine lines
   pub ended : has_inner_line_without_lf lines ≡ false
   pub fits : length (join lines) ≤ text_limit
 
 -- The changes are of the lines of this file. Their places ascend among these lines. Each text that they bring is one logical line.
-pub record AreChangesOfFile (f : ℕ) (changes : List LineChange) (lines : List (List ℕ)) : Type 0 where
+pub record AreApplicableChangesOfFile (f : ℕ) (changes : List LineChange) (lines : List (List ℕ)) : Type 0 where
   pub of_file : AllByRecursion (λ (change : LineChange). file_number_of_change change ≡ f) changes
   pub order : AreChangesInOrder 0 changes (length lines)
   pub whole : AllByRecursion IsLogicalLine (texts_of_changes changes)

@@ -8,7 +8,7 @@ use Rattle.sudoers_edit.specs.SpliceEdits.{has_one_item_more}
 use Rattle.sudoers_edit.specs.declared.extra_item.ItemListKind.{ItemListKind}
 
 -- The text is the line with a splice at a byte, and reads as it but for one more.
-pub record HasItemPutIn (among : ItemListKind) (at from : ℕ) (splice : List ℕ) (old : Line) (text : List ℕ) : Type 0 where
+pub record IsLineTextWithItemPutIn (among : ItemListKind) (at from : ℕ) (splice : List ℕ) (old : Line) (text : List ℕ) : Type 0 where
   pub inside : from ≤ length old.text
   pub text_is : text ≡ line_with_splice from splice old.text
   pub new : Node
@@ -16,7 +16,7 @@ pub record HasItemPutIn (among : ItemListKind) (at from : ℕ) (splice : List �
   pub more : has_one_item_more among at from (from + length splice) (Some new) (Some old.node) ≡ true
 
 -- The text is the line without some bytes, and reads as it but for one less.
-pub record HasItemCutOut (among : ItemListKind) (at from to : ℕ) (old : Line) (text : List ℕ) : Type 0 where
+pub record IsLineTextWithItemCutOut (among : ItemListKind) (at from to : ℕ) (old : Line) (text : List ℕ) : Type 0 where
   pub order : from ≤ to
   pub inside : to ≤ length old.text
   pub text_is : text ≡ line_without_bytes from to old.text

@@ -15,14 +15,14 @@ use Rattle.sudoers_grammar.specs.declared.node.Kind.{Kind}
 use Rattle.sudoers_line_reader.specs.Outcome.{IsOutcomeOfLine as IsLineOutcome, outcome_of_line}
 use Rattle.sudoers_tree.specs.Files.{ParsedFile, lines_of_numbered_file}
 use Rattle.sudoers_tree.specs.Load.{LoadedPolicy, AreLinesAtSpots, named_file_of_parsed, named_files_of_policy, policy_or_load_fault}
-use Rattle.sudoers_tree.specs.Mapped.{AreFilesMapped, CanReplaceFiles, IsMappedWalk, LineMapping, AreDefinedNamesValid, mapped_lines_at_spots}
+use Rattle.sudoers_tree.specs.Mapped.{AreFilesMapped, CanReplaceFiles, IsMappedWalk, LineToLinesMapping, AreDefinedNamesValid, mapped_lines_at_spots}
 use Rattle.sudoers_tree.specs.Policy.{AreValidWalkLines, IsCorrectlyParsed, texts_of_lines}
 use Rattle.sudoers_tree.specs.Walk.{WalkState, walk_or_fault_of_files}
 use Rattle.sudoers_tree.specs.declared.named_files.NamedFile.{NamedFile}
 
 -- The laws of lines and of loaded files.
-pub record PruneEditLaws : Type 0 where
-  pub loads : (g : LineMapping) (policy : LoadedPolicy) (others : List ParsedFile) → policy_or_load_fault (named_files_of_policy policy) ≡ Ok policy
+pub record LawsBehindPrunes : Type 0 where
+  pub loads : (g : LineToLinesMapping) (policy : LoadedPolicy) (others : List ParsedFile) → policy_or_load_fault (named_files_of_policy policy) ≡ Ok policy
       → AreFilesMapped g policy.files others policy.walk → CanReplaceFiles policy.files others policy.walk
       → AreDefinedNamesValid (mapped_lines_at_spots g policy.walk.spots policy.walk.lines)
       → (other : WalkState) × (policy_or_load_fault (map named_file_of_parsed others) ≡ Ok (record { files = others; walk = other })) × (walk_or_fault_of_files others ≡ Ok other)

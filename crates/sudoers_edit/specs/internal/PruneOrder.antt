@@ -6,8 +6,8 @@ use Rattle.sudoers_tree.specs.Walk.{WalkState, spot_of_walk_line}
 use Rattle.sudoers_tree.specs.declared.place.Place.{Place}
 use Rattle.sudoers_tree.specs.declared.place.WalkLineSpot.{WalkLineSpot}
 use Rattle.sudoers_tree.specs.Definition.{definitions_in_line}
-use Rattle.sudoers_edit.specs.declared.pruning.PruneRemoval.{PruneRemoval}
-use Rattle.sudoers_edit.specs.declared.pruning.PruneRemoval.TheVariants as removal
+use Rattle.sudoers_edit.specs.declared.prune_removals.PruneRemoval.{PruneRemoval}
+use Rattle.sudoers_edit.specs.declared.prune_removals.PruneRemoval.TheVariants as removal
 
 -- how many of the first places are in the line with this number
 abbrev pub leading_place_count_in_line : ℕ → List (Kind × Place) → ℕ

@@ -17,7 +17,7 @@ use Rattle.sudoers_tree.specs.Files.{ParsedFile, lines_of_numbered_file}
 use Rattle.sudoers_tree.specs.Goes.{IsWalkOfFiles}
 use Rattle.sudoers_tree.specs.Line.{Line}
 use Rattle.sudoers_tree.specs.Load.{LoadedPolicy, AreLinesAtSpots, named_file_of_parsed, named_files_of_policy, policy_or_load_fault}
-use Rattle.sudoers_tree.specs.Mapped.{AreFilesMapped, CanReplaceFiles, IsMappedWalk, MakeMappedLines, LineMapping, AreDefinedNamesValid, file_names, mapped_lines_at_spots}
+use Rattle.sudoers_tree.specs.Mapped.{AreFilesMapped, CanReplaceFiles, IsMappedWalk, MakeMappedLines, LineToLinesMapping, AreDefinedNamesValid, file_names, mapped_lines_at_spots}
 use Rattle.sudoers_tree.specs.Policy.{AreValidWalkLines, IsCorrectlyParsed, texts_of_lines}
 use Rattle.sudoers_tree.specs.Walk.{WalkState, walk_or_fault_of_files}
 use Rattle.sudoers_tree.specs.declared.line_change.LineChange.{LineChange}
@@ -44,7 +44,7 @@ pub record RenamedLineLaws : Type 0 where
       (line_text_after_rename alias fresh says line) ≡ line
 
 -- The laws of loaded files, and of loaded files with changed lines.
-pub record LoadedRenameLaws : Type 0 where
+pub record LoadedFileLawsBehindRenames : Type 0 where
   pub lines : RenamedLineLaws
   pub walk : (files : List NamedFile) (policy : LoadedPolicy) → policy_or_load_fault files ≡ Ok policy → AreValidWalkLines policy.walk.lines
   pub stand : (files : List NamedFile) (policy : LoadedPolicy) → policy_or_load_fault files ≡ Ok policy → AreLinesAtSpots policy.files policy.walk.spots policy.walk.lines
@@ -59,20 +59,20 @@ pub record LoadedRenameLaws : Type 0 where
   pub after : (changes : List LineChange) (old new : LoadedPolicy) → policy_or_load_fault (named_files_of_policy old) ≡ Ok old → AreApplicableChanges changes old.files
       → policy_or_load_fault (files_after_changes changes old.files) ≡ Ok new → (f : ℕ)
       → texts_of_lines (lines_of_numbered_file new.files f) ≡ lines_after_changes (changes_of_file f changes) (texts_of_lines (lines_of_numbered_file old.files f))
-  pub mapped : (g : LineMapping) (changes : List LineChange) (old new : LoadedPolicy) → policy_or_load_fault (named_files_of_policy old) ≡ Ok old → AreApplicableChanges changes old.files
+  pub mapped : (g : LineToLinesMapping) (changes : List LineChange) (old new : LoadedPolicy) → policy_or_load_fault (named_files_of_policy old) ≡ Ok old → AreApplicableChanges changes old.files
       → policy_or_load_fault (files_after_changes changes old.files) ≡ Ok new → MakeMappedLines g changes old.files old.walk → IsMappedWalk g old.walk new.walk
   pub none : NoChangesLaw
   pub first : FirstChangeLaw
 
 -- The laws of texts and their sizes, and that of loading files of which lines were changed.
-pub record RenameSizeLaws : Type 0 where
-  pub base : LoadedRenameLaws
+pub record TextSizeLawsBehindRenames : Type 0 where
+  pub base : LoadedFileLawsBehindRenames
   pub told : (text : List ℕ) → IsLogicalLine text → is_logical_line text ≡ true
   pub whole : (line : List ℕ) → is_logical_line line ≡ true → length line ≤ line_limit → cut_outcome_of_text line ≡ Ok (line ∷ [])
   pub joined : (lines : List (List ℕ)) → EachIsOneLineWhenCut lines → has_inner_line_without_lf lines ≡ false → length (join lines) ≤ text_limit
       → cut_outcome_of_text (join lines) ≡ Ok lines
   pub parse : (files : List NamedFile) (policy : LoadedPolicy) → policy_or_load_fault files ≡ Ok policy → AllByRecursion (λ (file : ParsedFile). file.fault ≡ None) policy.files
-  pub loads : (g : LineMapping) (policy : LoadedPolicy) (others : List ParsedFile) → policy_or_load_fault (named_files_of_policy policy) ≡ Ok policy
+  pub loads : (g : LineToLinesMapping) (policy : LoadedPolicy) (others : List ParsedFile) → policy_or_load_fault (named_files_of_policy policy) ≡ Ok policy
       → AreFilesMapped g policy.files others policy.walk → CanReplaceFiles policy.files others policy.walk
       → AreDefinedNamesValid (mapped_lines_at_spots g policy.walk.spots policy.walk.lines)
       → (other : WalkState) × (policy_or_load_fault (map named_file_of_parsed others) ≡ Ok (record { files = others; walk = other })) × (walk_or_fault_of_files others ≡ Ok other)

@@ -14,7 +14,7 @@ use Rattle.sudoers_tree.specs.Line.{Line}
 use Rattle.sudoers_tree.specs.Load.{LoadedPolicy, named_files_of_policy, policy_or_load_fault}
 use Rattle.sudoers_tree.specs.Single.{reading_of_single_line}
 use Rattle.sudoers_tree.specs.declared.place.DefinitionFilePlace.{DefinitionFilePlace}
-use Rattle.sudoers_edit.specs.SpliceEdits.{definitions_of_alias_line, lines_with_one_changed}
+use Rattle.sudoers_edit.specs.SpliceEdits.{definitions_of_alias_line, replaced_lines_unless_too_long}
 use Rattle.sudoers_edit.specs.Editing.{step, inv}
 use Rattle.sudoers_edit.specs.Landing.{edit_result_and_then, policy_with_file_lines, files_with_bytes_replaced}
 use Rattle.sudoers_edit.specs.internal.LeadingInFile.{line_texts_of_file}
@@ -30,7 +30,7 @@ pub record AreSoundParsedLines (lines : List Line) : Type 0 where
 pub record EditReplacesFileLine (edit back_edit : Edit) (inverse : List Edit) (policy : LoadedPolicy) (f at : ℕ) (text : List ℕ) : Type 0 where
   pub here : f < length policy.files
   pub said_is : is_logical_line text ≡ true
-  pub forth : step edit policy ≡ edit_result_and_then (lines_with_one_changed at text (line_texts_of_file policy f)) (policy_with_file_lines policy f)
+  pub forth : step edit policy ≡ edit_result_and_then (replaced_lines_unless_too_long at text (line_texts_of_file policy f)) (policy_with_file_lines policy f)
   pub inverse_is : inverse ≡ inv edit policy
   pub back_is : inverse ≡ back_edit ∷ []
   pub back : (after : LoadedPolicy) → policy_or_load_fault (files_with_bytes_replaced f (join (lines_with_one_replaced at text (line_texts_of_file policy f))) (named_files_of_policy policy)) ≡ Ok after → f < length after.files

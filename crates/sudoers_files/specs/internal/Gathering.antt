@@ -11,7 +11,7 @@ use Rattle.sudoers_tree.specs.Load.{has_file_with_name}
 use Rattle.sudoers_files.specs.declared.fault.GatherFault.{GatherFault}
 use Rattle.sudoers_files.specs.Folder.{sorted_file_names_in_folder}
 use Rattle.sudoers_files.specs.Gather.{IsFaultOfDeviceOrMemory}
-use Rattle.sudoers_files.specs.Shelf.{limited_bytes_of_named_file, included_base_names_in}
+use Rattle.sudoers_files.specs.Shelf.{named_file_bytes_truncated_past_limit, included_base_names_in}
 
 -- A call has found the files that are wanted, or its fault is the one that is wanted. A fault of the device or of memory may come instead.
 abbrev pub IsGatherStepOutcome : Result (Unit {0}) GatherFault → List NamedFile → Result (List NamedFile) GatherFault → Type 0
@@ -20,7 +20,7 @@ IsGatherStepOutcome (Err fault) found wanted = IsFaultOfDeviceOrMemory fault ⊎
 
 -- The name is among those of the files `found`, or no file has it.
 abbrev pub IsFoundOrMissing : List NamedFile → List NamedFile → List ℕ → Type 0
-IsFoundOrMissing known found name = (has_file_with_name name found ≡ true) ⊎ (limited_bytes_of_named_file name known ≡ None)
+IsFoundOrMissing known found name = (has_file_with_name name found ≡ true) ⊎ (named_file_bytes_truncated_past_limit name known ≡ None)
 
 abbrev pub AreFoundOrMissing : List NamedFile → List NamedFile → List (List ℕ) → Type 0
 AreFoundOrMissing known found = AllByRecursion (IsFoundOrMissing known found)
@@ -30,6 +30,6 @@ abbrev pub name_byte_order : Vec ℕ Global → Vec ℕ Global → Ordering
 name_byte_order name other = slice_cmp nat_cmp name.items other.items
 
 -- Of each of the folders, every name that an include of it reads is settled.
-abbrev pub AreFolderNamesSettled : List NamedFile → List NamedFile → BTreeSet (Vec ℕ Global) → Type 0
-AreFolderNamesSettled known found folders = (folder : Vec ℕ Global) → contains_by (name_byte_order folder) folders ≡ true
+abbrev pub AreFilesOfFoldersFoundOrMissing : List NamedFile → List NamedFile → BTreeSet (Vec ℕ Global) → Type 0
+AreFilesOfFoldersFoundOrMissing known found folders = (folder : Vec ℕ Global) → contains_by (name_byte_order folder) folders ≡ true
     → AreFoundOrMissing known found (sorted_file_names_in_folder folder.items (included_base_names_in folder.items known))

@@ -9,8 +9,8 @@ use Rattle.sudoers_check.specs.Chain.{ListHasElement}
 use Rattle.sudoers_match_list.specs.Flat.{SignedAtom, IsFlatListOf, alias_members_of_atom}
 use Rattle.sudoers_match_list.specs.Flattened.{list_expanded_n_times}
 
-abbrev pub HasFlatCommandList : List Line → List Member → Type 0
-HasFlatCommandList lines ms = (fs : List SignedAtom) × IsFlatListOf Cmnd lines ms fs
+abbrev pub IsFlattenableCommandList : List Line → List Member → Type 0
+IsFlattenableCommandList lines ms = (fs : List SignedAtom) × IsFlatListOf Cmnd lines ms fs
 
 -- A member names the alias.
 abbrev pub ListNamesAlias : List Member → List ℕ → Type 0

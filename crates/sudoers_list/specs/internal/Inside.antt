@@ -4,7 +4,7 @@ use Rattle.sudoers_grammar.specs.declared.node.Kind.TheVariants.{Runas}
 use Rattle.sudoers_grammar.specs.Node.{Member}
 use Rattle.sudoers_line_rows.specs.View.{member_of_view}
 use Rattle.sudoers_tree.specs.Line.{Line, line_of_view}
-use Rattle.sudoers_match.specs.Heads.{SettingsOfCommand}
+use Rattle.sudoers_match.specs.Heads.{AccumulatedCommandSettings}
 use Rattle.sudoers_match.specs.IsHead.{HoldsCommandSettings}
 use Rattle.sudoers_cvt_spell.specs.Members.{printed_member_list}
 use Rattle.sudoers_cvt_rules.specs.Effective.{effective_command}
@@ -27,9 +27,9 @@ numbered_line_of_view l = (l.number, line_of_view l.line)
 abbrev pub alias_member_of_view : InnerHeld → InnerAliasMember
 alias_member_of_view inner = record { name = inner.name.now; member = member_of_view inner.member }
 
-abbrev pub rule_of_view_and_settings : RuleHeld → SettingsOfCommand → DecidingRuleOnLine
-rule_of_view_and_settings r h = record { line = r.at.number; text = r.at.line.text.now; command = effective_command (h, member_of_view r.command.member) }
+abbrev pub deciding_rule_of_held_and_settings : RuleHeld → AccumulatedCommandSettings → DecidingRuleOnLine
+deciding_rule_of_held_and_settings r h = record { line = r.at.number; text = r.at.line.text.now; command = effective_command (h, member_of_view r.command.member) }
 
 -- It is held of the rule that is wanted.
 abbrev pub IsHeldDecidingRule : RuleHeld → Option DecidingRuleOnLine → Type 0
-IsHeldDecidingRule r wanted = (h : SettingsOfCommand) × HoldsCommandSettings r.command.head h × (wanted ≡ Some (rule_of_view_and_settings r h))
+IsHeldDecidingRule r wanted = (h : AccumulatedCommandSettings) × HoldsCommandSettings r.command.head h × (wanted ≡ Some (deciding_rule_of_held_and_settings r h))

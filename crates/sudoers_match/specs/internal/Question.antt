@@ -14,17 +14,17 @@ use Rattle.sudoers_match_list.specs.Search.{IsValidVerdictCache}
 use Rattle.sudoers_match.specs.declared.request_verdicts.RequestVerdictCache.{RequestVerdictCache}
 use Rattle.sudoers_match.specs.declared.matching_host_groups.HostGroupPlace.{HostGroupPlace}
 use Rattle.sudoers_match.specs.declared.answer_of_row.Answer.{Answer as AnswerHeld}
-use Rattle.sudoers_match.specs.declared.answer_of_row.AnswerWithCommand.{AnswerWithCommand}
-use Rattle.sudoers_match.specs.declared.answer_of_row.CommandPlace.{CommandPlace}
+use Rattle.sudoers_match.specs.declared.answer_of_row.AnswerWithMemberAndSettings.{AnswerWithMemberAndSettings}
+use Rattle.sudoers_match.specs.declared.answer_of_row.SpecGroupCommandNumbers.{SpecGroupCommandNumbers}
 use Rattle.sudoers_match_member.specs.declared.request.Request.{Request}
-use Rattle.sudoers_match.specs.Answer.{Answer, IsAnswerOfRows, command_line_of_request, tags_with_setenv_by_all}
+use Rattle.sudoers_match.specs.Answer.{Answer, IsAnswerOfRows, command_with_joined_arguments_of_request, tags_with_setenv_by_all}
 use Rattle.sudoers_match.specs.Default.{IsRunasDefault}
-use Rattle.sudoers_match.specs.Found.{IsFoundInHostGroup, IsFoundInHostGroups}
+use Rattle.sudoers_match.specs.Found.{HasMemberAndSettingsFromHostGroup, HasMemberAndSettingsFromHostGroups}
 use Rattle.sudoers_match.specs.declared.command_settings.CommandSettings.{CommandSettings as HeadHeld}
 use Rattle.sudoers_match.specs.Allows.{ListAllows}
-use Rattle.sudoers_match.specs.Heads.{SettingsOfCommand, empty_command_settings, commands_with_settings, final_tags_of}
+use Rattle.sudoers_match.specs.Heads.{AccumulatedCommandSettings, empty_command_settings, commands_with_settings, final_tags_of}
 use Rattle.sudoers_match.specs.IsHead.{HoldsCommandSettings}
-use Rattle.sudoers_match.specs.Rows.{PrivilegeRow, AreRowsOfCommand}
+use Rattle.sudoers_match.specs.Rows.{PrivilegeRow, AreRowsPerFlatAtomOfCommand}
 use Rattle.sudoers_match.specs.Runas.{RunasGroupsAllow, RunasSpecAllows, is_group_absent_or_among}
 use Rattle.sudoers_match.specs.Specs.{IsConcatenationOfParts}
 use Rattle.sudoers_match.specs.internal.Straight.{RunasSpecLeadsToNoCycle}
@@ -41,7 +41,7 @@ pub record IsValidRequestCache (lines : List Line) (r : Request) (q : RequestVer
   pub hosts : IsValidVerdictCache Host lines (is_host_atom_match r.who) q.hosts
   pub targets : IsValidVerdictCache Runas lines (is_user_atom_match r.target) q.targets
   pub groups : IsValidGroupVerdictCache lines r.target_group q.groups
-  pub commands : IsValidVerdictCache Cmnd lines (is_command_atom_match (command_line_of_request r)) q.commands
+  pub commands : IsValidVerdictCache Cmnd lines (is_command_atom_match (command_with_joined_arguments_of_request r)) q.commands
   pub own : q.own ≡ is_group_absent_or_among r.target.groups r.target_group
 
 -- The group part allows, or it does not; the same of the whole.
@@ -59,7 +59,7 @@ IsKnownRunasDecision lines r runas None = Unit {0}
 IsKnownRunasDecision lines r runas (Some allowed) = DecidesWhetherRunasSpecAllows lines r.who r.target r.target_group runas allowed
 
 -- the answer that a command gives where an atom of its list says this
-abbrev pub answer_of_command_hit : CommandPlace → SettingsOfCommand → MemberHit → Answer
+abbrev pub answer_of_command_hit : SpecGroupCommandNumbers → AccumulatedCommandSettings → MemberHit → Answer
 answer_of_command_hit place head hit = record {
   allow = hit.allow;
   spec = place.spec;
@@ -70,25 +70,25 @@ answer_of_command_hit place head hit = record {
 }
 
 -- the place that an answer has
-abbrev pub place_of_answer : AnswerHeld → CommandPlace
-place_of_answer a = record { spec = a.spec; host_group = a.host_group; command = a.command }
+abbrev pub spec_group_command_numbers_of_answer : AnswerHeld → SpecGroupCommandNumbers
+spec_group_command_numbers_of_answer a = record { spec = a.spec; host_group = a.host_group; command = a.command }
 
 -- what is found with an answer
-abbrev pub found_answer_with_command : ℕ → HeadHeld → MemberHeld → AnswerHeld → AnswerWithCommand
-found_answer_with_command line head member answer = record { answer = answer; line = line; head = head; member = member }
+abbrev pub answer_with_member_and_settings : ℕ → HeadHeld → MemberHeld → AnswerHeld → AnswerWithMemberAndSettings
+answer_with_member_and_settings line head member answer = record { answer = answer; line = line; head = head; member = member }
 
 -- It stands in a host group with this place, on the line with this number.
-pub record IsFoundInGroupAtPlace (number : ℕ) (at : HostGroupPlace) (group : HostGroup) (found : AnswerWithCommand) : Type 0 where
+pub record HasMemberAndSettingsFromGroupAtPlace (number : ℕ) (at : HostGroupPlace) (group : HostGroup) (found : AnswerWithMemberAndSettings) : Type 0 where
   pub line : found.line ≡ number
   pub spec : found.answer.spec ≡ at.spec
   pub host_group : found.answer.host_group ≡ at.host_group
-  pub in_group : IsFoundInHostGroup group found
+  pub in_group : HasMemberAndSettingsFromHostGroup group found
 
 -- It stands in a user specification with this number, on the line with this number.
-pub record IsFoundInSpecAtNumber (number i : ℕ) (groups : List HostGroup) (found : AnswerWithCommand) : Type 0 where
+pub record HasMemberAndSettingsFromSpecAtNumber (number i : ℕ) (groups : List HostGroup) (found : AnswerWithMemberAndSettings) : Type 0 where
   pub line : found.line ≡ number
   pub spec : found.answer.spec ≡ i
-  pub in_groups : IsFoundInHostGroups groups found
+  pub in_groups : HasMemberAndSettingsFromHostGroups groups found
 
 -- The rows of all begin with those of the things before this one, of which the last that fits gives the answer; those of the things
 -- that are left follow.
@@ -98,9 +98,9 @@ pub record IsAnswerOfRowsSoFar {X : Type 0} (Part : ℕ → X → List Privilege
 
 -- The same of the commands of a list, with what those before this one leave.
 pub record IsAnswerOfCommandsSoFar (lines : List Line) (r : Request) (spec host_group : ℕ) (hosts : List Member) (cs : List CmdSpec) (i : ℕ) (held : HeadHeld) (latest : Option Answer) : Type 0 where
-  pub head : SettingsOfCommand
+  pub head : AccumulatedCommandSettings
   pub is_head : HoldsCommandSettings held head
   pub left : drop i (commands_with_settings empty_command_settings cs) ≡ commands_with_settings head (drop i cs)
   pub straight : RunasSpecLeadsToNoCycle lines head.runas
   pub so_far : (users : List Member) → ListAllows User lines (is_user_atom_match r.who.user) users
-      → IsAnswerOfRowsSoFar (AreRowsOfCommand lines spec host_group users hosts) lines r (commands_with_settings empty_command_settings cs) i (commands_with_settings head (drop i cs)) latest
+      → IsAnswerOfRowsSoFar (AreRowsPerFlatAtomOfCommand lines spec host_group users hosts) lines r (commands_with_settings empty_command_settings cs) i (commands_with_settings head (drop i cs)) latest

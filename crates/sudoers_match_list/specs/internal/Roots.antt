@@ -18,8 +18,8 @@ abbrev pub alias_member_named : List ℕ → Member
 alias_member_named name = record { start = 0; stop = 0; negated = false; digests = []; atom = atom.Alias name }
 
 -- the list of that member alone
-abbrev pub list_of_alias_named : List ℕ → List Member
-list_of_alias_named name = alias_member_named name ∷ []
+abbrev pub single_member_list_naming_alias : List ℕ → List Member
+single_member_list_naming_alias name = alias_member_named name ∷ []
 
 -- the aliases in the lists of a user specification or a Defaults line
 abbrev pub aliases_in_spec_or_defaults : Node → List AliasMember
@@ -34,7 +34,7 @@ aliases_in_spec_or_defaults (node.Include dir path) = []
 pub record SomeAliasLeadsToCycle (lines : List Line) (aliases : List AliasMember) : Type 0 where
   pub alias : AliasMember
   pub among : ListHasElement aliases alias
-  pub leads : ListLeadsToCyclicAlias alias.kind lines (list_of_alias_named alias.name)
+  pub leads : ListLeadsToCyclicAlias alias.kind lines (single_member_list_naming_alias alias.name)
 
 -- No alias of any kind is open, and no atom is hit.
 pub record AreCachesOfAllKindsValid (lines : List Line) (known : CycleSearchByKind) : Type 0 where
@@ -44,9 +44,9 @@ pub record AreCachesOfAllKindsValid (lines : List Line) (known : CycleSearchByKi
   pub commands : IsValidVerdictCache Cmnd lines (λ _. false) known.commands
 
 -- whether the alias of a name leads to a cyclic one
-abbrev pub DecidesWhetherAliasCycles : Kind → List Line → List ℕ → AliasVerdictCache → Bool → Type 0
-DecidesWhetherAliasCycles k lines name verdicts true = ListLeadsToCyclicAlias k lines (list_of_alias_named name)
-DecidesWhetherAliasCycles k lines name verdicts false = IsValidVerdictCache k lines (λ _. false) verdicts × (ListLeadsToCyclicAlias k lines (list_of_alias_named name) → ⊥)
+abbrev pub DecidesWhetherAliasLeadsToCycle : Kind → List Line → List ℕ → AliasVerdictCache → Bool → Type 0
+DecidesWhetherAliasLeadsToCycle k lines name verdicts true = ListLeadsToCyclicAlias k lines (single_member_list_naming_alias name)
+DecidesWhetherAliasLeadsToCycle k lines name verdicts false = IsValidVerdictCache k lines (λ _. false) verdicts × (ListLeadsToCyclicAlias k lines (single_member_list_naming_alias name) → ⊥)
 
 -- whether what is asked holds; where it does not, the verdicts serve on
 abbrev pub DecidesConditionAndKeepsCaches : List Line → Type 0 → CycleSearchByKind → Bool → Type 0

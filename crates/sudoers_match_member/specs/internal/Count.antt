@@ -15,7 +15,7 @@ pub record BeginsWithStarlessItems (pattern left : List ℕ) (count : ℕ) : Typ
   pub size : length items ≡ count
 
 -- So many begin it. They are all, if they are at most so many.
-pub record CountsStarlessItems (pattern : List ℕ) (most count : ℕ) : Type 0 where
+pub record IsStarlessItemCountUpToLimit (pattern : List ℕ) (most count : ℕ) : Type 0 where
   pub left : List ℕ
   pub counted : BeginsWithStarlessItems pattern left count
   pub all : count ≤ most → left ≡ []

@@ -1,34 +1,34 @@
 -- A device of the proof, which no public contract cites: what is known of the sets of a pattern.
 use Rattle.std.specs.Prelude.{◌≡◌, ◌≢◌, ◌<◌, ◌≤◌, ◌+◌, ℕ, Bool, List, length, drop, get_or, Some, None, IfSome}
 use Rattle.sudoers_match_member.specs.declared.wildcards.GlobMode.{GlobMode}
-use Rattle.sudoers_match_member.specs.declared.wildcards.GlobProgress.{GlobProgress}
-use Rattle.sudoers_match_member.specs.declared.wildcards.GlobProgress.TheVariants as run
-use Rattle.sudoers_match_member.specs.declared.pattern_front.PatternItemMatch.{PatternItemMatch}
+use Rattle.sudoers_match_member.specs.declared.wildcards.MatchOutcomeUpToStar.{MatchOutcomeUpToStar}
+use Rattle.sudoers_match_member.specs.declared.wildcards.MatchOutcomeUpToStar.TheVariants as run
+use Rattle.sudoers_match_member.specs.declared.first_pattern_item.PatternItemMatch.{PatternItemMatch}
 use Rattle.sudoers_match_member.specs.declared.set_cache.SetMatchCache.{SetMatchCache}
-use Rattle.sudoers_match_member.specs.Folded.{case_folded_bytes}
+use Rattle.sudoers_match_member.specs.Folded.{bytes_case_folded_if_wanted}
 use Rattle.sudoers_match_member.specs.Wildcard.{is_byte_taken_by_item, pattern_item_at}
-use Rattle.sudoers_match_member.specs.Sets.{bracket_set_at}
+use Rattle.sudoers_match_member.specs.Sets.{set_items_behind_opening_bracket}
 
 -- What begins a pattern: how long it is, and whether it takes this byte.
 pub record IsFirstItemMatch (mode : GlobMode) (lower : Bool) (pattern : List ℕ) (b : ℕ) (front : PatternItemMatch) : Type 0 where
-  pub len : front.len ≡ (pattern_item_at (case_folded_bytes lower pattern)).1
-  pub takes : front.takes ≡ is_byte_taken_by_item mode (pattern_item_at (case_folded_bytes lower pattern)).0 b
+  pub len : front.len ≡ (pattern_item_at (bytes_case_folded_if_wanted lower pattern)).1
+  pub takes : front.takes ≡ is_byte_taken_by_item mode (pattern_item_at (bytes_case_folded_if_wanted lower pattern)).0 b
   pub some : 0 < front.len
   pub within : front.len ≤ length pattern
 
 -- So many last bytes of the pattern have no `]`.
-abbrev pub IsBracketlessTail : ℕ → List ℕ → Type 0
-IsBracketlessTail tail pattern = (i : ℕ) → i < length pattern → length pattern ≤ i + tail → get_or pattern i 0 ≢ 93
+abbrev pub IsTailWithoutClosingBracket : ℕ → List ℕ → Type 0
+IsTailWithoutClosingBracket tail pattern = (i : ℕ) → i < length pattern → length pattern ≤ i + tail → get_or pattern i 0 ≢ 93
 
 -- The same of what stands behind a `*`.
-abbrev pub IsBracketlessTailAfterStar : ℕ → GlobProgress → Type 0
-IsBracketlessTailAfterStar tail run.Matched = Unit {0}
-IsBracketlessTailAfterStar tail run.Failed = Unit {0}
-IsBracketlessTailAfterStar tail (run.Star behind rest) = IsBracketlessTail tail behind.now
+abbrev pub HasTailWithoutClosingBracketAfterStar : ℕ → MatchOutcomeUpToStar → Type 0
+HasTailWithoutClosingBracketAfterStar tail run.Matched = Unit {0}
+HasTailWithoutClosingBracketAfterStar tail run.Failed = Unit {0}
+HasTailWithoutClosingBracketAfterStar tail (run.Star behind rest) = IsTailWithoutClosingBracket tail behind.now
 
 -- What is known of the sets of a pattern is right.
 pub record IsCorrectSetCache (mode : GlobMode) (lower : Bool) (pattern : List ℕ) (known : SetMatchCache) : Type 0 where
-  pub tail : IsBracketlessTail known.tail pattern
+  pub tail : IsTailWithoutClosingBracket known.tail pattern
   pub front : (b : ℕ) (t : Bool) → b < 256 → get_or known.takes b None ≡ Some t
       → IsFirstItemMatch mode lower (drop known.at pattern) b (record { len = known.len; takes = t })
-  pub unclosed : IfSome known.unclosed (λ place. bracket_set_at (case_folded_bytes lower (drop place pattern)) ≡ None)
+  pub unclosed : IfSome known.unclosed (λ place. set_items_behind_opening_bracket (bytes_case_folded_if_wanted lower (drop place pattern)) ≡ None)

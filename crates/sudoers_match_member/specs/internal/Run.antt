@@ -1,9 +1,9 @@
 -- A device of the proof, which no public contract cites: matching as a relation, and how far a pattern goes up to its next `*`.
 use Rattle.std.specs.Prelude.{◌≡◌, ◌≤◌, ◌<◌, ℕ, suc, true, Bool, List, [], ◌∷◌, ◌++◌, length}
 use Rattle.sudoers_match_member.specs.declared.wildcards.GlobMode.{GlobMode}
-use Rattle.sudoers_match_member.specs.declared.wildcards.GlobProgress.{GlobProgress}
-use Rattle.sudoers_match_member.specs.declared.wildcards.GlobProgress.TheVariants as run
-use Rattle.sudoers_match_member.specs.Folded.{case_folded_bytes}
+use Rattle.sudoers_match_member.specs.declared.wildcards.MatchOutcomeUpToStar.{MatchOutcomeUpToStar}
+use Rattle.sudoers_match_member.specs.declared.wildcards.MatchOutcomeUpToStar.TheVariants as run
+use Rattle.sudoers_match_member.specs.Folded.{bytes_case_folded_if_wanted}
 use Rattle.std.specs.List.{AllByRecursion}
 use Rattle.sudoers_match_member.specs.Wildcard.{PatternItem, Star, may_wildcard_take, is_byte_taken_by_item, items_of_pattern}
 
@@ -38,11 +38,11 @@ pub record MatchesUpToStar (mode : GlobMode) (pattern text behind rest : List �
   pub shorter : length behind < length pattern
   pub no_longer : length rest ≤ length text
 
-abbrev pub IsGlobProgressUpToStar : GlobMode → Bool → List ℕ → List ℕ → GlobProgress → Type 0
-IsGlobProgressUpToStar mode lower pattern text run.Matched = DoesPatternMatch mode (case_folded_bytes lower pattern) (case_folded_bytes lower text)
-IsGlobProgressUpToStar mode lower pattern text run.Failed = DoesPatternMatch mode (case_folded_bytes lower pattern) (case_folded_bytes lower text) → ⊥
-IsGlobProgressUpToStar mode lower pattern text (run.Star behind rest) =
-    MatchesUpToStar mode (case_folded_bytes lower pattern) (case_folded_bytes lower text) (case_folded_bytes lower behind.now) (case_folded_bytes lower rest.now)
+abbrev pub IsMatchOutcomeUpToStar : GlobMode → Bool → List ℕ → List ℕ → MatchOutcomeUpToStar → Type 0
+IsMatchOutcomeUpToStar mode lower pattern text run.Matched = DoesPatternMatch mode (bytes_case_folded_if_wanted lower pattern) (bytes_case_folded_if_wanted lower text)
+IsMatchOutcomeUpToStar mode lower pattern text run.Failed = DoesPatternMatch mode (bytes_case_folded_if_wanted lower pattern) (bytes_case_folded_if_wanted lower text) → ⊥
+IsMatchOutcomeUpToStar mode lower pattern text (run.Star behind rest) =
+    MatchesUpToStar mode (bytes_case_folded_if_wanted lower pattern) (bytes_case_folded_if_wanted lower text) (bytes_case_folded_if_wanted lower behind.now) (bytes_case_folded_if_wanted lower rest.now)
 
 -- Items take bytes of the text, up to what is left of the pattern and a rest of the text.
 pub record DoItemsTakePrefix (mode : GlobMode) (pattern text left rest : List ℕ) : Type 0 where
@@ -58,13 +58,13 @@ pub record IsMatchReducedToRest (mode : GlobMode) (pattern text behind rest : Li
   pub from : DoItemsMatch mode (Star ∷ items_of_pattern behind) rest → DoesPatternMatch mode pattern text
 
 -- what an outcome says of the whole: of a text that goes up to a `*`, what is left
-abbrev pub IsGlobProgressOfWhole : GlobMode → Bool → List ℕ → List ℕ → GlobProgress → Type 0
-IsGlobProgressOfWhole mode lower pattern text run.Matched = DoesPatternMatch mode pattern text
-IsGlobProgressOfWhole mode lower pattern text run.Failed = DoesPatternMatch mode pattern text → ⊥
-IsGlobProgressOfWhole mode lower pattern text (run.Star behind rest) = IsMatchReducedToRest mode pattern text (case_folded_bytes lower behind.now) (case_folded_bytes lower rest.now)
+abbrev pub IsMatchOutcomeOfWholePattern : GlobMode → Bool → List ℕ → List ℕ → MatchOutcomeUpToStar → Type 0
+IsMatchOutcomeOfWholePattern mode lower pattern text run.Matched = DoesPatternMatch mode pattern text
+IsMatchOutcomeOfWholePattern mode lower pattern text run.Failed = DoesPatternMatch mode pattern text → ⊥
+IsMatchOutcomeOfWholePattern mode lower pattern text (run.Star behind rest) = IsMatchReducedToRest mode pattern text (bytes_case_folded_if_wanted lower behind.now) (bytes_case_folded_if_wanted lower rest.now)
 
 -- how much is left of the pattern, and one more where it goes on
-abbrev pub remaining_pattern_measure : GlobProgress → ℕ
+abbrev pub remaining_pattern_measure : MatchOutcomeUpToStar → ℕ
 remaining_pattern_measure run.Matched = 0
 remaining_pattern_measure run.Failed = 0
 remaining_pattern_measure (run.Star behind rest) = suc (length behind.now)

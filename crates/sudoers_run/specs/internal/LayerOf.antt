@@ -1,5 +1,4 @@
 -- A layer's fault as the program tells it: want of memory is one fault, wherever it was met.
-use Rattle.std.specs.Prelude.{Result, Ok, Err}
 use Rattle.sudoers_run.specs.declared.fault.ToolFault.{ToolFault}
 use Rattle.sudoers_run.specs.declared.fault.ToolFault.TheVariants as tool
 use Rattle.std.specs.Prelude.{ℕ}
@@ -11,8 +10,8 @@ use Rattle.sudoers_files.specs.declared.fault.GatherFault.{GatherFault}
 use Rattle.sudoers_files.specs.declared.fault.GatherFault.TheVariants as gather
 use Rattle.sudoers_edit.specs.declared.fault.EditFault.{EditFault}
 use Rattle.sudoers_edit.specs.declared.fault.EditFault.TheVariants as edit
-use Rattle.sudoers_edit_script.specs.declared.script.ScriptFault.{ScriptFault}
-use Rattle.sudoers_edit_script.specs.declared.script.ScriptFault.TheVariants as script
+use Rattle.sudoers_edit_script.specs.declared.script_reader.ScriptFault.{ScriptFault}
+use Rattle.sudoers_edit_script.specs.declared.script_reader.ScriptFault.TheVariants as script
 use Rattle.sudoers_cvt_rules.specs.declared.fault.CvtFault.{CvtFault}
 use Rattle.sudoers_cvt_rules.specs.declared.fault.CvtFault.TheVariants as cvt
 use Rattle.sudoers_cvt_rewrite.specs.declared.filter_text.FilterFault.{FilterFault}
@@ -25,11 +24,6 @@ use Rattle.sudoers_match_list.specs.declared.verdict.AskFault.{AskFault}
 use Rattle.sudoers_match_list.specs.declared.verdict.AskFault.TheVariants as ask
 use Rattle.sudoers_run.specs.declared.fault.LayerFault.{LayerFault}
 use Rattle.sudoers_run.specs.declared.fault.LayerFault.TheVariants as layer
-
--- what comes of a layer, as what comes of the program
-abbrev pub tool_result_of_layer_result : {A : Type 0} → Result A LayerFault → Result A ToolFault
-tool_result_of_layer_result (Ok x) = Ok x
-tool_result_of_layer_result (Err fault) = Err (tool.Layer fault)
 
 abbrev pub layer_fault_of_gather : GatherFault → LayerFault
 layer_fault_of_gather gather.NoRoot = layer.Gather gather.NoRoot

@@ -1,6 +1,6 @@
 -- A device of the proof, which no public contract cites: what the code keeps of the units left of a place.
 use Rattle.std.specs.Prelude.{◌≡◌, ◌≤◌, ◌-◌, ◌==◌, ◌||◌, not, ℕ, Bool, true, false, List, [], ◌∷◌, ◌++◌, ◌+◌, drop, length, slice_range, Option, Some, None}
-use Rattle.sudoers_text.specs.Unit.{LineUnit, Continuation, Pair, Quoted, Comment, Byte, bytes_of_unit, is_id_position_after_units, bytes_after_leading_gap, is_empty}
+use Rattle.sudoers_text.specs.Unit.{LineUnit, Continuation, Pair, Quoted, Comment, Byte, bytes_of_unit, is_id_position_after_units, bytes_of_units_after_leading_gap, is_empty}
 use Rattle.sudoers_text.specs.Line.{has_open_last_unit}
 use Rattle.sudoers_text.specs.declared.text_units.LeftContext.{LeftContext}
 use Rattle.sudoers_text.specs.declared.text_units.TextUnit.{TextUnit as Piece}
@@ -21,15 +21,15 @@ model_of_unit_option (Some u) = Some (model_of_unit u)
 -- It tells what these units tell.
 pub record LeftAgreesWithUnits (left : LeftContext) (before : List LineUnit) : Type 0 where
   pub item : left.item ≡ is_id_position_after_units before
-  pub first : (left.begun == 0) ≡ is_empty (bytes_after_leading_gap before)
+  pub first : (left.begun == 0) ≡ is_empty (bytes_of_units_after_leading_gap before)
 
 -- At this place of the text these units stand left.
 pub record LeftDescribesUnits (text : List ℕ) (at : ℕ) (left : LeftContext) (before : List LineUnit) : Type 0 where
   pub item : left.item ≡ is_id_position_after_units before
   pub continues : at ≡ length text → left.continues ≡ has_open_last_unit before
   pub within : left.begun ≤ at
-  pub size : length (bytes_after_leading_gap before) ≡ left.begun
-  pub begins : bytes_after_leading_gap before ≡ slice_range text (at - left.begun) at
+  pub size : length (bytes_of_units_after_leading_gap before) ≡ left.begun
+  pub begins : bytes_of_units_after_leading_gap before ≡ slice_range text (at - left.begun) at
 
 -- The unit's bytes stand at this place of the text.
 pub record UnitStandsAt (text : List ℕ) (at : ℕ) (unit : LineUnit) : Type 0 where

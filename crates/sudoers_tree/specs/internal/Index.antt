@@ -12,7 +12,7 @@ use Rattle.sudoers_tree.specs.declared.alias_names_update.AliasNamesUpdate.{Alia
 use Rattle.sudoers_tree.specs.declared.fault.ReadFault.{ReadFault}
 use Rattle.sudoers_tree.specs.declared.fault.ReadFault.TheVariants.{Text, Syntax, Reserved, Duplicate, TooMany, NotLoaded, Twice, TooDeep, NoMemory}
 use Rattle.sudoers_tree.specs.Definition.{PlacedDefinition, is_equal_kind}
-use Rattle.sudoers_tree.specs.Policy.{alias_limit}
+use Rattle.sudoers_tree.specs.Policy.{alias_limit_of_each_kind}
 use Rattle.sudoers_tree.specs.Fault.{is_some}
 use Rattle.sudoers_tree.specs.Reading.{first_definition_fault}
 
@@ -80,7 +80,7 @@ abbrev pub fault_of_new_entry : Kind → List (List ℕ × Place) → List ℕ �
 fault_of_new_entry k es name =
     if is_reserved name then Some (Reserved k name)
     else (if is_some (place_of_named_entry name es) then Some (Duplicate k name)
-    else (if nat_le alias_limit (length es) then Some (TooMany k) else None))
+    else (if nat_le alias_limit_of_each_kind (length es) then Some (TooMany k) else None))
 
 abbrev pub entries_unless_fault : Option ReadFault → Result (List (List ℕ × Place)) ReadFault → Result (List (List ℕ × Place)) ReadFault
 entries_unless_fault None next = next

@@ -42,8 +42,8 @@ pub record IsSoundWalkBeforeChange (t : Tables) (b : WalkBeforeChange) : Type 0 
   pub named : IsIndexOfDefinitions b.index.now (definitions_of_lines (walk_lines_before_change t b))
 
 -- The file with this number has as many lines as before, and no fault.
-abbrev pub KeepsFileLineCount : List ParsedFile → List ParsedFile → ℕ → Type 0
-KeepsFileLineCount files others f = (length (lines_of_numbered_file others f) ≡ length (lines_of_numbered_file files f)) × (fault_of_numbered_file others f ≡ None)
+abbrev pub KeepsLineCountWithoutFault : List ParsedFile → List ParsedFile → ℕ → Type 0
+KeepsLineCountWithoutFault files others f = (length (lines_of_numbered_file others f) ≡ length (lines_of_numbered_file files f)) × (fault_of_numbered_file others f ≡ None)
 
 -- The line `new` stands at the spot, and beside the line `old`.
 abbrev pub ReplacesLineAtSpot : List ParsedFile → WalkLineSpot → Line → Line → Type 0

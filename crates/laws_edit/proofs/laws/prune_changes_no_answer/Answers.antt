@@ -2,14 +2,14 @@ use Rattle.std.proofs.Common.{◌≡◌, [], ◌∷◌, ap, Ok}
 use Rattle.sudoers_tree.specs.Load.{LoadedPolicy, named_files_of_policy, policy_or_load_fault}
 use Rattle.sudoers_edit_script.specs.declared.edit.Edit.TheVariants.{Prune}
 use Rattle.sudoers_edit.specs.Editing.{policy_or_first_refusal, step, next_or_placed_refusal}
-use Rattle.sudoers_match.specs.Beside.{KeepsReachableAliases}
+use Rattle.sudoers_match.specs.Beside.{HasSameLinesAndReachableAliases}
 use Rattle.laws_edit.proofs.LeftDefinitions.{definitions_left_keep_reachable_aliases}
 use Rattle.laws_edit.proofs.PrunedLines.{pruned_left}
 use Rattle.laws_edit.proofs.laws.prune_changes_no_answer.Goals as goal
 
 -- what a prune leaves
 keeps : (c : goal.After-unreachable_definitions_change_no_answer) → (policy new : LoadedPolicy) → policy_or_load_fault (named_files_of_policy policy) ≡ Ok policy → step Prune policy ≡ Ok new
-    → KeepsReachableAliases policy.walk.lines new.walk.lines
+    → HasSameLinesAndReachableAliases policy.walk.lines new.walk.lines
 keeps c policy new loaded is =
     definitions_left_keep_reachable_aliases policy.walk.lines new.walk.lines
     (pruned_left policy.walk.lines c.chains_are.ensures.unused c.chains_are.ensures.used new.walk.lines (c.prune_leaves_the_used.ensures policy new loaded is)).left

@@ -1,4 +1,4 @@
-use Rattle.sudoers_check.proofs.Common.{List, Mention, Note, SeenKeysMatchMentions, WalkLineSpot, [], ap, append-nil, append_assoc, ap₂, definitions_of_lines, drop, drop_of_length-le, new_undefined_mentions}
+use Rattle.sudoers_check.proofs.Common.{List, Mention, Note, AreKeysOfUndefinedMentions, WalkLineSpot, [], ap, append-nil, append_assoc, ap₂, definitions_of_lines, drop, drop_of_length-le, new_undefined_mentions}
 use Rattle.sudoers_check.proofs.Common.{note_in_line_text, notes_of_mentions, subst, sym, ℕ, ◌++◌, ◌+◌, ◌∙◌, ◌∷◌, ◌≡◌}
 use Rattle.sudoers_check.proofs.Noted.{list_from_index_is_element_and_rest, first_undefined_mention_is_noted, other_mention_is_not_noted}
 use Rattle.sudoers_check.proofs.notes.append_notes_of_undefined.Goals.{then-branch+in_ok-make_note_at+in_ok-push, else-branch}
@@ -48,4 +48,4 @@ pub returns-clause-seen : goal.returns-clause-seen
 returns-clause-seen c = λ before agrees.
     let was = c.loop-mention.invariant before agrees in
     let none = drop_of_length-le c.args.mentions.now c.loop-mention-test.false in
-    subst (SeenKeysMatchMentions (definitions_of_lines c.args.walk.now) c.loop-mention.seen) (sym (append-nil was.0) ∙ ap (λ xs. was.0 ++ xs) (sym none) ∙ was.2) was.1
+    subst (AreKeysOfUndefinedMentions (definitions_of_lines c.args.walk.now) c.loop-mention.seen) (sym (append-nil was.0) ∙ ap (λ xs. was.0 ++ xs) (sym none) ∙ was.2) was.1

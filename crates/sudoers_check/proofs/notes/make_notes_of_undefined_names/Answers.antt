@@ -1,4 +1,4 @@
-use Rattle.sudoers_check.proofs.Common.{Line, List, Mention, Note, PlacedDefinition, SeenKeysMatchMentions, WalkState, [], ap, append-nil, append_assoc, definitions_of_lines, drop, drop_more, drop_of_length-le}
+use Rattle.sudoers_check.proofs.Common.{Line, List, Mention, Note, PlacedDefinition, AreKeysOfUndefinedMentions, WalkState, [], ap, append-nil, append_assoc, definitions_of_lines, drop, drop_more, drop_of_length-le}
 use Rattle.sudoers_check.proofs.Common.{line_of_row, line_of_view, map, mentions_in_node, new_undefined_mentions, notes_of_mentions, spot_of_walk_line, subst, sym, undefined_notes_in_lines, ◌++◌, ◌+◌, ◌∙◌, ◌∷◌, ◌≡◌}
 use Rattle.sudoers_check.proofs.Noted.{row_at_number_holds_line_at_number, undefined_notes_of_walk_are_mapped}
 use Rattle.sudoers_check.proofs.notes.make_notes_of_undefined_names.Goals as goal
@@ -31,7 +31,7 @@ loop-number-preserved c =
     ∙ ap (λ xs. notes ++ notes_of_mentions (spot_of_walk_line walk l.number) line.text (new_undefined_mentions ds was.0 xs)) found in
     let more = undefined_notes_in_lines ds walk (was.0 ++ ms) (l.number + 1) rest in (
       was.0 ++ ms,
-      subst (λ xs. SeenKeysMatchMentions ds c.append_notes_of_undefined.new.seen (was.0 ++ xs)) found seen,
+      subst (λ xs. AreKeysOfUndefinedMentions ds c.append_notes_of_undefined.new.seen (was.0 ++ xs)) found seen,
       ap (λ xs. xs ++ more) added ∙ append_assoc notes first more ∙ ap (λ xs. notes ++ undefined_notes_in_lines ds walk was.0 l.number xs) (sym next) ∙ was.2,
     )
 

@@ -1,13 +1,13 @@
-use Rattle.sudoers_cvt_rewrite.proofs.Common.{CvtFault, Err, IfErr, IsRewriteRefusal, Node, ap, at_drop_all, changes_of_view, drop, line_node_expanded_if, line_of_row, lines_member_count, lines_with_nodes_mapped}
-use Rattle.sudoers_cvt_rewrite.proofs.Common.{node_filtered_if_any, node_member_count, refl, rules, subst, sym, ◌+◌, ◌∙◌, ◌≡◌}
+use Rattle.sudoers_cvt_rewrite.proofs.Common.{CvtFault, Err, IfErr, IsTooManyMembersOrNoMemoryFault, Node, ap, at_drop_all, changes_of_view, drop, line_node_expanded_if, line_of_row, specs_and_defaults_member_count, textless_lines_with_nodes_mapped}
+use Rattle.sudoers_cvt_rewrite.proofs.Common.{node_filtered_if_any, spec_or_defaults_member_count, refl, rules, subst, sym, ◌+◌, ◌∙◌, ◌≡◌}
 use Rattle.sudoers_cvt_rewrite.proofs.Extending.{table_extension_is_transitive, table_is_extension_of_itself, table_likeness_is_transitive}
 use Rattle.sudoers_match_list.proofs.Appended.{empty_rest_leaves_written_items, pushed_row_takes_next_value}
 use Rattle.sudoers_cvt_rewrite.proofs.Straights.{filter_lists_of_acyclic_row_are_acyclic}
 use Rattle.sudoers_cvt_rewrite.proofs.Whole.{counted_whole, line_counted, line_next, lines_left, refused_whole}
 use Rattle.sudoers_cvt_rewrite.proofs.rewriting.write_rewritten_lines.Goals as goal
 
-pub choose_filtered_line-requires-clause-straight : goal.choose_filtered_line-requires-clause-straight
-choose_filtered_line-requires-clause-straight c =
+pub select_line_by_optional_filter-requires-clause-straight : goal.select_line_by_optional_filter-requires-clause-straight
+select_line_by_optional_filter-requires-clause-straight c =
     let source = c.args.source.now in
     filter_lists_of_acyclic_row_are_acyclic source.lines.tables.now source.lines.rows.now source.policy.now c.loop-row.row-index _ c.loop-row-test.true
     source.same c.is_acyclic.ensures.straight
@@ -22,9 +22,9 @@ returns-in_err-node-clause-fault c =
     let fault : CvtFault = c.in_err-node.field-0.0 in
     let same : c.from_residual-in_err-node.result ≡ Err fault = search rules in
     let chosen = c.in_ok-choice.ensures.left in
-    subst (λ r. IfErr r (IsRewriteRefusal source.expand (lines_member_count (lines_with_nodes_mapped written lines)))) (sym same)
+    subst (λ r. IfErr r (IsTooManyMembersOrNoMemoryFault source.expand (specs_and_defaults_member_count (textless_lines_with_nodes_mapped written lines)))) (sym same)
     (refused_whole base written rows source.expand c.loop-row.row-index _ c.loop-row.tally.count lines fault source.same c.loop-row-test.true
-    (subst (λ n. IsRewriteRefusal source.expand (c.loop-row.tally.count + node_member_count (line_node_expanded_if source.expand lines n)) fault) chosen c.in_err-node.ensures.fault) c.loop-row.invariant.counted)
+    (subst (λ n. IsTooManyMembersOrNoMemoryFault source.expand (c.loop-row.tally.count + spec_or_defaults_member_count (line_node_expanded_if source.expand lines n)) fault) chosen c.in_err-node.ensures.fault) c.loop-row.invariant.counted)
 
 pub loop-row-preserved : goal.loop-row-preserved
 loop-row-preserved c =
@@ -46,7 +46,7 @@ loop-row-preserved c =
           (c.in_ok-node.ensures.stays u ext ∙ ap (line_node_expanded_if source.expand lines) chosen))
           (so_far.appended u (table_extension_is_transitive _ _ _ grown ext));
       counted = λ is. line_counted base written rows i _ c.loop-row.tally.count _ _ c.loop-row-test.true
-          (c.in_ok-node.ensures.counted is ∙ ap (λ n. c.loop-row.tally.count + node_member_count (line_node_expanded_if source.expand lines n)) chosen) (so_far.counted is);
+          (c.in_ok-node.ensures.counted is ∙ ap (λ n. c.loop-row.tally.count + spec_or_defaults_member_count (line_node_expanded_if source.expand lines n)) chosen) (so_far.counted is);
     }
 
 pub returns-clause-lines : goal.returns-clause-lines
@@ -59,7 +59,7 @@ returns-clause-lines c =
     let behind = lines_left base written rows in
     empty_rest_leaves_written_items _ (behind (drop c.loop-row.row-index rows)) _ (at_drop_all behind rows c.loop-row.row-index c.loop-row-test.false)
     (c.loop-row.invariant.appended c.loop-row.tables (table_is_extension_of_itself c.loop-row.tables))
-    ∙ ap (lines_with_nodes_mapped written) source.same
+    ∙ ap (textless_lines_with_nodes_mapped written) source.same
 
 pub returns-clause-counted : goal.returns-clause-counted
 returns-clause-counted c is =

@@ -1,4 +1,4 @@
-use Rattle.sudoers_cvt_rewrite.proofs.Common.{HostGroupRow, IfOk-weaker, List, MemberRow, Node, ap, ap₂, filtered_node, host_group_in_tables, map, member_in_tables, node_in_tables, node_of_filtered_line, slice_range}
+use Rattle.sudoers_cvt_rewrite.proofs.Common.{HostGroupRow, IfOk-weaker, List, MemberRow, Node, ap, ap₂, node_or_blank_left_by_filter, host_group_in_tables, map, member_in_tables, node_in_tables, node_of_filtered_line, slice_range}
 use Rattle.sudoers_cvt_rewrite.proofs.Common.{sym, ◌∙◌, ◌≡◌}
 use Rattle.sudoers_grammar.specs.Node as node
 use Rattle.sudoers_line_rows.specs.declared.rows.NodeRow.{NodeRow}
@@ -8,7 +8,7 @@ use Rattle.sudoers_cvt_rewrite.proofs.selecting.select_filtered_node.Goals as go
 pub returns-in-Spec-clause-left : goal.returns-in-Spec-clause-left
 returns-in-Spec-clause-left c =
     let base = c.args.base.now in
-    let left = filtered_node c.args.asked.now.policy.now c.args.asked.now.filter.now c.args.asked.now.prune in
+    let left = node_or_blank_left_by_filter c.args.asked.now.policy.now c.args.asked.now.filter.now c.args.asked.now.prune in
     let users = c.in-Spec.users in
     let groups = c.in-Spec.groups in
     let said : Node = node.Spec (map (member_in_tables base) c.rows_in-rows.result.now) (map (host_group_in_tables base) c.rows_in-groups.result.now) in

@@ -6,7 +6,7 @@ use Rattle.sudoers_line_rows.specs.View.{host_group_of_view, host_groups_of_view
 use Rattle.sudoers_cvt_spell.specs.Lines.{printed_host_group}
 use Rattle.sudoers_cvt_rules.specs.declared.fault.CvtFault.{CvtFault}
 use Rattle.sudoers_cvt_rules.specs.Effective.{effective_host_group}
-use Rattle.sudoers_cvt_rules.specs.internal.Long.{IsTooLongWithLineEnd}
+use Rattle.sudoers_cvt_rules.specs.internal.Long.{IsFaultOfMakingUnendedLine}
 use Rattle.sudoers_cvt_rules.proofs.Limits.{mapped_drop_begins_with_next_image, longer_text_is_too_long_too, length_of_printed_part_is_within_whole}
 use Rattle.sudoers_cvt_rules.proofs.printed_lines.append_effective_host_groups.Goals as goal
 
@@ -24,7 +24,7 @@ returns-in_err-append_effective_host_group-2-clause-long c =
     ap (λ gs. c.loop-row.out.items ++ behind gs) (sym (mapped_drop_begins_with_next_image (host_group_in_tables t) rest i _ c.loop-row-test.true g c.host_group_of_row-in-loop-row.ensures)) ∙ c.loop-row.invariant in
     let fault : CvtFault = c.in_err-append_effective_host_group-2.field-0.0 in
     let same : c.from_residual-in_err-append_effective_host_group-2.result ≡ Err fault = search rules in
-    let long : IsTooLongWithLineEnd ((c.loop-row.out.items ++ codes " : ") ++ shown) fault =
-    subst (λ o. IsTooLongWithLineEnd (o ++ shown) fault) c.in_ok-extend_from_slice.ensures.items c.in_err-append_effective_host_group-2.ensures.long in
-    subst (λ r. IfErr r (IsTooLongWithLineEnd whole)) (sym same)
+    let long : IsFaultOfMakingUnendedLine ((c.loop-row.out.items ++ codes " : ") ++ shown) fault =
+    subst (λ o. IsFaultOfMakingUnendedLine (o ++ shown) fault) c.in_ok-extend_from_slice.ensures.items c.in_err-append_effective_host_group-2.ensures.long in
+    subst (λ r. IfErr r (IsFaultOfMakingUnendedLine whole)) (sym same)
     (longer_text_is_too_long_too ((c.loop-row.out.items ++ codes " : ") ++ shown) whole fault (length_of_printed_part_is_within_whole c.loop-row.out.items (codes " : ") shown (behind more) whole is) long)

@@ -19,8 +19,8 @@ returns-then-last-ge-LINE_LIMIT c =
     inr (end_line_past_limit_is_too_large c.args.policy.now c.args.file c.in-Some.last.now (omega (arith, c.if-number-files.false, c.files.ensures)) (sym c.in-Some.ensures)
     (sym c.ends_in_lf.ensures ∙ c.if-ends_in_lf.false) c.if-last-ge-LINE_LIMIT.true)
 
-pub refusal_of_file_bytes-requires : goal.refusal_of_file_bytes-requires
-refusal_of_file_bytes-requires c =
+pub refusal_of_bytes_that_make_no_policy-requires : goal.refusal_of_bytes_that_make_no_policy-requires
+refusal_of_bytes_that_make_no_policy-requires c =
     let policy : LoadedPolicy = c.args.policy.now in
     let f : ℕ = c.args.file in
     let line : List ℕ = c.in-Some.last.now in
@@ -52,8 +52,8 @@ returns-then-not-branch c =
     } in
     let whole : c.push-then-not-branch.new.self.items ≡ join (line_texts_of_file policy f) ++ 10 ∷ [] =
     c.in_ok-push-2.ensures.items ∙ ap (λ (t : List ℕ). t ++ 10 ∷ []) c.in_ok-whole.ensures in
-    refusal_of_changed_files_refuses_edit (EndLine f) (OpenEnd f) (OpenEnd f ∷ []) policy f (lines_with_final_lf policy f line) c.push-then-not-branch.new.self.items c.refusal_of_file_bytes.result
-    (end_lands final_lf_laws_hold policy f line lacks) (whole ∙ closed_text final_lf_laws_hold policy f line lacks) c.refusal_of_file_bytes.ensures
+    refusal_of_changed_files_refuses_edit (EndLine f) (OpenEnd f) (OpenEnd f ∷ []) policy f (lines_with_final_lf policy f line) c.push-then-not-branch.new.self.items c.refusal_of_bytes_that_make_no_policy.result
+    (end_lands final_lf_laws_hold policy f line lacks) (whole ∙ closed_text final_lf_laws_hold policy f line lacks) c.refusal_of_bytes_that_make_no_policy.ensures
 
 pub returns : goal.returns
 returns c =
@@ -74,6 +74,6 @@ returns c =
     let lands : EditSetsFileLines (EndLine f) (OpenEnd f) c.in_ok-inverse.inverse policy f (lines_with_final_lf policy f line) =
     subst (λ i. EditSetsFileLines (EndLine f) (OpenEnd f) i policy f (lines_with_final_lf policy f line)) (sym c.in_ok-inverse.ensures) (end_lands final_lf_laws_hold policy f line lacks) in
     c.in_ok-plan_swap_change.ensures (EndLine f) (OpenEnd f) policy c.allocator_of-alloc.ensures
-    (subst (λ n. n < length ls) (sym c.last_line_number_of_file-at.ensures) (number_of_last_line_is_below_count policy f line lacks.last)) one
-    (subst (λ n. EditSetsFileLines (EndLine f) (OpenEnd f) c.in_ok-inverse.inverse policy f (lines_with_one_replaced n c.from_vec.result ls)) (sym c.last_line_number_of_file-at.ensures)
+    (subst (λ n. n < length ls) (sym c.last_line_number_of_file_or_zero-at.ensures) (number_of_last_line_is_below_count policy f line lacks.last)) one
+    (subst (λ n. EditSetsFileLines (EndLine f) (OpenEnd f) c.in_ok-inverse.inverse policy f (lines_with_one_replaced n c.from_vec.result ls)) (sym c.last_line_number_of_file_or_zero-at.ensures)
     (subst (λ t. EditSetsFileLines (EndLine f) (OpenEnd f) c.in_ok-inverse.inverse policy f (lines_with_one_replaced (length ls - 1) t ls)) (sym put) lands))

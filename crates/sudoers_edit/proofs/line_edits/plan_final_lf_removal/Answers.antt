@@ -19,8 +19,8 @@ returns-then-last-lt2 c =
           open_end_of_open_line_is_refused c.args.policy.now c.args.file c.in-Some.last.now here (sym c.in-Some.ensures) (sym w.ends_in_lf.ensures ∙ w.if-not-ends_in_lf.true)
     ])
 
-pub refusal_of_file_bytes-requires : goal.refusal_of_file_bytes-requires
-refusal_of_file_bytes-requires c =
+pub refusal_of_bytes_that_make_no_policy-requires : goal.refusal_of_bytes_that_make_no_policy-requires
+refusal_of_bytes_that_make_no_policy-requires c =
     let policy : LoadedPolicy = c.args.policy.now in
     let f : ℕ = c.args.file in
     let line : List ℕ = c.in-Some.last.now in
@@ -52,8 +52,8 @@ returns-then-not-branch c =
     } in
     let whole : c.pop.new.self.items ≡ take (length (join (line_texts_of_file policy f)) - 1) (join (line_texts_of_file policy f)) =
     c.pop.ensures.rest ∙ ap (λ n. take (n - 1) c.in_ok-whole.whole.items) c.in_ok-whole.whole.ok.0 ∙ ap (λ (t : List ℕ). take (length t - 1) t) c.in_ok-whole.ensures in
-    refusal_of_changed_files_refuses_edit (OpenEnd f) (EndLine f) (EndLine f ∷ []) policy f (lines_without_final_lf policy f line) c.pop.new.self.items c.refusal_of_file_bytes.result
-    (open_lands final_lf_laws_hold policy f line has) (whole ∙ opened_text final_lf_laws_hold policy f line has) c.refusal_of_file_bytes.ensures
+    refusal_of_changed_files_refuses_edit (OpenEnd f) (EndLine f) (EndLine f ∷ []) policy f (lines_without_final_lf policy f line) c.pop.new.self.items c.refusal_of_bytes_that_make_no_policy.result
+    (open_lands final_lf_laws_hold policy f line has) (whole ∙ opened_text final_lf_laws_hold policy f line has) c.refusal_of_bytes_that_make_no_policy.ensures
 
 pub returns : goal.returns
 returns c =
@@ -74,6 +74,6 @@ returns c =
     let lands : EditSetsFileLines (OpenEnd f) (EndLine f) c.in_ok-inverse.inverse policy f (lines_without_final_lf policy f line) =
     subst (λ i. EditSetsFileLines (OpenEnd f) (EndLine f) i policy f (lines_without_final_lf policy f line)) (sym c.in_ok-inverse.ensures) (open_lands final_lf_laws_hold policy f line has) in
     c.in_ok-plan_swap_change.ensures (OpenEnd f) (EndLine f) policy c.allocator_of-alloc.ensures
-    (subst (λ n. n < length ls) (sym c.last_line_number_of_file-at.ensures) (number_of_last_line_is_below_count policy f line has.last)) one
-    (subst (λ n. EditSetsFileLines (OpenEnd f) (EndLine f) c.in_ok-inverse.inverse policy f (lines_with_one_replaced n c.in_ok-text.text ls)) (sym c.last_line_number_of_file-at.ensures)
+    (subst (λ n. n < length ls) (sym c.last_line_number_of_file_or_zero-at.ensures) (number_of_last_line_is_below_count policy f line has.last)) one
+    (subst (λ n. EditSetsFileLines (OpenEnd f) (EndLine f) c.in_ok-inverse.inverse policy f (lines_with_one_replaced n c.in_ok-text.text ls)) (sym c.last_line_number_of_file_or_zero-at.ensures)
     (subst (λ t. EditSetsFileLines (OpenEnd f) (EndLine f) c.in_ok-inverse.inverse policy f (lines_with_one_replaced (length ls - 1) t ls)) (sym put) lands))

@@ -35,8 +35,8 @@ returns-in-Err c = λ n lines line known here same.
     (line_of_equal_text_has_read_node lines n line c.args.text.now says (Some says) known here same told refl) (ap definitions_of_alias_line makes)
     (inr (c.in-Err.ensures (λ a b. lines_with_item_cut_out among.Definitions c.args.at a b n shown lines)))
 
-pub drop_checked_definition-requires : goal.drop_checked_definition-requires
-drop_checked_definition-requires c =
+pub cut_bytes_of_definition_if_line_still_reads-requires : goal.cut_bytes_of_definition_if_line_still_reads-requires
+cut_bytes_of_definition_if_line_still_reads-requires c =
     let says : Node = node_of_view c.node-node.result in
     let makes : says ≡ node.Alias c.in-Alias.kind (alias_definitions_of_view c.in-Alias.defs) = ap node_of_view c.in-Alias.is in
     let both : IsReadingOfSingleLine c.args.text.now (Some c.in-Some.reading) = subst (IsReadingOfSingleLine c.args.text.now) c.in-Some.is c.in_ok-reading.ensures.line in
@@ -46,16 +46,16 @@ drop_checked_definition-requires c =
     owned_bytes_of_definition_are_within_line c.args.text.now (alias_definitions_of_view c.in-Alias.defs) c.args.at c.in-Ok.bytes.0 c.in-Ok.bytes.1
     (definitions_of_alias_line_are_ordered c.args.text.now c.in-Alias.kind (alias_definitions_of_view c.in-Alias.defs) reads) place.1 place.2
 
-pub returns-in-Err-drop_checked_definition : goal.returns-in-Err-drop_checked_definition
-returns-in-Err-drop_checked_definition c = λ n lines line known here same.
+pub returns-in-Err-cut_bytes_of_definition_if_line_still_reads : goal.returns-in-Err-cut_bytes_of_definition_if_line_still_reads
+returns-in-Err-cut_bytes_of_definition_if_line_still_reads c = λ n lines line known here same.
     let says : Node = node_of_view c.node-node.result in
     let told : Some says ≡ reading_of_single_line c.args.text.now = ap (λ m. Some m) c.node-node.ensures ∙ sym c.in-Some.is ∙ c.in_ok-reading.ensures.said in
     let makes : says ≡ node.Alias c.in-Alias.kind (alias_definitions_of_view c.in-Alias.defs) = ap node_of_view c.in-Alias.is in
     let shown : Line = record { text = c.args.text.now; node = says } in
-    refused_cut_refuses_definition_drop lines n c.args.at shown (alias_definitions_of_view c.in-Alias.defs) c.in-Err-drop_checked_definition.fault
+    refused_cut_refuses_definition_drop lines n c.args.at shown (alias_definitions_of_view c.in-Alias.defs) c.in-Err-cut_bytes_of_definition_if_line_still_reads.fault
     (line_of_equal_text_has_read_node lines n line c.args.text.now says (Some says) known here same told refl) (ap definitions_of_alias_line makes)
-    (subst (IsRefusalOrNoMemory c.in-Err-drop_checked_definition.fault) (sym (c.in-Ok.ensures (λ a b. lines_with_item_cut_out among.Definitions c.args.at a b n shown lines)).0)
-    (c.in-Err-drop_checked_definition.ensures.outcome n lines))
+    (subst (IsRefusalOrNoMemory c.in-Err-cut_bytes_of_definition_if_line_still_reads.fault) (sym (c.in-Ok.ensures (λ a b. lines_with_item_cut_out among.Definitions c.args.at a b n shown lines)).0)
+    (c.in-Err-cut_bytes_of_definition_if_line_still_reads.ensures.outcome n lines))
 
 pub returns : goal.returns
 returns c = λ n lines line known here same.
@@ -69,10 +69,10 @@ returns c = λ n lines line known here same.
     let place = c.in-Ok.ensures (λ a b. lines_with_item_cut_out among.Definitions at a b n shown lines) in
     let count : length (extents_of_definitions defs) ≡ length defs = length-map defs (λ (d : Def). (d.start, d.stop)) in
     let some = droppable_definition_is_one_of_several at c.in-Ok.bytes.0 c.in-Ok.bytes.1 (extents_of_definitions defs) (λ next. (c.in-Ok.ensures next).0) in
-    let text : List ℕ = c.in-Ok-drop_checked_definition.less.items in
+    let text : List ℕ = c.in-Ok-cut_bytes_of_definition_if_line_still_reads.less.items in
     let cut : IsDefinitionCut n at lines shown text c.in_ok-splice.splice =
     definition_cut_out_is_definition_cut lines n at c.in-Ok.bytes.0 c.in-Ok.bytes.1 shown c.in-Alias.kind defs text c.in_ok-splice.splice there makes
-    (omega (arith, some.0, count)) (omega (arith, some.1, count)) place.1 place.2 place.0 c.in-Ok-drop_checked_definition.ensures.cut c.in_ok-splice.ensures
-    (c.in-Ok-drop_checked_definition.ensures.outcome n lines) in
+    (omega (arith, some.0, count)) (omega (arith, some.1, count)) place.1 place.2 place.0 c.in-Ok-cut_bytes_of_definition_if_line_still_reads.ensures.cut c.in_ok-splice.ensures
+    (c.in-Ok-cut_bytes_of_definition_if_line_still_reads.ensures.outcome n lines) in
     subst (λ (t : List ℕ). IsDefinitionCut n at lines line t c.in_ok-splice.splice) (sym c.from_vec.ensures)
     (subst (λ (l : Line). IsDefinitionCut n at lines l text c.in_ok-splice.splice) (some_same shown line (sym there ∙ here)) cut)

@@ -1,7 +1,7 @@
 use Rattle.sudoers_edit.proofs.Common.{AreChangesOfEdit, Edit, EditFault, IsFileOrderOfChanges, IsPartialPrune, IsRefusalOrNoMemory, IsRemovalMade, LineChange, List, LoadedPolicy, Prune, PruneRemoval, Result, [], ap}
 use Rattle.sudoers_edit.proofs.Common.{drop, drop_all, drop_more, policy_after_removals, prune_removals_of_walk, reverse, reverse-append, slice_index_or, step, subst, sym, ℕ, ◌+◌, ◌∙◌, ◌∷◌, ◌≡◌}
 use Rattle.std.proofs.lemmas.Result.{err_from_is_err_and}
-use Rattle.sudoers_edit.specs.declared.pruning.PruneRemoval.TheVariants as removal
+use Rattle.sudoers_edit.specs.declared.prune_removals.PruneRemoval.TheVariants as removal
 use Rattle.sudoers_edit.proofs.PruneDone.{removal_made_continues_partial_prune, refusal_of_first_removal_refuses_all}
 use Rattle.sudoers_edit.proofs.LawsApplied.{completed_prune_has_changes_of_edit, prune_without_removals_is_partial_prune}
 use Rattle.sudoers_edit.proofs.prune_plan.plan_prune.Goals as goal
@@ -21,7 +21,7 @@ loop-removal-preserved c =
     let one : PruneRemoval = slice_index_or all i (removal.Line 0 0) in
     let more : List PruneRemoval = drop (i + 1) all in
     let changes : List LineChange = reverse c.loop-removal.changes.items in
-    let later : List LineChange = reverse c.add_removal_changes.new.changes.items in
+    let later : List LineChange = reverse c.add_changes_of_removal_and_get_inverse.new.changes.items in
     let inverse : List Edit = reverse c.loop-removal.inverse.items in
     let edit : Edit = c.in_ok-edit.edit in
     let next : drop i all ≡ one ∷ more = drop_more all i (removal.Line 0 0) c.loop-removal-test.true in

@@ -1,12 +1,12 @@
-use Rattle.sudoers_edit.proofs.Common.{LineChange, List, Option, [], ap, lines_of_numbered_file, option_or, replacement_text_of_line, reverse, reverse-append, slice_get, sym, texts_of_lines, ℕ, ◌++◌, ◌∙◌, ◌∷◌, ◌≡◌}
+use Rattle.sudoers_edit.proofs.Common.{LineChange, List, Option, [], ap, lines_of_numbered_file, option_or, replacement_text_by_first_change, reverse, reverse-append, slice_get, sym, texts_of_lines, ℕ, ◌++◌, ◌∙◌, ◌∷◌, ◌≡◌}
 use Rattle.sudoers_edit.proofs.PruneOut.{first_change_decides_replacement_text}
 use Rattle.sudoers_edit.proofs.prune_plan.text_of_line_after_changes.Goals as goal
 
 -- what the last change says of the line
 last_says : (f n : ℕ) (before changes : List LineChange) (last : LineChange) → changes ≡ before ++ last ∷ []
-    → replacement_text_of_line f n (last ∷ []) ≡ replacement_text_of_line f n (reverse changes)
+    → replacement_text_by_first_change f n (last ∷ []) ≡ replacement_text_by_first_change f n (reverse changes)
 last_says f n before changes last is =
-    sym (ap (λ cs. replacement_text_of_line f n (reverse cs)) is ∙ ap (replacement_text_of_line f n) (reverse-append before (last ∷ [])) ∙ first_change_decides_replacement_text f n last (reverse before))
+    sym (ap (λ cs. replacement_text_by_first_change f n (reverse cs)) is ∙ ap (replacement_text_by_first_change f n) (reverse-append before (last ∷ [])) ∙ first_change_decides_replacement_text f n last (reverse before))
 
 pub returns-in-None : goal.returns-in-None
 returns-in-None c =

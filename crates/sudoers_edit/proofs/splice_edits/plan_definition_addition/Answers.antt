@@ -1,5 +1,5 @@
 use Rattle.sudoers_edit.proofs.Common.{AddDef, AreSoundParsedLines, DropDef, EditReplacesFileLine, IsRefusalOrNoMemory, Line, List, LoadedPolicy, [], alias_definitions_of_view, ap, arith, inr, length, line_of_view}
-use Rattle.sudoers_edit.proofs.Common.{lines_of_rows, lines_with_definition_added, lines_with_item_put_in, lines_with_one_changed, named_files_of_policy, slice_get, slice_get_within, subst, sym, texts_of_lines, ℕ}
+use Rattle.sudoers_edit.proofs.Common.{lines_of_rows, lines_with_definition_added, lines_with_item_put_in, replaced_lines_unless_too_long, named_files_of_policy, slice_get, slice_get_within, subst, sym, texts_of_lines, ℕ}
 use Rattle.sudoers_edit.proofs.Common.{◌<◌, ◌∙◌, ◌∷◌, ◌≡◌}
 use Rattle.sudoers_edit.specs.declared.extra_item.ItemListKind.TheVariants as among
 use Rattle.sudoers_edit.proofs.DefLemmas.{addition_with_definitions_puts_item_in, definition_addition_replaces_file_line, addition_without_definitions_is_refused, edit_of_present_file_edits_given_lines, refusal_of_lines_is_refusal_of_edit, fault_of_lines_is_fault_of_edit}
@@ -67,7 +67,7 @@ returns c =
     let lines : List Line = lines_of_rows c.lines_of_file-lines.result in
     let line : Line = line_of_view c.in-Ok.found.0 in
     let text : List ℕ = c.in-Ok-add_item_to_line.text.items in
-    let told : lines_with_definition_added n at s lines ≡ lines_with_one_changed n text (texts_of_lines lines) =
+    let told : lines_with_definition_added n at s lines ≡ replaced_lines_unless_too_long n text (texts_of_lines lines) =
     addition_with_definitions_puts_item_in n at s lines line (alias_definitions_of_view c.in-Ok.found.1) c.in-Ok.ensures.outcome
     ∙ (c.in-Ok-find_offset_to_add_item.ensures (λ from. lines_with_item_put_in among.Definitions at from n s line lines)).0
     ∙ c.in-Ok-add_item_to_line.ensures.outcome n lines in
@@ -75,6 +75,6 @@ returns c =
     definition_addition_replaces_file_line lines_of_loaded_file_are_sound_parsed policy f n at c.in-Ok-find_offset_to_add_item.from s text line c.allocator_of-alloc.ensures
     (omega (arith, c.if-file-files.false, c.files.ensures))
     (ap (λ (ls : List Line). slice_get ls n) (sym c.lines_of_file-lines.ensures) ∙ c.in-Ok.ensures.found.0) c.in-Ok-add_item_to_line.ensures.put
-    (subst (λ (ls : List Line). lines_with_definition_added n at s ls ≡ lines_with_one_changed n text (texts_of_lines ls)) c.lines_of_file-lines.ensures told) in
+    (subst (λ (ls : List Line). lines_with_definition_added n at s ls ≡ replaced_lines_unless_too_long n text (texts_of_lines ls)) c.lines_of_file-lines.ensures told) in
     c.plan_line_replacement.ensures (AddDef f n at s) (DropDef f n at)
     (subst (λ i. EditReplacesFileLine (AddDef f n at s) (DropDef f n at) i policy f n text) (sym c.in_ok-inverse.ensures) leads)

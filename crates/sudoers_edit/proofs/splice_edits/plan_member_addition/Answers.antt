@@ -1,5 +1,5 @@
 use Rattle.sudoers_edit.proofs.Common.{AddMember, Def, DefinitionFilePlace, DropMember, EditFault, EditReplacesFileLine, IsAliasDefinedAt, IsRefusalOrNoMemory, Kind, Line, LineTexts, List, LoadedPolicy, Result, []}
-use Rattle.sudoers_edit.proofs.Common.{alias_definition_of_view, ap, inr, line_of_view, lines_of_numbered_file, lines_with_item_put_in, lines_with_member_added, named_files_of_policy, place_of_file_place}
+use Rattle.sudoers_edit.proofs.Common.{alias_definition_of_view, ap, inr, line_of_view, lines_of_numbered_file, lines_with_item_put_in, lines_with_member_added, named_files_of_policy, place_within_file_of_definition}
 use Rattle.sudoers_edit.proofs.Common.{slice_get_within, subst, sym, ℕ, ◌∙◌, ◌∷◌, ◌≡◌}
 use Rattle.sudoers_edit.specs.declared.extra_item.ItemListKind.TheVariants as among
 use Rattle.sudoers_edit.proofs.DefLemmas.{refusal_of_lines_is_refusal_of_edit, fault_of_lines_is_fault_of_edit}
@@ -20,7 +20,7 @@ returns-in-Err-find_offset_to_add_item c =
     let lines : List Line = lines_of_numbered_file policy.files place.file in
     let next : ℕ → Result LineTexts EditFault = λ from. lines_with_item_put_in (among.Members place.def) c.args.at from place.line c.args.splice.now line lines in
     inr (edit_at_defined_alias_edits_its_file c.args.kind c.args.name.now policy place line d (λ p. lines_with_member_added p c.args.at c.args.splice.now) c.in-Ok.ensures.found
-    ∙ refusal_of_lines_is_refusal_of_edit policy place.file (lines_with_member_added (place_of_file_place place) c.args.at c.args.splice.now lines) c.in-Err-find_offset_to_add_item.fault
+    ∙ refusal_of_lines_is_refusal_of_edit policy place.file (lines_with_member_added (place_within_file_of_definition place) c.args.at c.args.splice.now lines) c.in-Err-find_offset_to_add_item.fault
     (member_addition_at_alias_puts_item_in c.args.at c.args.splice.now c.args.kind c.args.name.now policy place line d c.in-Ok.ensures.found ∙ c.in-Err-find_offset_to_add_item.ensures next))
 
 pub returns-in-Err-add_item_to_line : goal.returns-in-Err-add_item_to_line
@@ -34,7 +34,7 @@ returns-in-Err-add_item_to_line c =
     let next : ℕ → Result LineTexts EditFault = λ from. lines_with_item_put_in (among.Members place.def) c.args.at from place.line c.args.splice.now line lines in
     subst (λ r. IsRefusalOrNoMemory fault r)
     (sym (edit_at_defined_alias_edits_its_file c.args.kind c.args.name.now policy place line d (λ p. lines_with_member_added p c.args.at c.args.splice.now) c.in-Ok.ensures.found))
-    (fault_of_lines_is_fault_of_edit policy place.file fault (lines_with_member_added (place_of_file_place place) c.args.at c.args.splice.now lines)
+    (fault_of_lines_is_fault_of_edit policy place.file fault (lines_with_member_added (place_within_file_of_definition place) c.args.at c.args.splice.now lines)
     (subst (λ r. IsRefusalOrNoMemory fault r)
     (sym (member_addition_at_alias_puts_item_in c.args.at c.args.splice.now c.args.kind c.args.name.now policy place line d c.in-Ok.ensures.found ∙ (c.in-Ok-find_offset_to_add_item.ensures next).0))
     (c.in-Err-add_item_to_line.ensures.outcome place.line lines)))

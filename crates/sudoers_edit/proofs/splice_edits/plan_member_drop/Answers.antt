@@ -1,6 +1,6 @@
 use Rattle.sudoers_edit.proofs.Common.{AddMember, Def, DefinitionFilePlace, DropMember, EditFault, EditReplacesFileLine, IsAliasDefinedAt, IsRefusalOrNoMemory, Kind, Line, LineTexts, List, LoadedPolicy, Result, Some}
 use Rattle.sudoers_edit.proofs.Common.{[], alias_definition_of_view, bytes_between, extents_of_members, inr, line_of_view, lines_of_numbered_file, lines_with_item_cut_out, lines_with_member_dropped}
-use Rattle.sudoers_edit.proofs.Common.{named_files_of_policy, owned_bytes_start, owned_bytes_stop, place_of_file_place, refl, slice_get_within, subst, sym, ℕ, ◌∙◌, ◌∷◌, ◌≡◌}
+use Rattle.sudoers_edit.proofs.Common.{named_files_of_policy, owned_bytes_start, owned_bytes_stop, place_within_file_of_definition, refl, slice_get_within, subst, sym, ℕ, ◌∙◌, ◌∷◌, ◌≡◌}
 use Rattle.sudoers_edit.specs.declared.extra_item.ItemListKind.TheVariants as among
 use Rattle.sudoers_edit.proofs.DefLemmas.{refusal_of_lines_is_refusal_of_edit, fault_of_lines_is_fault_of_edit}
 use Rattle.sudoers_edit.proofs.MemberLemmas.{alias_refusal_refuses_member_edits, edit_at_defined_alias_edits_its_file, member_drop_at_alias_cuts_item_out, member_drop_replaces_file_line}
@@ -20,7 +20,7 @@ returns-in-Err-find_bytes_to_drop_item c =
     let lines : List Line = lines_of_numbered_file policy.files place.file in
     let next : ℕ → ℕ → Result LineTexts EditFault = λ from to. lines_with_item_cut_out (among.Members place.def) c.args.at from to place.line line lines in
     inr (edit_at_defined_alias_edits_its_file c.args.kind c.args.name.now policy place line d (λ p. lines_with_member_dropped p c.args.at) c.in-Ok.ensures.found
-    ∙ refusal_of_lines_is_refusal_of_edit policy place.file (lines_with_member_dropped (place_of_file_place place) c.args.at lines) c.in-Err-find_bytes_to_drop_item.fault
+    ∙ refusal_of_lines_is_refusal_of_edit policy place.file (lines_with_member_dropped (place_within_file_of_definition place) c.args.at lines) c.in-Err-find_bytes_to_drop_item.fault
     (member_drop_at_alias_cuts_item_out c.args.at c.args.kind c.args.name.now policy place line d c.in-Ok.ensures.found ∙ c.in-Err-find_bytes_to_drop_item.ensures next))
 
 pub returns-in-Err-cut_item_from_line : goal.returns-in-Err-cut_item_from_line
@@ -34,7 +34,7 @@ returns-in-Err-cut_item_from_line c =
     let next : ℕ → ℕ → Result LineTexts EditFault = λ from to. lines_with_item_cut_out (among.Members place.def) c.args.at from to place.line line lines in
     subst (λ r. IsRefusalOrNoMemory fault r)
     (sym (edit_at_defined_alias_edits_its_file c.args.kind c.args.name.now policy place line d (λ p. lines_with_member_dropped p c.args.at) c.in-Ok.ensures.found))
-    (fault_of_lines_is_fault_of_edit policy place.file fault (lines_with_member_dropped (place_of_file_place place) c.args.at lines)
+    (fault_of_lines_is_fault_of_edit policy place.file fault (lines_with_member_dropped (place_within_file_of_definition place) c.args.at lines)
     (subst (λ r. IsRefusalOrNoMemory fault r)
     (sym (member_drop_at_alias_cuts_item_out c.args.at c.args.kind c.args.name.now policy place line d c.in-Ok.ensures.found ∙ (c.in-Ok-find_bytes_to_drop_item.ensures next).0))
     (c.in-Err-cut_item_from_line.ensures.outcome place.line lines)))

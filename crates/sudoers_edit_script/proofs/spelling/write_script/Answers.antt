@@ -1,7 +1,7 @@
 use Rattle.std.proofs.Common.{◌≡◌, ◌∙◌, ◌++◌, ◌+◌, ◌<◌, sym, ap, List, ℕ, arith, drop}
 use Rattle.std.specs.List.{prefix_len}
 use Rattle.std.proofs.lemmas.Grind.{common_steps}
-use Rattle.sudoers_edit_script.specs.Script.{spelling_of_edit, has_word_names, file_set_after_edit}
+use Rattle.sudoers_edit_script.specs.Script.{spelling_of_edit, has_word_names, file_number_set_after_edit}
 use Rattle.sudoers_edit_script.proofs.TakenLemmas.{leading_edits_have_one_more_spelled}
 use Rattle.sudoers_edit_script.proofs.spelling.write_script.Goals as goal
 
@@ -15,6 +15,6 @@ loop-count-preserved c =
     grind (arith, common_steps) in (
       omega (arith, few),
       c.in_ok-append_edit_spelling.ensures ∙ ap (λ (z : List ℕ). z ++ spelling_of_edit edit) c.in_ok-file.ensures.out ∙ rw (i.1, i.2) (sym t.spelled),
-      c.in_ok-file.ensures.file ∙ ap (λ (f : ℕ). file_set_after_edit f edit) i.2 ∙ sym t.file,
+      c.in_ok-file.ensures.file ∙ ap (λ (f : ℕ). file_number_set_after_edit f edit) i.2 ∙ sym t.file,
       named,
     )

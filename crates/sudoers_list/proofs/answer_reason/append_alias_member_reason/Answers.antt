@@ -18,11 +18,11 @@ returns c =
     let lines = policy.walk.lines in
     let inner = c.args.inner.now in
     let name = inner.name.now in
-    let at = c.in-Some-find_walk_line.at in
+    let at = c.in-Some-find_walk_line_by_number.at in
     let p = file_row_column_text policy at.number at.line.text.now inner.member.start in
     let m = printed_member false Cmnd (member_of_view inner.member) in
     let on : alias_definition_line lines name ≡ Some (numbered_line_of_view at) =
-    ap (option_and_then (λ (q : Place). slice_get (lines_with_numbers 0 lines) q.line)) (ap (definition_place_of_name Cmnd name) (sym c.walk.ensures) ∙ sym c.in-Some.ensures) ∙ sym c.in-Some-find_walk_line.ensures.line in
+    ap (option_and_then (λ (q : Place). slice_get (lines_with_numbers 0 lines) q.line)) (ap (definition_place_of_name Cmnd name) (sym c.walk.ensures) ∙ sym c.in-Some.ensures) ∙ sym c.in-Some-find_walk_line_by_number.ensures.line in
     consequence_on_ok_is_weakened c.extend_from_slice-4.result _ _ (λ e.
     e
     ∙ ap (λ (t : List ℕ). t ++ codes "\n") (c.in_ok-append_member.ensures.appended

@@ -5,7 +5,7 @@ use Rattle.sudoers_line_rows.specs.View.{member_of_view, members_of_view}
 use Rattle.sudoers_tree.specs.Definition.{definitions_of_lines}
 use Rattle.sudoers_match_member.specs.declared.people_and_commands.CommandLine.{CommandLine}
 use Rattle.sudoers_match_member.specs.Hits.{is_command_atom_match}
-use Rattle.sudoers_match.specs.Answer.{command_line_of_request}
+use Rattle.sudoers_match.specs.Answer.{command_with_joined_arguments_of_request}
 use Rattle.sudoers_list.specs.Inner.{IsInnermostDecidingMember, ListMatchesCommand}
 use Rattle.sudoers_list.specs.internal.Inside.{alias_member_of_view}
 use Rattle.sudoers_list.proofs.Going.{begins}
@@ -19,7 +19,7 @@ find_innermost_member-requires-clause-verdicts c = c.in_ok-verdicts.ensures Cmnd
 pub find_innermost_member-requires-clause-says : goal.find_innermost_member-requires-clause-says
 find_innermost_member-requires-clause-says c =
     let lines = c.args.policy.now in
-    let asked = command_line_of_request c.args.request.now in
+    let asked = command_with_joined_arguments_of_request c.args.request.now in
     let m : Member = member_of_view c.args.member.now in
     let ms : List Member = members_of_view c.in-Some.outer.members in
     subst (λ (k : CommandLine). ListMatchesCommand lines (is_command_atom_match k) ms) (sym c.in_ok-command.ensures)

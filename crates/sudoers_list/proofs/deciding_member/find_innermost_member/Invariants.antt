@@ -2,11 +2,11 @@ use Rattle.std.proofs.Common.{◌≡◌, Some}
 use Rattle.sudoers_grammar.specs.declared.node.Kind.TheVariants.{Cmnd}
 use Rattle.sudoers_line_rows.specs.View.{members_of_view}
 use Rattle.sudoers_tree.specs.Definition.{members_of_alias_definition}
-use Rattle.sudoers_check.specs.Chain.{IsReachedBySteps}
+use Rattle.sudoers_check.specs.Chain.{IsReachedByChainOfSteps}
 use Rattle.sudoers_match_member.specs.Hits.{is_command_atom_match}
 use Rattle.sudoers_match_list.specs.Search.{IsValidVerdictCache}
 use Rattle.sudoers_list.specs.internal.Going.{IsAliasGoneAfterExpansions}
-use Rattle.sudoers_list.specs.Inner.{DecidingMemberNamesAlias, ListMatchesCommand}
+use Rattle.sudoers_list.specs.Inner.{DecidingMemberOfAliasNamesOtherAlias, ListMatchesCommand}
 use Rattle.sudoers_list.proofs.deciding_member.find_innermost_member.Given as goal
 
 abbrev pub invariant-loop-times : goal.invariant-loop-times
@@ -14,7 +14,7 @@ invariant-loop-times l = record {
   remembers : IsValidVerdictCache Cmnd l.policy (is_command_atom_match l.command) l.verdicts;
   defined : members_of_alias_definition Cmnd l.alias.name.now l.policy ≡ Some (members_of_view l.alias.members);
   says : ListMatchesCommand l.policy (is_command_atom_match l.command) (members_of_view l.alias.members);
-  reached : IsReachedBySteps (DecidingMemberNamesAlias l.policy (is_command_atom_match l.command)) (λ name. l.outer.name.now ≡ name) l.alias.name.now;
+  reached : IsReachedByChainOfSteps (DecidingMemberOfAliasNamesOtherAlias l.policy (is_command_atom_match l.command)) (λ name. l.outer.name.now ≡ name) l.alias.name.now;
   within : IsAliasGoneAfterExpansions l.policy l.times l.alias.name.now;
 }
 

@@ -6,7 +6,7 @@ use Rattle.sudoers_line_rows.specs.Tables.{member_in_tables}
 use Rattle.sudoers_line_rows.specs.View.{member_of_view}
 use Rattle.sudoers_match_member.specs.Hits.{is_command_atom_match}
 use Rattle.sudoers_match.specs.Last.{IsLastItemWith}
-use Rattle.sudoers_list.specs.internal.Going.{HasFlatCommandList}
+use Rattle.sudoers_list.specs.internal.Going.{IsFlattenableCommandList}
 use Rattle.sudoers_list.specs.Inner.{MemberMatchesCommand}
 use Rattle.sudoers_list.proofs.Speaking.{flat_each, last_no, last_yes, row_value_is_among_mapped_rows, mapped_rows_taken_end_with_next_row}
 use Rattle.sudoers_list.proofs.deciding_member.find_last_matching_member.Goals as goal
@@ -19,7 +19,7 @@ is_member_matching_command-requires-clause-flat c =
     let rows = c.args.members.now.rows.now in
     let y : Member = member_of_view c.member_of_row-member.result in
     let flat = c.requires.flat in
-    subst (λ (m : Member). HasFlatCommandList lines (m ∷ [])) c.member_of_row-member.ensures
+    subst (λ (m : Member). IsFlattenableCommandList lines (m ∷ [])) c.member_of_row-member.ensures
     (flat_each lines (map f rows) flat.0 flat.1 y (row_value_is_among_mapped_rows f rows c.loop-row.row-index _ c.loop-row-test.true y c.member_of_row-member.ensures))
 
 pub loop-row-preserved : goal.loop-row-preserved

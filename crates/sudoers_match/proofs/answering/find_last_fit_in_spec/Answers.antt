@@ -1,5 +1,5 @@
-use Rattle.sudoers_match.proofs.Common.{AreRowsOfHostGroup, DecidesWhetherListAllows, Has_at, HostGroup, IfSome, IsAnswerOfRowsSoFar, IsFoundInSpecAtNumber, User, answer_of_found, ap, arith, drop, drop_all}
-use Rattle.sudoers_match.proofs.Common.{host_group_in_tables, host_group_of_view, host_groups_of_view, is_user_atom_match, length-map, members_of_view, option_map, subst, sym, true, user_spec_of, ◌+◌, ◌∙◌}
+use Rattle.sudoers_match.proofs.Common.{AreRowsPerFlatAtomOfHostGroup, DecidesWhetherListAllows, Has_at, HostGroup, IfSome, IsAnswerOfRowsSoFar, HasMemberAndSettingsFromSpecAtNumber, User, answer_without_member_and_settings, ap, arith, drop, drop_all}
+use Rattle.sudoers_match.proofs.Common.{host_group_in_tables, host_group_of_view, host_groups_of_view, is_user_atom_match, length-map, members_of_view, option_map, subst, sym, true, user_spec_of_users_and_groups, ◌+◌, ◌∙◌}
 use Rattle.sudoers_match.proofs.Founds.{answer_in_group_is_found_in_spec, some_or, some_then}
 use Rattle.sudoers_match.proofs.Gathered.{mapped_row_is_at_its_index, list_from_index_is_element_and_rest}
 use Rattle.sudoers_match.proofs.Lasts.{option_map_distributes_over_option_or}
@@ -11,7 +11,7 @@ returns-then-not-branch-clause-answer c rows p =
     let lines = c.args.asked.now.policy.now in
     let r = c.args.asked.now.request.now in
     let users = members_of_view c.args.users.now in
-    no_user lines r c.args.spec (user_spec_of users (host_groups_of_view c.args.groups.now)) rows
+    no_user lines r c.args.spec (user_spec_of_users_and_groups users (host_groups_of_view c.args.groups.now)) rows
     (subst (DecidesWhetherListAllows User lines (is_user_atom_match r.who.user) users) c.if-not-branch.true c.in_ok-is_allowed_by_list.ensures.allowed) p
 
 pub find_last_fit_in_host_group-requires-clause-straight : goal.find_last_fit_in_host_group-requires-clause-straight
@@ -31,18 +31,18 @@ loop-host_group-preserved c =
     let i = c.loop-host_group.host_group in
     let g : HostGroup = host_group_of_view c.host_group_of_row-group.result in
     let at = mapped_row_is_at_its_index (host_group_in_tables groups.tables.now) groups.rows.now i _ c.loop-host_group-test.true g c.host_group_of_row-group.ensures in
-    let Part = AreRowsOfHostGroup lines c.args.spec users in
+    let Part = AreRowsPerFlatAtomOfHostGroup lines c.args.spec users in
     let user : DecidesWhetherListAllows User lines (is_user_atom_match r.who.user) users true =
     subst (DecidesWhetherListAllows User lines (is_user_atom_match r.who.user) users) c.if-not-branch.false c.in_ok-is_allowed_by_list.ensures.allowed in
     record {
       question = c.in_ok-in_group.ensures.kept;
       so_far = subst (IsAnswerOfRowsSoFar Part lines r gs (i + 1) (drop (i + 1) gs))
-          (sym (ap (option_map answer_of_found) c.or-latest.ensures ∙ option_map_distributes_over_option_or answer_of_found c.in_ok-in_group.in_group c.loop-host_group.latest))
-          (so_far_more lines r Part gs i g (drop i gs) (drop (i + 1) gs) (option_map answer_of_found c.loop-host_group.latest) (option_map answer_of_found c.in_ok-in_group.in_group)
+          (sym (ap (option_map answer_without_member_and_settings) c.or-latest.ensures ∙ option_map_distributes_over_option_or answer_without_member_and_settings c.in_ok-in_group.in_group c.loop-host_group.latest))
+          (so_far_more lines r Part gs i g (drop i gs) (drop (i + 1) gs) (option_map answer_without_member_and_settings c.loop-host_group.latest) (option_map answer_without_member_and_settings c.in_ok-in_group.in_group)
           (list_from_index_is_element_and_rest gs i g at) c.loop-host_group.invariant.so_far (λ rows p. c.in_ok-in_group.ensures.answer users user rows p));
-      found = subst (λ o. IfSome o (IsFoundInSpecAtNumber c.args.line c.args.spec gs)) (sym c.or-latest.ensures)
-          (some_or (IsFoundInSpecAtNumber c.args.line c.args.spec gs) c.in_ok-in_group.in_group c.loop-host_group.latest
-          (some_then _ (IsFoundInSpecAtNumber c.args.line c.args.spec gs) (answer_in_group_is_found_in_spec c.args.line c.args.spec i gs g at) c.in_ok-in_group.in_group c.in_ok-in_group.ensures.found)
+      found = subst (λ o. IfSome o (HasMemberAndSettingsFromSpecAtNumber c.args.line c.args.spec gs)) (sym c.or-latest.ensures)
+          (some_or (HasMemberAndSettingsFromSpecAtNumber c.args.line c.args.spec gs) c.in_ok-in_group.in_group c.loop-host_group.latest
+          (some_then _ (HasMemberAndSettingsFromSpecAtNumber c.args.line c.args.spec gs) (answer_in_group_is_found_in_spec c.args.line c.args.spec i gs g at) c.in_ok-in_group.in_group c.in_ok-in_group.ensures.found)
           c.loop-host_group.invariant.found);
     }
 
@@ -51,6 +51,6 @@ returns-clause-answer c rows p =
     let groups = c.args.groups.now in
     let gs = host_groups_of_view groups in
     let i = c.loop-host_group.host_group in
-    so_far_all c.args.asked.now.policy.now c.args.asked.now.request.now (AreRowsOfHostGroup c.args.asked.now.policy.now c.args.spec (members_of_view c.args.users.now)) gs
-    i (drop i gs) (option_map answer_of_found c.loop-host_group.latest)
+    so_far_all c.args.asked.now.policy.now c.args.asked.now.request.now (AreRowsPerFlatAtomOfHostGroup c.args.asked.now.policy.now c.args.spec (members_of_view c.args.users.now)) gs
+    i (drop i gs) (option_map answer_without_member_and_settings c.loop-host_group.latest)
     (drop_all i gs (omega (arith, c.loop-host_group-test.false, length-map groups.rows.now (host_group_in_tables groups.tables.now)))) c.loop-host_group.invariant.so_far rows p

@@ -1,4 +1,4 @@
-use Rattle.sudoers_match.proofs.Common.{AreRowsOfSpec, Has_at, IfSome, IsAnswerOfRowsSoFar, IsFoundInLines, IsValidRequestCache, answer_of_found, ap, arith, drop, drop_all, host_groups_of_view, line_of_row, map}
+use Rattle.sudoers_match.proofs.Common.{AreRowsPerFlatAtomOfSpec, Has_at, IfSome, IsAnswerOfRowsSoFar, HasMemberAndSettingsFromLines, IsValidRequestCache, answer_without_member_and_settings, ap, arith, drop, drop_all, host_groups_of_view, line_of_row, map}
 use Rattle.sudoers_match.proofs.Common.{members_of_view, option_map, slice_get, specs_with_line_numbers, subst, sym, user_specs_of_lines, ◌+◌, ◌∙◌, ◌≡◌}
 use Rattle.sudoers_match_list.proofs.Exists.{list_is_flat_or_leads_to_cycle}
 use Rattle.sudoers_match.proofs.Existing.{some_rows}
@@ -43,24 +43,24 @@ loop-line-preserved c =
     let all = user_specs_of_lines (map (line_of_row t) rows) in
     let more = user_specs_of_lines (map (line_of_row t) (drop (i + 1) rows)) in
     let so_far = c.loop-line.invariant in
-    let Part = AreRowsOfSpec lines in
+    let Part = AreRowsPerFlatAtomOfSpec lines in
     let here = numbered_spec t rows i _ c.loop-line-test.true c.node_of_row.result c.node_of_row.ensures in
     elim c.match-node_of_row.branch [
       | in-Spec+in_ok-found w ↦ record {
         question = subst (IsValidRequestCache lines r) (sym w.question-is) w.in_ok-found.ensures.kept;
         few = omega (arith, so_far.few, w.spec-is);
-        so_far = subst (λ s. IsAnswerOfRowsSoFar Part lines r all s more (option_map answer_of_found c.match-node_of_row.latest)) (sym w.spec-is)
+        so_far = subst (λ s. IsAnswerOfRowsSoFar Part lines r all s more (option_map answer_without_member_and_settings c.match-node_of_row.latest)) (sym w.spec-is)
             (subst (IsAnswerOfRowsSoFar Part lines r all (c.loop-line.spec + 1) more)
-            (sym (ap (option_map answer_of_found) (w.latest-is ∙ w.or-latest.ensures) ∙ option_map_distributes_over_option_or answer_of_found w.in_ok-found.found c.loop-line.latest))
+            (sym (ap (option_map answer_without_member_and_settings) (w.latest-is ∙ w.or-latest.ensures) ∙ option_map_distributes_over_option_or answer_without_member_and_settings w.in_ok-found.found c.loop-line.latest))
             (so_far_more lines r Part all c.loop-line.spec (spec t rows i _ c.loop-line-test.true c.node_of_row.result c.node_of_row.ensures w.in-Spec.users w.in-Spec.groups w.in-Spec.is)
-            (user_specs_of_lines (map (line_of_row t) (drop i rows))) more (option_map answer_of_found c.loop-line.latest) (option_map answer_of_found w.in_ok-found.found)
+            (user_specs_of_lines (map (line_of_row t) (drop i rows))) more (option_map answer_without_member_and_settings c.loop-line.latest) (option_map answer_without_member_and_settings w.in_ok-found.found)
             (left_spec t rows i _ c.loop-line-test.true c.node_of_row.result c.node_of_row.ensures w.in-Spec.users w.in-Spec.groups w.in-Spec.is) so_far.so_far
             (λ rs p. w.in_ok-found.ensures.answer rs p)));
         numbered = subst (λ s. drop s (specs_with_line_numbers 0 (map (line_of_row t) rows)) ≡ specs_with_line_numbers (i + 1) (map (line_of_row t) (drop (i + 1) rows))) (sym w.spec-is)
             (rest_after_first_is_from_next (specs_with_line_numbers 0 (map (line_of_row t) rows)) c.loop-line.spec _ _ (so_far.numbered ∙ here w.in-Spec.users w.in-Spec.groups w.in-Spec.is));
-        found = subst (λ o. IfSome o (IsFoundInLines (map (line_of_row t) rows))) (sym (w.latest-is ∙ w.or-latest.ensures))
-            (some_or (IsFoundInLines (map (line_of_row t) rows)) w.in_ok-found.found c.loop-line.latest
-            (some_then _ (IsFoundInLines (map (line_of_row t) rows))
+        found = subst (λ o. IfSome o (HasMemberAndSettingsFromLines (map (line_of_row t) rows))) (sym (w.latest-is ∙ w.or-latest.ensures))
+            (some_or (HasMemberAndSettingsFromLines (map (line_of_row t) rows)) w.in_ok-found.found c.loop-line.latest
+            (some_then _ (HasMemberAndSettingsFromLines (map (line_of_row t) rows))
             (answer_in_spec_is_found_in_lines (map (line_of_row t) rows) i c.loop-line.spec (spec t rows i _ c.loop-line-test.true c.node_of_row.result c.node_of_row.ensures w.in-Spec.users w.in-Spec.groups w.in-Spec.is)
             (first_of_rest_is_element_at_index (specs_with_line_numbers 0 (map (line_of_row t) rows)) c.loop-line.spec _ _ (so_far.numbered ∙ here w.in-Spec.users w.in-Spec.groups w.in-Spec.is)))
             w.in_ok-found.found w.in_ok-found.ensures.found)
@@ -69,18 +69,18 @@ loop-line-preserved c =
       | in_default w ↦ record {
         question = subst (IsValidRequestCache lines r) (sym w.question-is) so_far.question;
         few = omega (arith, so_far.few, w.spec-is);
-        so_far = subst (λ s. IsAnswerOfRowsSoFar Part lines r all s more (option_map answer_of_found c.match-node_of_row.latest)) (sym w.spec-is)
-            (subst (λ o. IsAnswerOfRowsSoFar Part lines r all c.loop-line.spec more (option_map answer_of_found o)) (sym w.latest-is)
-            (subst (λ left. IsAnswerOfRowsSoFar Part lines r all c.loop-line.spec left (option_map answer_of_found c.loop-line.latest))
+        so_far = subst (λ s. IsAnswerOfRowsSoFar Part lines r all s more (option_map answer_without_member_and_settings c.match-node_of_row.latest)) (sym w.spec-is)
+            (subst (λ o. IsAnswerOfRowsSoFar Part lines r all c.loop-line.spec more (option_map answer_without_member_and_settings o)) (sym w.latest-is)
+            (subst (λ left. IsAnswerOfRowsSoFar Part lines r all c.loop-line.spec left (option_map answer_without_member_and_settings c.loop-line.latest))
             (left_none t rows i _ c.loop-line-test.true c.node_of_row.result c.node_of_row.ensures w.in_default.not-Spec) so_far.so_far));
         numbered = subst (λ s. drop s (specs_with_line_numbers 0 (map (line_of_row t) rows)) ≡ specs_with_line_numbers (i + 1) (map (line_of_row t) (drop (i + 1) rows))) (sym w.spec-is)
             (so_far.numbered ∙ numbered_none t rows i _ c.loop-line-test.true c.node_of_row.result c.node_of_row.ensures w.in_default.not-Spec);
-        found = subst (λ o. IfSome o (IsFoundInLines (map (line_of_row t) rows))) (sym w.latest-is) so_far.found;
+        found = subst (λ o. IfSome o (HasMemberAndSettingsFromLines (map (line_of_row t) rows))) (sym w.latest-is) so_far.found;
       }
     ]
 
 pub returns-clause-found : goal.returns-clause-found
-returns-clause-found c = subst (λ ls. IfSome c.loop-line.latest (IsFoundInLines ls)) c.lines-lines.ensures c.loop-line.invariant.found
+returns-clause-found c = subst (λ ls. IfSome c.loop-line.latest (HasMemberAndSettingsFromLines ls)) c.lines-lines.ensures c.loop-line.invariant.found
 
 pub returns-clause-answer : goal.returns-clause-answer
 returns-clause-answer c =
@@ -93,8 +93,8 @@ returns-clause-answer c =
     record {
       rows = w.0;
       are_rows = w.1;
-      answers = so_far_all lines r (AreRowsOfSpec lines) (user_specs_of_lines lines) c.loop-line.spec (user_specs_of_lines (map (line_of_row t) (drop i rows))) (option_map answer_of_found c.loop-line.latest)
+      answers = so_far_all lines r (AreRowsPerFlatAtomOfSpec lines) (user_specs_of_lines lines) c.loop-line.spec (user_specs_of_lines (map (line_of_row t) (drop i rows))) (option_map answer_without_member_and_settings c.loop-line.latest)
           (ap (λ xs. user_specs_of_lines (map (line_of_row t) xs)) (drop_all i rows c.loop-line-test.false))
-          (subst (λ ls. IsAnswerOfRowsSoFar (AreRowsOfSpec lines) lines r (user_specs_of_lines ls) c.loop-line.spec (user_specs_of_lines (map (line_of_row t) (drop i rows))) (option_map answer_of_found c.loop-line.latest)) c.lines-lines.ensures
+          (subst (λ ls. IsAnswerOfRowsSoFar (AreRowsPerFlatAtomOfSpec lines) lines r (user_specs_of_lines ls) c.loop-line.spec (user_specs_of_lines (map (line_of_row t) (drop i rows))) (option_map answer_without_member_and_settings c.loop-line.latest)) c.lines-lines.ensures
           c.loop-line.invariant.so_far) w.0 w.1;
     }

@@ -1,4 +1,4 @@
-use Rattle.sudoers_match_list.proofs.Common.{PendingMembers, [], ap, definitions_of_lines, false, length, list_expanded_n_times, map, member_in_tables, members_left_to_write, rules, ◌++◌, ◌∙◌, ◌∷◌, ◌≡◌}
+use Rattle.sudoers_match_list.proofs.Common.{PendingListPart, [], ap, definitions_of_lines, false, length, list_expanded_n_times, map, member_in_tables, members_left_to_write, rules, ◌++◌, ◌∙◌, ◌∷◌, ◌≡◌}
 use Rattle.sudoers_match_list.proofs.Parts.{members_not_negated_are_unchanged}
 use Rattle.sudoers_match_list.proofs.flatten.flatten_member_list.Goals as goal
 
@@ -9,7 +9,7 @@ loop-part-init c =
     let lines = aliases.policy.now in
     let t = aliases.lines.tables.now in
     let ms = map (member_in_tables t) c.args.rows.now in
-    let first : PendingMembers = record { rows = c.args.rows; negated = false; times = c.len.result } in
+    let first : PendingListPart = record { rows = c.args.rows; negated = false; times = c.len.result } in
     let none : c.new-flat.result.items ≡ [] = search rules in
     let no_parts : c.new-parts.result.items ≡ [] = search rules in
     let one : c.push.new.self.items ≡ first ∷ [] = c.in_ok-push.ensures.items ∙ ap (λ ps. ps ++ first ∷ []) no_parts in

@@ -1,7 +1,7 @@
-use Rattle.sudoers_match_list.proofs.Common.{IfErr-weaker, IsAliasReplacement, List, PendingMembers, [], ap, arith, expanded_member_limit, expansion_steps_left, inl, inr, length, length-append, length-map}
+use Rattle.sudoers_match_list.proofs.Common.{IfErr-weaker, IsPendingPartInPlaceOfAliasMember, List, PendingListPart, [], ap, arith, expanded_member_limit, expansion_steps_left, inl, inr, length, length-append, length-map}
 use Rattle.sudoers_match_list.proofs.Common.{list_expanded_n_times, map, member_in_tables, member_under_negation, members_left_to_write, nil_from_length, on_ok_weaker, refl, rules, subst, sym, ℕ, ◌++◌, ◌<◌, ◌∙◌}
 use Rattle.sudoers_match_list.proofs.Common.{◌∷◌, ◌≡◌, ◌≤◌, ◌⊎◌}
-use Rattle.sudoers_match_list.specs.declared.fault.FlattenFault.TheVariants.{TooLarge, NoMemory}
+use Rattle.sudoers_match_list.specs.declared.flatten_size_fault.FlattenSizeFault.TheVariants.{TooLarge, NoMemory}
 use Rattle.sudoers_match_list.proofs.Parts.{none_written, none_stepped, left_split, plain_stepped, alias_written, alias_stepped}
 use Rattle.sudoers_match_list.proofs.Appended.{pushed_row_takes_next_value}
 use Rattle.sudoers_match_list.proofs.flatten.write_next_pending_member.Goals as goal
@@ -31,7 +31,7 @@ returns-in-None-clause-rows c =
     let t = aliases.lines.tables.now in
     let p = c.args.part.now in
     let ps = c.args.parts.now.items in
-    let q : PendingMembers = record { rows = c.in-Some.rest; negated = p.negated; times = p.times } in
+    let q : PendingListPart = record { rows = c.in-Some.rest; negated = p.negated; times = p.times } in
     let r = c.flip_member_sign_if_negated-row.result in
     let is : p.rows.now ≡ c.in-Some.row.now ∷ c.in-Some.rest.now = search rules in
     let plain : list_expanded_n_times p.times k lines (member_in_tables t r ∷ []) ≡ member_in_tables t r ∷ [] = c.in-None.ensures in
@@ -54,7 +54,7 @@ returns-in-None-clause-fewer c =
     let t = aliases.lines.tables.now in
     let p = c.args.part.now in
     let ps = c.args.parts.now.items in
-    let q : PendingMembers = record { rows = c.in-Some.rest; negated = p.negated; times = p.times } in
+    let q : PendingListPart = record { rows = c.in-Some.rest; negated = p.negated; times = p.times } in
     let is : p.rows.now ≡ c.in-Some.row.now ∷ c.in-Some.rest.now = search rules in
     on_ok_weaker c.push_member_within_limit.result
     (λ pushed. subst (λ qs. expansion_steps_left k lines t qs < expansion_steps_left k lines t (ps ++ p ∷ [])) (sym c.in_ok-push.ensures.items)
@@ -70,7 +70,7 @@ returns-in-None-clause-fault c =
     let p = c.args.part.now in
     let ps = c.args.parts.now.items in
     let flat = c.args.flat.now.items in
-    let q : PendingMembers = record { rows = c.in-Some.rest; negated = p.negated; times = p.times } in
+    let q : PendingListPart = record { rows = c.in-Some.rest; negated = p.negated; times = p.times } in
     let r = c.flip_member_sign_if_negated-row.result in
     let is : p.rows.now ≡ c.in-Some.row.now ∷ c.in-Some.rest.now = search rules in
     let plain : list_expanded_n_times p.times k lines (member_in_tables t r ∷ []) ≡ member_in_tables t r ∷ [] = c.in-None.ensures in
@@ -84,38 +84,38 @@ returns-in-None-clause-fault c =
     (λ fault why. elim why [ inl n ↦ inl n | inr h ↦ inr (h.0, one_longer (member_in_tables t) flat (member_in_tables t r) (members_left_to_write k lines t (ps ++ q ∷ [])) (members_left_to_write k lines t (ps ++ p ∷ [])) expanded_member_limit next h.1) ])
     c.push_member_within_limit.ensures.fault
 
-pub returns-in_ok-push-in-Some-find_alias_replacement-clause-rows : goal.returns-in_ok-push-in-Some-find_alias_replacement-clause-rows
-returns-in_ok-push-in-Some-find_alias_replacement-clause-rows c =
+pub returns-in_ok-push-in-Some-find_pending_part_in_place_of_alias_member-clause-rows : goal.returns-in_ok-push-in-Some-find_pending_part_in_place_of_alias_member-clause-rows
+returns-in_ok-push-in-Some-find_pending_part_in_place_of_alias_member-clause-rows c =
     let k = c.args.kind in
     let aliases = c.args.source.now in
     let lines = aliases.policy.now in
     let t = aliases.lines.tables.now in
     let p = c.args.part.now in
     let ps = c.args.parts.now.items in
-    let q : PendingMembers = record { rows = c.in-Some.rest; negated = p.negated; times = p.times } in
-    let a = c.in-Some-find_alias_replacement.members in
+    let q : PendingListPart = record { rows = c.in-Some.rest; negated = p.negated; times = p.times } in
+    let a = c.in-Some-find_pending_part_in_place_of_alias_member.members in
     let is : p.rows.now ≡ c.in-Some.row.now ∷ c.in-Some.rest.now = search rules in
-    let new : c.push-in-Some-find_alias_replacement.new.self.items ≡ (ps ++ q ∷ []) ++ a ∷ [] =
-    c.in_ok-push-in-Some-find_alias_replacement.ensures.items ∙ ap (λ qs. qs ++ a ∷ []) c.in_ok-push.ensures.items in
-    let replaces : IsAliasReplacement k lines t p.times (member_under_negation p.negated (member_in_tables t c.in-Some.row.now)) a =
-    subst (λ m. IsAliasReplacement k lines t p.times m a) (c.flip_member_sign_if_negated-row.ensures t) c.in-Some-find_alias_replacement.ensures in
+    let new : c.push-in-Some-find_pending_part_in_place_of_alias_member.new.self.items ≡ (ps ++ q ∷ []) ++ a ∷ [] =
+    c.in_ok-push-in-Some-find_pending_part_in_place_of_alias_member.ensures.items ∙ ap (λ qs. qs ++ a ∷ []) c.in_ok-push.ensures.items in
+    let replaces : IsPendingPartInPlaceOfAliasMember k lines t p.times (member_under_negation p.negated (member_in_tables t c.in-Some.row.now)) a =
+    subst (λ m. IsPendingPartInPlaceOfAliasMember k lines t p.times m a) (c.flip_member_sign_if_negated-row.ensures t) c.in-Some-find_pending_part_in_place_of_alias_member.ensures in
     ap (λ ms. map (member_in_tables t) c.args.flat.now.items ++ ms)
     (ap (members_left_to_write k lines t) new ∙ alias_written k lines t ps p q c.in-Some.row.now c.in-Some.rest.now is refl refl refl a replaces)
 
-pub returns-in_ok-push-in-Some-find_alias_replacement-clause-fewer : goal.returns-in_ok-push-in-Some-find_alias_replacement-clause-fewer
-returns-in_ok-push-in-Some-find_alias_replacement-clause-fewer c =
+pub returns-in_ok-push-in-Some-find_pending_part_in_place_of_alias_member-clause-fewer : goal.returns-in_ok-push-in-Some-find_pending_part_in_place_of_alias_member-clause-fewer
+returns-in_ok-push-in-Some-find_pending_part_in_place_of_alias_member-clause-fewer c =
     let k = c.args.kind in
     let aliases = c.args.source.now in
     let lines = aliases.policy.now in
     let t = aliases.lines.tables.now in
     let p = c.args.part.now in
     let ps = c.args.parts.now.items in
-    let q : PendingMembers = record { rows = c.in-Some.rest; negated = p.negated; times = p.times } in
-    let a = c.in-Some-find_alias_replacement.members in
+    let q : PendingListPart = record { rows = c.in-Some.rest; negated = p.negated; times = p.times } in
+    let a = c.in-Some-find_pending_part_in_place_of_alias_member.members in
     let is : p.rows.now ≡ c.in-Some.row.now ∷ c.in-Some.rest.now = search rules in
-    let new : c.push-in-Some-find_alias_replacement.new.self.items ≡ (ps ++ q ∷ []) ++ a ∷ [] =
-    c.in_ok-push-in-Some-find_alias_replacement.ensures.items ∙ ap (λ qs. qs ++ a ∷ []) c.in_ok-push.ensures.items in
-    let replaces : IsAliasReplacement k lines t p.times (member_under_negation p.negated (member_in_tables t c.in-Some.row.now)) a =
-    subst (λ m. IsAliasReplacement k lines t p.times m a) (c.flip_member_sign_if_negated-row.ensures t) c.in-Some-find_alias_replacement.ensures in
+    let new : c.push-in-Some-find_pending_part_in_place_of_alias_member.new.self.items ≡ (ps ++ q ∷ []) ++ a ∷ [] =
+    c.in_ok-push-in-Some-find_pending_part_in_place_of_alias_member.ensures.items ∙ ap (λ qs. qs ++ a ∷ []) c.in_ok-push.ensures.items in
+    let replaces : IsPendingPartInPlaceOfAliasMember k lines t p.times (member_under_negation p.negated (member_in_tables t c.in-Some.row.now)) a =
+    subst (λ m. IsPendingPartInPlaceOfAliasMember k lines t p.times m a) (c.flip_member_sign_if_negated-row.ensures t) c.in-Some-find_pending_part_in_place_of_alias_member.ensures in
     subst (λ qs. expansion_steps_left k lines t qs < expansion_steps_left k lines t (ps ++ p ∷ [])) (sym new)
     (alias_stepped k lines t ps p q c.in-Some.row.now c.in-Some.rest.now is refl refl refl a replaces)

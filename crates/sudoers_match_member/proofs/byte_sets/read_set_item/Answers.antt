@@ -2,9 +2,9 @@ use Rattle.std.proofs.Common.{◌≡◌, ℕ, ◌-◌, ◌≤◌, Bool, true, fa
 use Rattle.std.specs.Prelude.{◌==◌, if◌then◌else◌}
 use Rattle.sudoers_match_member.specs.declared.byte_classes.PosixByteClass.{PosixByteClass}
 use Rattle.sudoers_match_member.specs.declared.byte_sets.SetItem.TheVariants.{Of}
-use Rattle.sudoers_match_member.specs.Class.{has_name_prefix, first_class_named_at, class_named_at, all_posix_classes, class_name_of}
+use Rattle.sudoers_match_member.specs.Class.{has_bracketed_class_name_prefix, first_class_named_at, class_named_at, all_posix_classes, bracketed_name_of_class}
 use Rattle.sudoers_match_member.specs.Sets.{set_item_at, class_or_range_item, range_from_lower_bound, range_with_upper_bound, range_bound_at, upper_bound_after_dash}
-use Rattle.sudoers_match_member.specs.Folded.{case_folded_bytes}
+use Rattle.sudoers_match_member.specs.Folded.{bytes_case_folded_if_wanted}
 use Rattle.sudoers_match_member.proofs.AsRead.{case_folding_keeps_rest_from_place, case_folding_keeps_length}
 use Rattle.sudoers_match_member.proofs.byte_sets.read_set_item.Goals as goal
 
@@ -12,20 +12,20 @@ right_of : (p q : Bool) → (p && q) ≡ true → q ≡ true
 right_of true q e = e
 right_of false q e = absurd cc
 
-starts_within : (bytes word : List ℕ) → has_name_prefix bytes word ≡ true → length word ≤ length bytes
+starts_within : (bytes word : List ℕ) → has_bracketed_class_name_prefix bytes word ≡ true → length word ≤ length bytes
 starts_within bytes [] e = omega arith
 starts_within [] (c ∷ cs) e = absurd cc
-starts_within (b ∷ bs) (c ∷ cs) e = let h = starts_within bs cs (right_of (b == c) (has_name_prefix bs cs) e) in omega arith
+starts_within (b ∷ bs) (c ∷ cs) e = let h = starts_within bs cs (right_of (b == c) (has_bracketed_class_name_prefix bs cs) e) in omega arith
 
-named_within : (ks : List PosixByteClass) (bytes : List ℕ) (k : PosixByteClass) → first_class_named_at ks bytes ≡ Some k → length (class_name_of k) ≤ length bytes
+named_within : (ks : List PosixByteClass) (bytes : List ℕ) (k : PosixByteClass) → first_class_named_at ks bytes ≡ Some k → length (bracketed_name_of_class k) ≤ length bytes
 named_within [] bytes k e = absurd cc
 named_within (j ∷ ks) bytes k e =
-    elim (has_name_prefix bytes (class_name_of j)) as (λ t. has_name_prefix bytes (class_name_of j) ≡ t → (if t then Some j else first_class_named_at ks bytes) ≡ Some k → length (class_name_of k) ≤ length bytes) [
-      | true ↦ (λ is f. let same : j ≡ k = cc in subst (λ (i : PosixByteClass). length (class_name_of i) ≤ length bytes) same (starts_within bytes (class_name_of j) is))
+    elim (has_bracketed_class_name_prefix bytes (bracketed_name_of_class j)) as (λ t. has_bracketed_class_name_prefix bytes (bracketed_name_of_class j) ≡ t → (if t then Some j else first_class_named_at ks bytes) ≡ Some k → length (bracketed_name_of_class k) ≤ length bytes) [
+      | true ↦ (λ is f. let same : j ≡ k = cc in subst (λ (i : PosixByteClass). length (bracketed_name_of_class i) ≤ length bytes) same (starts_within bytes (bracketed_name_of_class j) is))
       | false ↦ (λ is f. named_within ks bytes k f)
     ] refl e
 
-class_within : (bytes : List ℕ) (k : PosixByteClass) → class_named_at bytes ≡ Some k → length (class_name_of k) ≤ length bytes
+class_within : (bytes : List ℕ) (k : PosixByteClass) → class_named_at bytes ≡ Some k → length (bracketed_name_of_class k) ≤ length bytes
 unfolding class_named_at
 class_within bytes k e = named_within all_posix_classes bytes k e
 
@@ -39,21 +39,21 @@ by_range bytes low e f = ap (λ o. class_or_range_item o bytes) e ∙ ap (λ o. 
 
 pub returns-in-Some-clause-item : goal.returns-in-Some-clause-item
 returns-in-Some-clause-item c =
-    let e : (Of c.in-Some.class, length c.to_class_name.result.now) ≡ (Of c.in-Some.class, length (class_name_of c.in-Some.class)) = ap (λ (name : List ℕ). (Of c.in-Some.class, length name)) c.to_class_name.ensures in
-    e ∙ sym (by_class (case_folded_bytes c.args.lower c.args.bytes.now) c.in-Some.class (sym c.find_class_named_at.ensures ∙ c.in-Some.is))
+    let e : (Of c.in-Some.class, length c.to_bracketed_name.result.now) ≡ (Of c.in-Some.class, length (bracketed_name_of_class c.in-Some.class)) = ap (λ (name : List ℕ). (Of c.in-Some.class, length name)) c.to_bracketed_name.ensures in
+    e ∙ sym (by_class (bytes_case_folded_if_wanted c.args.lower c.args.bytes.now) c.in-Some.class (sym c.find_class_named_at.ensures ∙ c.in-Some.is))
 
 pub returns-in-Some-clause-within : goal.returns-in-Some-clause-within
 returns-in-Some-clause-within c =
-    omega (arith, ap length c.to_class_name.ensures, case_folding_keeps_length c.args.lower c.args.bytes.now, class_within (case_folded_bytes c.args.lower c.args.bytes.now) c.in-Some.class (sym c.find_class_named_at.ensures ∙ c.in-Some.is))
+    omega (arith, ap length c.to_bracketed_name.ensures, case_folding_keeps_length c.args.lower c.args.bytes.now, class_within (bytes_case_folded_if_wanted c.args.lower c.args.bytes.now) c.in-Some.class (sym c.find_class_named_at.ensures ∙ c.in-Some.is))
 
 pub returns-in_default-read_range_bound-clause-item : goal.returns-in_default-read_range_bound-clause-item
 returns-in_default-read_range_bound-clause-item c =
-    sym (by_range (case_folded_bytes c.args.lower c.args.bytes.now) None (sym c.find_class_named_at.ensures ∙ c.in_default.is) (sym c.read_range_bound.ensures ∙ c.in_default-read_range_bound.is))
+    sym (by_range (bytes_case_folded_if_wanted c.args.lower c.args.bytes.now) None (sym c.find_class_named_at.ensures ∙ c.in_default.is) (sym c.read_range_bound.ensures ∙ c.in_default-read_range_bound.is))
 
-by_bound : (lower : Bool) (bytes : List ℕ) (low n : ℕ) (high : Option (ℕ × ℕ)) → class_named_at (case_folded_bytes lower bytes) ≡ None → range_bound_at (case_folded_bytes lower bytes) ≡ Some (low, n)
-    → high ≡ upper_bound_after_dash (case_folded_bytes lower (take (length bytes - n) (drop n bytes))) → set_item_at (case_folded_bytes lower bytes) ≡ range_with_upper_bound low n high
+by_bound : (lower : Bool) (bytes : List ℕ) (low n : ℕ) (high : Option (ℕ × ℕ)) → class_named_at (bytes_case_folded_if_wanted lower bytes) ≡ None → range_bound_at (bytes_case_folded_if_wanted lower bytes) ≡ Some (low, n)
+    → high ≡ upper_bound_after_dash (bytes_case_folded_if_wanted lower (take (length bytes - n) (drop n bytes))) → set_item_at (bytes_case_folded_if_wanted lower bytes) ≡ range_with_upper_bound low n high
 by_bound lower bytes low n high e f g =
-    by_range (case_folded_bytes lower bytes) (Some (low, n)) e f ∙ ap (λ o. range_with_upper_bound low n o) (ap upper_bound_after_dash (sym (case_folding_keeps_rest_from_place lower bytes n)) ∙ sym g)
+    by_range (bytes_case_folded_if_wanted lower bytes) (Some (low, n)) e f ∙ ap (λ o. range_with_upper_bound low n o) (ap upper_bound_after_dash (sym (case_folding_keeps_rest_from_place lower bytes n)) ∙ sym g)
 
 pub returns-in-Some-read_bound_after_dash-clause-item : goal.returns-in-Some-read_bound_after_dash-clause-item
 returns-in-Some-read_bound_after_dash-clause-item c =

@@ -1,5 +1,5 @@
 use Rattle.std.proofs.Common.{subst}
-use Rattle.sudoers_match_member.specs.internal.Known.{IsBracketlessTailAfterStar}
+use Rattle.sudoers_match_member.specs.internal.Known.{HasTailWithoutClosingBracketAfterStar}
 use Rattle.sudoers_match_member.proofs.Left.{progress_to_star_is_overall_progress}
 use Rattle.sudoers_match_member.proofs.wildcards.matches_whole_pattern.Goals as goal
 
@@ -12,8 +12,8 @@ loop-run-init c = record {
   behind = c.match_up_to_star-run.ensures.behind;
 }
 
-pub count_starless_items-requires : goal.count_starless_items-requires
-count_starless_items-requires c = record {
+pub count_items_if_no_star-requires : goal.count_items_if_no_star-requires
+count_items_if_no_star-requires c = record {
   known = c.forget_cached_sets.ensures.known c.args.mode c.args.lower c.in-Star.pattern.now
-      (subst (IsBracketlessTailAfterStar c.loop-run.known.tail) c.in-Star.is c.loop-run.invariant.behind);
+      (subst (HasTailWithoutClosingBracketAfterStar c.loop-run.known.tail) c.in-Star.is c.loop-run.invariant.behind);
 }

@@ -1,12 +1,12 @@
-use Rattle.sudoers_match_member.specs.Folded.{case_folded_bytes}
-use Rattle.sudoers_match_member.specs.internal.Run.{IsGlobProgressOfWhole, remaining_pattern_measure}
-use Rattle.sudoers_match_member.specs.internal.Known.{IsBracketlessTailAfterStar}
+use Rattle.sudoers_match_member.specs.Folded.{bytes_case_folded_if_wanted}
+use Rattle.sudoers_match_member.specs.internal.Run.{IsMatchOutcomeOfWholePattern, remaining_pattern_measure}
+use Rattle.sudoers_match_member.specs.internal.Known.{HasTailWithoutClosingBracketAfterStar}
 use Rattle.sudoers_match_member.proofs.wildcards.matches_whole_pattern.Given as goal
 
 abbrev pub invariant-loop-run : goal.invariant-loop-run
 invariant-loop-run l = record {
-  so_far : IsGlobProgressOfWhole l.mode l.lower (case_folded_bytes l.lower l.fn.pattern) (case_folded_bytes l.lower l.fn.text) l.run;
-  behind : IsBracketlessTailAfterStar l.known.tail l.run;
+  so_far : IsMatchOutcomeOfWholePattern l.mode l.lower (bytes_case_folded_if_wanted l.lower l.fn.pattern) (bytes_case_folded_if_wanted l.lower l.fn.text) l.run;
+  behind : HasTailWithoutClosingBracketAfterStar l.known.tail l.run;
 }
 
 abbrev pub decreases-loop-run : goal.decreases-loop-run

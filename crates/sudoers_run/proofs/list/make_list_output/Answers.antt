@@ -12,8 +12,8 @@ returns-clause-outcome c =
     let w = c.args.words.now in
     let some : w.words.now ≡ [] → ⊥ = λ e. let none : length w.words.now ≡ 0 = ap length e in search (rules, none, c.is_empty.ensures, c.if-is_empty.false) in
     let read : c.args.policy ≡ Ok c.in_ok-policy.policy = search rules in
-    answer_result_is_outcome_for_policy w c.args.policy c.args.passwd.now c.args.group.now c.in_ok-policy.policy c.in_ok-people.people c.in_ok-who.who c.make_command_output.result
-    read c.in_ok-people.ensures.people c.in_ok-who.ensures.who some c.make_command_output.ensures.asked
+    answer_result_is_outcome_for_policy w c.args.policy c.args.passwd.now c.args.group.now c.in_ok-policy.policy c.in_ok-people.people c.in_ok-who.who c.make_list_output_for_command.result
+    read c.in_ok-people.ensures.people c.in_ok-who.ensures.who some c.make_list_output_for_command.ensures.asked
 
 nothing : {X : Type 0} (xs : List X) → length xs ≡ 0 → xs ≡ []
 nothing [] is = refl

@@ -4,8 +4,8 @@ use Rattle.sudoers_run.specs.declared.fault.LayerFault.{LayerFault}
 use Rattle.sudoers_run.specs.declared.fault.LayerFault.TheVariants as layer
 use Rattle.sudoers_run.specs.declared.fault.ToolFault.{ToolFault}
 use Rattle.sudoers_run.specs.declared.fault.ToolFault.TheVariants as tool
-use Rattle.sudoers_run.specs.Device.{AppendsPrefixOfBytes, ReaderMeter}
-use Rattle.sudoers_run.specs.List.{IsListOutcome, IsListOutcomeForPolicy, HoldsOfPeopleTexts, IsListFaultOfFiles}
+use Rattle.sudoers_files.specs.Device.{AppendsPrefixOfBytes, ReaderMeter}
+use Rattle.sudoers_run.specs.List.{IsListOutcome, IsListOutcomeForPolicy, HoldsOfPeopleTexts, IsStatedOrOutsideListFault}
 use Rattle.sudoers_run.specs.Policy.{IsPolicyFromRoot}
 use Rattle.sudoers_run.proofs.ListEnds.{AreReadingEndsOfListFiles, result_of_both_files_reads_people_files, fault_in_group_reads_both_people_files, fault_in_passwd_reads_no_group_file, fault_before_loading_reads_no_people_files, outcome_for_policy_has_its_reading_ends, layer_fault_has_its_reading_ends}
 use Rattle.sudoers_run.proofs.ListLemmas.{property_of_all_files_is_of_known, reading_fault_is_list_fault_of_files, outcome_of_fronts_is_outcome_of_texts, property_of_all_texts_is_of_people, people_of_equal_texts_share_properties, property_of_fronts_holds_of_people_texts, outcome_fault_is_list_fault_of_files, gather_fault_is_list_fault_of_files}
@@ -20,9 +20,9 @@ returns-in_err-policy-clause-fault g c =
     let same : c.from_residual.result ≡ Err (tool.Layer fault) = search rules in
     let passwd : ReaderMeter = g.U.Source.meter c.args.passwd.now in
     let group : ReaderMeter = g.G.Source.meter c.args.group.now in
-    subst (λ r. IfErr r (λ (x : ToolFault). IfSome (g.F.Files.shelf c.args.files.now).files (λ known. HoldsOfPeopleTexts passwd group (IsListFaultOfFiles w root known x)))) (sym same)
-    (property_of_known_files_is_weakened (g.F.Files.shelf c.args.files.now).files _ (λ known. HoldsOfPeopleTexts passwd group (IsListFaultOfFiles w root known (tool.Layer fault)))
-    (λ known tells. property_of_all_texts_is_of_people passwd group (IsListFaultOfFiles w root known (tool.Layer fault)) (gather_fault_is_list_fault_of_files w root known fault tells)) c.in_err-policy.ensures.fault)
+    subst (λ r. IfErr r (λ (x : ToolFault). IfSome (g.F.Files.shelf c.args.files.now).files (λ known. HoldsOfPeopleTexts passwd group (IsStatedOrOutsideListFault w root known x)))) (sym same)
+    (property_of_known_files_is_weakened (g.F.Files.shelf c.args.files.now).files _ (λ known. HoldsOfPeopleTexts passwd group (IsStatedOrOutsideListFault w root known (tool.Layer fault)))
+    (λ known tells. property_of_all_texts_is_of_people passwd group (IsStatedOrOutsideListFault w root known (tool.Layer fault)) (gather_fault_is_list_fault_of_files w root known fault tells)) c.in_err-policy.ensures.fault)
 
 pub returns-in_err-passwd-clause-fault : goal.returns-in_err-passwd-clause-fault
 returns-in_err-passwd-clause-fault g c =
@@ -32,9 +32,9 @@ returns-in_err-passwd-clause-fault g c =
     let same : c.from_residual-in_err-passwd.result ≡ Err fault = search rules in
     let passwd : ReaderMeter = g.U.Source.meter c.args.passwd.now in
     let group : ReaderMeter = g.G.Source.meter c.args.group.now in
-    subst (λ r. IfErr r (λ (x : ToolFault). IfSome (g.F.Files.shelf c.args.files.now).files (λ known. HoldsOfPeopleTexts passwd group (IsListFaultOfFiles w root known x)))) (sym same)
-    (property_of_all_files_is_of_known (g.F.Files.shelf c.args.files.now).files (λ known. HoldsOfPeopleTexts passwd group (IsListFaultOfFiles w root known fault))
-    (λ known. property_of_all_texts_is_of_people passwd group (IsListFaultOfFiles w root known fault) (reading_fault_is_list_fault_of_files w root known fault c.in_err-passwd.ensures.faults)))
+    subst (λ r. IfErr r (λ (x : ToolFault). IfSome (g.F.Files.shelf c.args.files.now).files (λ known. HoldsOfPeopleTexts passwd group (IsStatedOrOutsideListFault w root known x)))) (sym same)
+    (property_of_all_files_is_of_known (g.F.Files.shelf c.args.files.now).files (λ known. HoldsOfPeopleTexts passwd group (IsStatedOrOutsideListFault w root known fault))
+    (λ known. property_of_all_texts_is_of_people passwd group (IsStatedOrOutsideListFault w root known fault) (reading_fault_is_list_fault_of_files w root known fault c.in_err-passwd.ensures.faults)))
 
 pub returns-in_err-group-clause-fault : goal.returns-in_err-group-clause-fault
 returns-in_err-group-clause-fault g c =
@@ -44,9 +44,9 @@ returns-in_err-group-clause-fault g c =
     let same : c.from_residual-in_err-group.result ≡ Err fault = search rules in
     let passwd : ReaderMeter = g.U.Source.meter c.args.passwd.now in
     let group : ReaderMeter = g.G.Source.meter c.args.group.now in
-    subst (λ r. IfErr r (λ (x : ToolFault). IfSome (g.F.Files.shelf c.args.files.now).files (λ known. HoldsOfPeopleTexts passwd group (IsListFaultOfFiles w root known x)))) (sym same)
-    (property_of_all_files_is_of_known (g.F.Files.shelf c.args.files.now).files (λ known. HoldsOfPeopleTexts passwd group (IsListFaultOfFiles w root known fault))
-    (λ known. property_of_all_texts_is_of_people passwd group (IsListFaultOfFiles w root known fault) (reading_fault_is_list_fault_of_files w root known fault c.in_err-group.ensures.faults)))
+    subst (λ r. IfErr r (λ (x : ToolFault). IfSome (g.F.Files.shelf c.args.files.now).files (λ known. HoldsOfPeopleTexts passwd group (IsStatedOrOutsideListFault w root known x)))) (sym same)
+    (property_of_all_files_is_of_known (g.F.Files.shelf c.args.files.now).files (λ known. HoldsOfPeopleTexts passwd group (IsStatedOrOutsideListFault w root known fault))
+    (λ known. property_of_all_texts_is_of_people passwd group (IsStatedOrOutsideListFault w root known fault) (reading_fault_is_list_fault_of_files w root known fault c.in_err-group.ensures.faults)))
 
 pub returns-in_err-policy-clause-reads : goal.returns-in_err-policy-clause-reads
 returns-in_err-policy-clause-reads g c =
@@ -109,8 +109,8 @@ returns-in_err-output-clause-fault g c =
     let passwd : ReaderMeter = g.U.Source.meter c.args.passwd.now in
     let group : ReaderMeter = g.G.Source.meter c.args.group.now in
     let told = people_of_equal_texts_share_properties _ _ _ _ c.as_slice.ensures.value c.as_slice-2.ensures.value (λ t. (fault ≡ layer.NoMemory) ⊎ IsListOutcomeForPolicy w t policy (Err fault)) c.in_err-output.ensures.outcome in
-    subst (λ r. IfErr r (λ (x : ToolFault). IfSome (g.F.Files.shelf c.args.files.now).files (λ known. HoldsOfPeopleTexts passwd group (IsListFaultOfFiles w root known x)))) (sym same)
-    (property_of_known_files_is_weakened (g.F.Files.shelf c.args.files.now).files (IsPolicyFromRoot root policy) (λ known. HoldsOfPeopleTexts passwd group (IsListFaultOfFiles w root known (tool.Layer fault)))
+    subst (λ r. IfErr r (λ (x : ToolFault). IfSome (g.F.Files.shelf c.args.files.now).files (λ known. HoldsOfPeopleTexts passwd group (IsStatedOrOutsideListFault w root known x)))) (sym same)
+    (property_of_known_files_is_weakened (g.F.Files.shelf c.args.files.now).files (IsPolicyFromRoot root policy) (λ known. HoldsOfPeopleTexts passwd group (IsStatedOrOutsideListFault w root known (tool.Layer fault)))
     (λ known of. property_of_fronts_holds_of_people_texts passwd group c.in_ok-passwd.passwd.items c.in_ok-group.group.items _ (text_read_to_limit_is_alike_reader _ _ _ c.in_ok-passwd.ensures.front) (text_read_to_limit_is_alike_reader _ _ _ c.in_ok-group.ensures.front)
     (outcome_fault_is_list_fault_of_files w root known policy c.in_ok-passwd.passwd.items c.in_ok-group.group.items fault told of)) c.in_ok-policy.ensures.policy)
 

@@ -30,21 +30,21 @@ behind_unit c =
     (reading_extends_by_unit_at_place c.args.text.now c.args.start c.loop-unit.at c.loop-unit.left c.pass_unit-left.result reading unit here (c.pass_unit-left.ensures reading.before reading.knows))
 
 -- the reading behind the run
-behind_run : (c : goal.After-pass_plain_run-left) → HasReadUnitsFromStart c.args.text.now c.args.start (c.loop-unit.at + c.len-at.result + length c.take_plain_run-run.result.now) c.pass_plain_run-left.result
+behind_run : (c : goal.After-pass_plain_run-left) → HasReadUnitsFromStart c.args.text.now c.args.start (c.loop-unit.at + c.len-at.result + length c.find_plain_run_to_pass-run.result.now) c.pass_plain_run-left.result
 behind_run c =
-    reading_extends_by_plain_run c.args.text.now c.args.start (c.loop-unit.at + c.len-at.result) c.pass_unit-left.result c.pass_plain_run-left.result c.take_plain_run-run.result.now
+    reading_extends_by_plain_run c.args.text.now c.args.start (c.loop-unit.at + c.len-at.result) c.pass_unit-left.result c.pass_plain_run-left.result c.find_plain_run_to_pass-run.result.now
     (behind_unit (goal.at.loop-unit-preserved c).After-len-at)
-    c.take_plain_run-run.ensures
+    c.find_plain_run_to_pass-run.ensures
     (record { item = c.pass_plain_run-left.ensures.item; continues = c.pass_plain_run-left.ensures.continues; begun = c.pass_plain_run-left.ensures.begun })
 
-pub slice_bounds-take_plain_run-count : goal.slice_bounds-take_plain_run-count
-slice_bounds-take_plain_run-count c =
-    let reading = behind_unit (goal.at.slice_bounds-take_plain_run-count c).After-len-at in
+pub slice_bounds-find_plain_run_to_pass-count : goal.slice_bounds-find_plain_run_to_pass-count
+slice_bounds-find_plain_run_to_pass-count c =
+    let reading = behind_unit (goal.at.slice_bounds-find_plain_run_to_pass-count c).After-len-at in
     reading.to
 
-pub slice_bounds-take_plain_run-start : goal.slice_bounds-take_plain_run-start
-slice_bounds-take_plain_run-start c =
-    let reading = behind_unit (goal.at.slice_bounds-take_plain_run-start c).After-len-at in
+pub slice_bounds-find_plain_run_to_pass-start : goal.slice_bounds-find_plain_run_to_pass-start
+slice_bounds-find_plain_run_to_pass-start c =
+    let reading = behind_unit (goal.at.slice_bounds-find_plain_run_to_pass-start c).After-len-at in
     reading.to
 
 pub loop-unit-smaller : goal.loop-unit-smaller

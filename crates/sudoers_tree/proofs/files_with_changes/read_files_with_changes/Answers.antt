@@ -1,4 +1,4 @@
-use Rattle.sudoers_tree.proofs.Common.{All, All-push, All-same, AreChangesInFileOrder, Err, HasSoundFileRows, LineChange, List, LoadFault, MatchResult, NoMemory, Ok, ParsedFileRows, Tables, [], ap, arith}
+use Rattle.sudoers_tree.proofs.Common.{All, All-push, All-same, AreFileNumbersOfChangesInOrder, Err, HasSoundFileRows, LineChange, List, LoadFault, MatchResult, NoMemory, Ok, ParsedFileRows, Tables, [], ap, arith}
 use Rattle.sudoers_tree.proofs.Common.{changes_of_file, drop, files_after_changes, table_growth_is_transitive, leading_change_count_of_file, length, map, map-append, parsed_file_of_rows, parsed_files_or_cut_fault, rules, subst, sym}
 use Rattle.sudoers_tree.proofs.Common.{take, ℕ, ◌++◌, ◌+◌, ◌<◌, ◌∙◌, ◌∷◌, ◌≡◌, ◌≤◌, ◌⊎◌}
 use Rattle.sudoers_tree.proofs.FileChanges.{AreLeadingChangesOfFile, are_ended, leading_changes_are_those_of_first_file, bring_lines, file_stays, in_order, turn_goes_on, turn_stops}
@@ -125,5 +125,5 @@ loop-number-preserved c =
           let less : i < later = omega (arith, within) in
           let before : i ≤ later = omega (arith, within) in
           ap (changes_of_file later) behind_is ∙ state.behind later less ∙ c.loop-number.invariant.3 later before,
-      subst (λ cs. AreChangesInFileOrder (i + 1) cs (length files)) (sym behind_is) state.by_files,
+      subst (λ cs. AreFileNumbersOfChangesInOrder (i + 1) cs (length files)) (sym behind_is) state.by_files,
     )

@@ -1,4 +1,4 @@
-use Rattle.sudoers_tree.proofs.Common.{All, ChangesDefinedNames, IfSome, IsAcceptedNamesChange, IsInPlaceWalkUpdate, IsLastingLineRow, KeepsFileLineCount, LineRow, List, None, Option, ParsedFile, ReplaceLinesAtSpots}
+use Rattle.sudoers_tree.proofs.Common.{All, ChangesDefinedNames, IfSome, IsAcceptedNamesChange, IsInPlaceWalkUpdate, IsLastingLineRow, KeepsLineCountWithoutFault, LineRow, List, None, Option, ParsedFile, ReplaceLinesAtSpots}
 use Rattle.sudoers_tree.proofs.Common.{Some, Tables, ap, definitions_of_lines, files_before_change, length, line_of_row, map, parsed_files_of_view, rules, walk_lines_before_change, ◌≡◌}
 use Rattle.sudoers_tree.specs.declared.in_place_update.InPlaceWalkUpdate.{InPlaceWalkUpdate}
 use Rattle.sudoers_tree.proofs.KeptNames.{kept_lines_make_in_place_walk_update}
@@ -16,7 +16,7 @@ returns c = by c.in_ok-into_walk_update_with_names.field-0 c.in_ok-into_walk_upd
     rows : List LineRow
     rows = c.in-Some.lines.items
 
-    counts : All (KeepsFileLineCount (files_before_change t c.args.before.now) others) c.args.before.now.on.now
+    counts : All (KeepsLineCountWithoutFault (files_before_change t c.args.before.now) others) c.args.before.now.on.now
     counts = search rules
 
     stand : All (IsLastingLineRow t) rows

@@ -1,4 +1,4 @@
-use Rattle.sudoers_check.proofs.Common.{DepthSearchStep, KeepsSearchInvariant, List, None, Some, [], ap, arith, length, slice_get, slice_get_within, steps_left_on_path, subst, sym, ℕ, ◌++◌, ◌-◌, ◌∙◌, ◌∷◌, ◌≡◌}
+use Rattle.sudoers_check.proofs.Common.{NodeOnSearchPath, HasSearchInvariantWithNextNode, List, None, Some, [], ap, arith, length, slice_get, slice_get_within, steps_left_on_path, subst, sym, ℕ, ◌++◌, ◌-◌, ◌∙◌, ◌∷◌, ◌≡◌}
 use Rattle.sudoers_check.proofs.Closing.{closing_nodes_keeps_met_nodes, left_closed}
 use Rattle.sudoers_check.proofs.Fuel.{pushed_step_adds_its_steps_left}
 use Rattle.sudoers_check.proofs.Lists.{popped_list_is_front_and_last}
@@ -14,7 +14,7 @@ close_open_nodes-requires-clause-place c =
 pub returns-then-start-step : goal.returns-then-start-step
 returns-then-start-step c =
     let graph = c.args.graph.now in
-    let step : DepthSearchStep = c.args.step in
+    let step : NodeOnSearchPath = c.args.step in
     let self = c.args.self.now in
     let new = c.close_open_nodes.new.self in
     let groups : List ℕ = c.pop.new.self.items in
@@ -24,12 +24,12 @@ returns-then-start-step c =
     popped_list_is_front_and_last self.groups.items groups c.pop.result self.groups.len c.in-Some.start c.pop.ensures.items c.pop.ensures.value self.groups.ok.0 last
     ∙ ap (λ n. groups ++ n ∷ []) c.if-start-step.true in
     let kept = left_closed graph self.standings.items self.marks.items self.nodes.items groups self.way.items step
-    (subst (λ gs. KeepsSearchInvariant graph None self.standings.items self.marks.items self.nodes.items gs (self.way.items ++ step ∷ [])) is c.requires.kept)
+    (subst (λ gs. HasSearchInvariantWithNextNode graph None self.standings.items self.marks.items self.nodes.items gs (self.way.items ++ step ∷ [])) is c.requires.kept)
     c.requires.edges new.standings.items new.marks.items new.nodes.items c.close_open_nodes.ensures.closed in
     record {
       kept =
-          subst (λ gs. KeepsSearchInvariant graph None new.standings.items new.marks.items new.nodes.items gs new.way.items) (sym c.close_open_nodes.ensures.groups)
-          (subst (λ way. KeepsSearchInvariant graph None new.standings.items new.marks.items new.nodes.items groups way) (sym c.close_open_nodes.ensures.way) kept);
+          subst (λ gs. HasSearchInvariantWithNextNode graph None new.standings.items new.marks.items new.nodes.items gs new.way.items) (sym c.close_open_nodes.ensures.groups)
+          (subst (λ way. HasSearchInvariantWithNextNode graph None new.standings.items new.marks.items new.nodes.items groups way) (sym c.close_open_nodes.ensures.way) kept);
       met = closing_nodes_keeps_met_nodes graph _ step.place self.standings.items self.marks.items self.nodes.items new.standings.items new.marks.items new.nodes.items c.close_open_nodes.ensures.closed;
       less =
           let way_is = ap (steps_left_on_path graph) c.close_open_nodes.ensures.way in
@@ -39,7 +39,7 @@ returns-then-start-step c =
 pub returns-in_default : goal.returns-in_default
 returns-in_default c =
     let graph = c.args.graph.now in
-    let step : DepthSearchStep = c.args.step in
+    let step : NodeOnSearchPath = c.args.step in
     let self = c.args.self.now in
     let last : None ≡ slice_get self.groups.items (length self.groups.items - 1) =
     c.in_default.ensures ∙ c.last.ensures.value ∙ ap (λ xs. slice_get xs (length xs - 1)) c.deref.ensures.value in
@@ -53,7 +53,7 @@ returns-in_default c =
 pub returns-else-start-step : goal.returns-else-start-step
 returns-else-start-step c =
     let graph = c.args.graph.now in
-    let step : DepthSearchStep = c.args.step in
+    let step : NodeOnSearchPath = c.args.step in
     let self = c.args.self.now in
     let last : Some c.in-Some.start ≡ slice_get self.groups.items (length self.groups.items - 1) =
     c.in-Some.ensures ∙ c.last.ensures.value ∙ ap (λ xs. slice_get xs (length xs - 1)) c.deref.ensures.value in

@@ -1,4 +1,4 @@
-use Rattle.sudoers_check.proofs.Common.{IsMetNode, KeepsSearchInvariant, New, None, SearchHasMetNode, Some, [], ap, length, slice_get, slice_get_read, subst, sym, ℕ, ◌∙◌, ◌≡◌}
+use Rattle.sudoers_check.proofs.Common.{IsMetNode, HasSearchInvariantWithNextNode, New, None, SearchHasMetNode, Some, [], ap, length, slice_get, slice_get_read, subst, sym, ℕ, ◌∙◌, ◌≡◌}
 use Rattle.sudoers_check.proofs.Steps.{entering_new_node_keeps_search_invariant, entering_node_keeps_met_nodes, entered_node_is_met}
 use Rattle.sudoers_check.proofs.Whole.{none_open}
 use Rattle.sudoers_check.proofs.cycles.CycleSearch.search_from_node.Goals as goal
@@ -11,8 +11,8 @@ loop-step-init c =
     let self = c.args.self.now in
     let stand : slice_get self.standings.items node ≡ Some c.index.result.now =
     slice_get_read self.standings.items (length graph) node c.index.result.now (sym c.requires.kept.standings_size) c.requires.node c.index.ensures in
-    let kept : KeepsSearchInvariant graph None self.standings.items self.marks.items self.nodes.items self.groups.items [] =
-    subst (λ way. KeepsSearchInvariant graph None self.standings.items self.marks.items self.nodes.items self.groups.items way) c.requires.way c.requires.kept in
+    let kept : HasSearchInvariantWithNextNode graph None self.standings.items self.marks.items self.nodes.items self.groups.items [] =
+    subst (λ way. HasSearchInvariantWithNextNode graph None self.standings.items self.marks.items self.nodes.items self.groups.items way) c.requires.way c.requires.kept in
     elim c.match-index.branch [
       | in-New+in_ok-enter w ↦
           let e = w.in_ok-enter.ensures in

@@ -1,4 +1,4 @@
-use Rattle.sudoers_check.proofs.Common.{IsGraph, List, PlacedDefinition, ap, append-nil, definitions_from_line_number, definitions_of_lines, drop_of_length-le, graph_nodes_of_definitions, line_of_row, map}
+use Rattle.sudoers_check.proofs.Common.{HasAllEdgeTargetsInGraph, List, PlacedDefinition, ap, append-nil, definitions_from_line_number, definitions_of_lines, drop_of_length-le, graph_nodes_of_definitions, line_of_row, map}
 use Rattle.sudoers_check.proofs.Common.{mention_graph_of_definitions, subst, sym, ℕ, ◌++◌, ◌∙◌, ◌≡◌}
 use Rattle.sudoers_check.proofs.Nodes.{mention_graph_is_graph}
 use Rattle.sudoers_check.proofs.definition_numbers.DefinitionNumbers.make_definition_graph.Goals as goal
@@ -12,4 +12,4 @@ from_nodes-graph-requires c =
     let all : so_far ≡ mention_graph_of_definitions ds =
     sym (append-nil so_far) ∙ ap (λ rest. so_far ++ graph_nodes_of_definitions ds (definitions_from_line_number c.loop-number.number (map (line_of_row held.tables.now) rest))) (sym none)
     ∙ c.loop-number.invariant.nodes ∙ ap (graph_nodes_of_definitions ds) c.requires in
-    subst IsGraph (sym all) (mention_graph_is_graph ds)
+    subst HasAllEdgeTargetsInGraph (sym all) (mention_graph_is_graph ds)

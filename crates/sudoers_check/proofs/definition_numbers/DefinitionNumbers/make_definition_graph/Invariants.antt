@@ -1,4 +1,4 @@
-use Rattle.sudoers_check.proofs.Common.{definitions_from_line_number, definitions_of_lines, drop, graph_nodes_of_definitions, line_of_row, map, root_numbers_in_lines_from, ◌++◌, ◌≡◌}
+use Rattle.sudoers_check.proofs.Common.{definitions_from_line_number, definitions_of_lines, drop, graph_nodes_of_definitions, line_of_row, map, root_numbers_in_lines_numbered_from, ◌++◌, ◌≡◌}
 use Rattle.sudoers_check.proofs.definition_numbers.DefinitionNumbers.make_definition_graph.Given as goal
 
 abbrev pub invariant-loop-number : goal.invariant-loop-number
@@ -8,5 +8,5 @@ invariant-loop-number l =
     let all = map (line_of_row l.lines.tables.now) l.lines.rows.now in
     record {
       nodes : map (λ edges. edges.items) l.nodes.items ++ graph_nodes_of_definitions ds (definitions_from_line_number l.number left) ≡ graph_nodes_of_definitions ds (definitions_from_line_number 0 all);
-      roots : l.roots.items ++ root_numbers_in_lines_from ds l.number left ≡ root_numbers_in_lines_from ds 0 all;
+      roots : l.roots.items ++ root_numbers_in_lines_numbered_from ds l.number left ≡ root_numbers_in_lines_numbered_from ds 0 all;
     }

@@ -7,13 +7,13 @@ returns-in_err-place c =
     let same : c.from_residual.result ≡ None = search rules in
     same ∙ sym (undefined_name_has_no_number c.args.kind c.args.name.now c.args.self.now.walk (sym c.in_err-place.ensures))
 
-pub find_alias_line-requires : goal.find_alias_line-requires
-find_alias_line-requires c = alias_line_numbers_ascend_with_index c.args.self.now.walk _ (c.as_slice.ensures.value ∙ c.args.self.now.firsts_are)
+pub index_of_alias_line-requires : goal.index_of_alias_line-requires
+index_of_alias_line-requires c = alias_line_numbers_ascend_with_index c.args.self.now.walk _ (c.as_slice.ensures.value ∙ c.args.self.now.firsts_are)
 
 pub returns-in_err-at : goal.returns-in_err-at
 returns-in_err-at c =
     absurd (line_of_definition_is_among_alias_lines c.args.kind c.args.name.now c.args.self.now.walk c.in_ok-place.place c.as_slice.result.now (c.as_slice.ensures.value ∙ c.args.self.now.firsts_are)
-    (sym c.in_ok-place.ensures) (c.find_alias_line.ensures.missing c.in_err-at.was))
+    (sym c.in_ok-place.ensures) (c.index_of_alias_line.ensures.missing c.in_err-at.was))
 
 pub overflow_add-result : goal.overflow_add-result
 overflow_add-result c =

@@ -4,7 +4,7 @@ use Rattle.sudoers_grammar.specs.Grammar.{stop_of_last_member}
 use Rattle.sudoers_grammar.specs.Seen.{model_of_token_part}
 use Rattle.sudoers_line_reader.specs.Reader.{Read}
 use Rattle.sudoers_line_reader.specs.Descent.{alias_definition_reader, definition_of_name_and_list}
-use Rattle.sudoers_line_rows.specs.Tables.{members_in_tables}
+use Rattle.sudoers_line_rows.specs.Tables.{members_of_range_in_tables}
 use Rattle.sudoers_line_rows.proofs.Growth.{table_growth_is_transitive}
 use Rattle.sudoers_line_reader.proofs.alias_lines.AliasDefinitionReaderRowReader.read.Goals as goal
 
@@ -18,8 +18,8 @@ returns-clause-reads c =
     let grown = c.in_ok-members.ensures.grown in
     let made : List ℕ → ℕ → List Member → Def = λ text start ms. record { name = text; start = start; stop = stop_of_last_member ms; members = ms } in
     let said = name new grown in
-    let read : alias_definition_reader c.args.self.kind c.args.cursor.now ≡ Read (definition_of_name_and_list (model_of_token_part c.in_ok-part.part) (members_in_tables new c.in_ok-members.members)) left = search rules in (
-      read ∙ (λ i. Read (made (sym said i) (sym c.in_ok-start.ensures i) (members_in_tables new c.in_ok-members.members)) left),
+    let read : alias_definition_reader c.args.self.kind c.args.cursor.now ≡ Read (definition_of_name_and_list (model_of_token_part c.in_ok-part.part) (members_of_range_in_tables new c.in_ok-members.members)) left = search rules in (
+      read ∙ (λ i. Read (made (sym said i) (sym c.in_ok-start.ensures i) (members_of_range_in_tables new c.in_ok-members.members)) left),
       λ u g i. made ((name u (table_growth_is_transitive _ _ _ grown g) ∙ sym said) i) c.in_ok-start.start (members u g i),
     )
 

@@ -1,4 +1,4 @@
-use Rattle.sudoers_match.proofs.Common.{Cmnd, Group, Host, IsValidGroupVerdictCache, None, Option, Runas, Some, User, ap, command_line_of_request, is_command_atom_match, is_group_absent_or_among, is_host_atom_match}
+use Rattle.sudoers_match.proofs.Common.{Cmnd, Group, Host, IsValidGroupVerdictCache, None, Option, Runas, Some, User, ap, command_with_joined_arguments_of_request, is_command_atom_match, is_group_absent_or_among, is_host_atom_match}
 use Rattle.sudoers_match.proofs.Common.{is_runas_group_atom_match, is_user_atom_match, ◌∙◌}
 use Rattle.sudoers_match.proofs.request_verdicts.RequestVerdictCache.new.Goals as goal
 
@@ -11,8 +11,8 @@ returns c =
       hosts = c.in_ok-hosts.ensures Host (is_host_atom_match r.who);
       targets = c.in_ok-targets.ensures Runas (is_user_atom_match r.target);
       groups = by r.target_group;
-      commands = c.in_ok-commands.ensures Cmnd (is_command_atom_match (command_line_of_request r));
-      own = c.is_requested_group_among-own.ensures ∙ ap (λ gs. is_group_absent_or_among gs r.target_group) c.as_slice.ensures;
+      commands = c.in_ok-commands.ensures Cmnd (is_command_atom_match (command_with_joined_arguments_of_request r));
+      own = c.is_requested_group_absent_or_among-own.ensures ∙ ap (λ gs. is_group_absent_or_among gs r.target_group) c.as_slice.ensures;
     }
   where
     by : (o : Option Group) → IsValidGroupVerdictCache c.args.policy.now o c.in_ok-groups.groups

@@ -20,7 +20,7 @@ loop-step-init g c =
 pub returns-then-not-branch : goal.returns-then-not-branch
 returns-then-not-branch g c =
     finds c.args.kind c.args.numbers.now.walk (g.K.MemberKind.test c.args.asked.now) c.loop-step.self c.args.alias.now.number c.in-Some.step c.pop.new.self.items c.loop-step.invariant c.in-Some.ensures.items
-    (c.in_ok-look.ensures.cycle c.if-not-branch.true)
+    (c.in_ok-advance_unless_cycle_is_met.ensures.cycle c.if-not-branch.true)
 
 pub returns-in-Decided : goal.returns-in-Decided
 returns-in-Decided g c =

@@ -1,4 +1,4 @@
-use Rattle.sudoers_match_list.proofs.Common.{IsAliasDecision, IsLastHitOfList, IsValidVerdictCache, NumberedAlias, ap, later_hit_if_any, member_in_tables, member_of_view, members_of_view, option_map, subst, sym}
+use Rattle.sudoers_match_list.proofs.Common.{IsLastHitOrCycleOfAlias, IsLastHitOfList, IsValidVerdictCache, AliasNumberAndMembers, ap, later_hit_if_any, member_in_tables, member_of_view, members_of_view, option_map, subst, sym}
 use Rattle.sudoers_match_list.proofs.Common.{take, ◌+◌, ◌∙◌}
 use Rattle.sudoers_match_list.proofs.Flats.{empty_list_has_no_last_hit}
 use Rattle.sudoers_match_list.proofs.Places.{mapped_row_is_at_its_index}
@@ -16,8 +16,8 @@ returns-in-Cyclic g c =
     to_cycle kd lines test (members_of_view ms) c.loop-row.row-index m
     (mapped_row_is_at_its_index (member_in_tables ms.tables.now) ms.rows.now c.loop-row.row-index _ c.loop-row-test.true m c.member_of_row-member.ensures)
     c.in-Some.alias.number
-    (sym c.find_alias_of_atom.ensures.number ∙ ap (option_map (λ (a : NumberedAlias). a.number)) c.in-Some.is)
-    (subst (IsAliasDecision kd lines test c.in-Some.alias.number c.decide_alias.new.self) c.in-Cyclic.is c.in_ok-hit-in-Some.ensures)
+    (sym c.find_alias_of_atom.ensures.number ∙ ap (option_map (λ (a : AliasNumberAndMembers). a.number)) c.in-Some.is)
+    (subst (IsLastHitOrCycleOfAlias kd lines test c.in-Some.alias.number c.decide_alias.new.self) c.in-Cyclic.is c.in_ok-hit-in-Some.ensures)
 
 pub loop-row-preserved : goal.loop-row-preserved
 loop-row-preserved g c =
@@ -29,14 +29,14 @@ loop-row-preserved g c =
       | in-None w ↦ record {
         verdicts = subst (IsValidVerdictCache kd lines test) (sym w.self-is) so_far.verdicts;
         latest = subst (IsLastHitOfList kd lines test (take (i + 1) (members_of_view ms))) (sym (c.choose_later_hit-latest.ensures ∙ ap (later_hit_if_any c.loop-row.latest) (w.hit-is ∙ w.hit_of_member-hit.ensures)))
-            (said_more kd lines test (members_of_view ms) i m at c.loop-row.latest (sym c.find_alias_of_atom.ensures.number ∙ ap (option_map (λ (a : NumberedAlias). a.number)) w.in-None.is) so_far.latest);
+            (said_more kd lines test (members_of_view ms) i m at c.loop-row.latest (sym c.find_alias_of_atom.ensures.number ∙ ap (option_map (λ (a : AliasNumberAndMembers). a.number)) w.in-None.is) so_far.latest);
       }
       | in-Some+in_ok-hit-in-Some+in-Latest w ↦
-          let settled = subst (IsAliasDecision kd lines test w.in-Some.alias.number w.decide_alias.new.self) w.in-Latest.is w.in_ok-hit-in-Some.ensures in
+          let settled = subst (IsLastHitOrCycleOfAlias kd lines test w.in-Some.alias.number w.decide_alias.new.self) w.in-Latest.is w.in_ok-hit-in-Some.ensures in
           record {
             verdicts = subst (IsValidVerdictCache kd lines test) (sym w.self-is) settled.0;
             latest = subst (IsLastHitOfList kd lines test (take (i + 1) (members_of_view ms))) (sym (c.choose_later_hit-latest.ensures ∙ ap (later_hit_if_any c.loop-row.latest) (w.hit-is ∙ w.flip_hit_if_negated.ensures)))
                 (alias_more kd lines test (members_of_view ms) i m at w.in-Some.alias.number c.loop-row.latest w.in-Latest.hit
-                (sym c.find_alias_of_atom.ensures.number ∙ ap (option_map (λ (a : NumberedAlias). a.number)) w.in-Some.is) so_far.latest settled.1);
+                (sym c.find_alias_of_atom.ensures.number ∙ ap (option_map (λ (a : AliasNumberAndMembers). a.number)) w.in-Some.is) so_far.latest settled.1);
           }
     ]

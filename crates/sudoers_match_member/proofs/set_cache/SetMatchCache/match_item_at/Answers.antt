@@ -1,18 +1,18 @@
 use Rattle.std.proofs.Common.{◌≡◌, ◌==◌, ℕ, ◌+◌, ◌<◌, ◌≤◌, Bool, List, ◌∷◌, length, drop, take, get_or, sym, ap, subst, ◌∙◌, ◌-◌, add-zero, arith}
 use Rattle.std.proofs.lemmas.List.{drop_more, length-drop, get_or-drop, take_rest}
 use Rattle.sudoers_match_member.specs.declared.wildcards.GlobMode.{GlobMode}
-use Rattle.sudoers_match_member.specs.declared.pattern_front.PatternItemMatch.{PatternItemMatch}
-use Rattle.sudoers_match_member.specs.Folded.{case_folded_byte, case_folded_bytes}
+use Rattle.sudoers_match_member.specs.declared.first_pattern_item.PatternItemMatch.{PatternItemMatch}
+use Rattle.sudoers_match_member.specs.Folded.{byte_case_folded_if_wanted, bytes_case_folded_if_wanted}
 use Rattle.sudoers_match_member.specs.Wildcard.{is_byte_taken_by_item as takes_by, PatternItem, bracket_item, pattern_item_at}
-use Rattle.sudoers_match_member.specs.internal.Known.{IsFirstItemMatch, IsBracketlessTail}
+use Rattle.sudoers_match_member.specs.internal.Known.{IsFirstItemMatch, IsTailWithoutClosingBracket}
 use Rattle.sudoers_match_member.proofs.Open.{unclosed_bracket_is_read_as_byte_item, bytes_after_place_in_tail_are_bracketless}
 use Rattle.sudoers_match_member.proofs.set_cache.SetMatchCache.match_item_at.Goals as goal
 
 -- a `[` in the last bytes
-by_byte : (mode : GlobMode) (lower : Bool) (pattern : List ℕ) (at b tail : ℕ) (front : PatternItemMatch) → IsBracketlessTail tail pattern → at < length pattern → length (drop at pattern) ≤ tail
-    → case_folded_byte lower (get_or pattern at 0) ≡ 91 → front.len ≡ 1 → front.takes ≡ ◌==◌ b 91 → IsFirstItemMatch mode lower (drop at pattern) b front
+by_byte : (mode : GlobMode) (lower : Bool) (pattern : List ℕ) (at b tail : ℕ) (front : PatternItemMatch) → IsTailWithoutClosingBracket tail pattern → at < length pattern → length (drop at pattern) ≤ tail
+    → byte_case_folded_if_wanted lower (get_or pattern at 0) ≡ 91 → front.len ≡ 1 → front.takes ≡ ◌==◌ b 91 → IsFirstItemMatch mode lower (drop at pattern) b front
 by_byte mode lower pattern at b tail front is within few bracket_item one takes =
-    let item = ap (λ xs. pattern_item_at (case_folded_bytes lower xs)) (drop_more pattern at 0 within)
+    let item = ap (λ xs. pattern_item_at (bytes_case_folded_if_wanted lower xs)) (drop_more pattern at 0 within)
     ∙ unclosed_bracket_is_read_as_byte_item lower (get_or pattern at 0) (drop (at + 1) pattern) bracket_item (bytes_after_place_in_tail_are_bracketless tail at pattern is few within) in
     record {
       len = one ∙ sym (ap (λ (x : PatternItem × ℕ). x.1) item);
@@ -30,20 +30,20 @@ pub returns-then-rest-self-clause-front : goal.returns-then-rest-self-clause-fro
 returns-then-rest-self-clause-front c =
     by_byte c.args.mode c.args.lower c.args.pattern.now c.args.at c.args.byte c.args.self.now.tail c.make_one_byte_item.result c.requires.known.tail c.requires.within
     (subst (λ xs. length xs ≤ c.args.self.now.tail) (take_rest c.args.pattern.now c.args.at) c.if-rest-self.true)
-    (ap (case_folded_byte c.args.lower) (first_at c.args.pattern.now c.args.at) ∙ sym c.fold_byte_case.ensures ∙ c.if-fold_byte_case-ne91.false)
+    (ap (byte_case_folded_if_wanted c.args.lower) (first_at c.args.pattern.now c.args.at) ∙ sym c.fold_byte_case_if_wanted.ensures ∙ c.if-fold_byte_case_if_wanted-ne91.false)
     (ap (λ (f : PatternItemMatch). f.len) c.make_one_byte_item.ensures) (ap (λ (f : PatternItemMatch). f.takes) c.make_one_byte_item.ensures)
 
 -- a `[`, and what stands behind it
-bracket_at : (lower : Bool) (pattern : List ℕ) (at : ℕ) → at < length pattern → case_folded_byte lower (get_or pattern at 0) ≡ 91
-    → pattern_item_at (case_folded_bytes lower (drop at pattern)) ≡ bracket_item (case_folded_bytes lower (drop (at + 1) pattern))
+bracket_at : (lower : Bool) (pattern : List ℕ) (at : ℕ) → at < length pattern → byte_case_folded_if_wanted lower (get_or pattern at 0) ≡ 91
+    → pattern_item_at (bytes_case_folded_if_wanted lower (drop at pattern)) ≡ bracket_item (bytes_case_folded_if_wanted lower (drop (at + 1) pattern))
 bracket_at lower pattern at within is =
-    ap (λ xs. pattern_item_at (case_folded_bytes lower xs)) (drop_more pattern at 0 within) ∙ ap (λ c. pattern_item_at (c ∷ case_folded_bytes lower (drop (at + 1) pattern))) is
+    ap (λ xs. pattern_item_at (bytes_case_folded_if_wanted lower xs)) (drop_more pattern at 0 within) ∙ ap (λ c. pattern_item_at (c ∷ bytes_case_folded_if_wanted lower (drop (at + 1) pattern))) is
 
 pub returns-then-front-eq1-clause-known : goal.returns-then-front-eq1-clause-known
 returns-then-front-eq1-clause-known c =
     let mode = c.args.mode in let lower = c.args.lower in let pattern = c.args.pattern.now in let at = c.args.at in let front = c.match_first_item-front.result in
     let told = c.match_first_item-front.ensures in
-    let is : case_folded_byte lower (get_or pattern at 0) ≡ 91 = ap (case_folded_byte lower) (first_at pattern at) ∙ sym c.fold_byte_case.ensures ∙ c.if-fold_byte_case-ne91.false in
+    let is : byte_case_folded_if_wanted lower (get_or pattern at 0) ≡ 91 = ap (byte_case_folded_if_wanted lower) (first_at pattern at) ∙ sym c.fold_byte_case_if_wanted.ensures ∙ c.if-fold_byte_case_if_wanted-ne91.false in
     let here : IsFirstItemMatch mode lower (drop at pattern) c.args.byte front =
     subst (λ xs. IsFirstItemMatch mode lower xs c.args.byte front) (take_rest pattern at)
     (record { len = told.len; takes = told.takes; some = told.some; within = told.within }) in
@@ -51,6 +51,6 @@ returns-then-front-eq1-clause-known c =
     record {
       tail = known.tail;
       front = known.front;
-      unclosed = c.find_first_set_item-first.ensures.closed
+      unclosed = c.find_first_item_place_in_set-first.ensures.closed
           (ap (λ (x : PatternItem × ℕ). x.1) (sym (bracket_at lower pattern at c.requires.within is)) ∙ sym here.len ∙ c.if-front-eq1.true);
     }

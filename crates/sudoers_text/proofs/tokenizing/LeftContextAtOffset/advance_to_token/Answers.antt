@@ -17,6 +17,6 @@ returns-then-begins_hash_or_percent-clause-found c = λ fs.
     let line : List ℕ = c.args.line.now in
     let known : LeftDescribesUnits line c.args.start c.advance_over_slice.result (units_left_of_place line c.args.start) =
     subst (λ (units : List LineUnit). LeftDescribesUnits line c.args.start c.advance_over_slice.result units)
-    (units_from_place_continue_units_left line c.advance_to_offset-here.result.at c.args.start c.advance_to_offset-here.ensures.place c.advance_to_offset-here.ensures.knows.apart)
-    (c.advance_over_slice.ensures (units_left_of_place line c.advance_to_offset-here.result.at) c.advance_to_offset-here.ensures.knows.knows) in
+    (units_from_place_continue_units_left line c.advance_to_unescaped_offset_before-here.result.at c.args.start c.advance_to_unescaped_offset_before-here.ensures.place c.advance_to_unescaped_offset_before-here.ensures.knows.apart)
+    (c.advance_over_slice.ensures (units_left_of_place line c.advance_to_unescaped_offset_before-here.result.at) c.advance_to_unescaped_offset_before-here.ensures.knows.knows) in
     context_finds_token_found_by_units fs line (drop c.args.start line) c.args.start c.advance_over_slice.result (units_left_of_place line c.args.start) known

@@ -9,7 +9,7 @@ loop-line-preserved c =
     let bound : c.min-line-end.result ≡ min c.args.number (length lines) = search rules in
     let less : c.loop-line.line < c.min-line-end.result = search rules in
     let at = item_below_length_exists lines c.loop-line.line (omega (arith, less, bound)) in
-    c.physical_line_number_after-row.ensures at.0 at.1
+    c.physical_line_of_next_file_line-row.ensures at.0 at.1
 
 pub returns : goal.returns
 returns c =

@@ -57,5 +57,5 @@ walk_lines_of_file-loop-line-preserved c = λ d.
       went.1,
       walk_goes_on_after_line (walk_after_file_visit d.args.left files) files f n lines at.0 (walk_state_of_builder t d.loop-line.self) (walk_state_of_builder t d.append_walk_line_at.new.self) (walk_state_of_builder t d.follow_include_at.new.self) at.1 took went.0
           ∙ d.loop-line.invariant.1,
-      d.physical_line_number_after-row.ensures at.0 at.1,
+      d.physical_line_of_next_file_line-row.ensures at.0 at.1,
     )
