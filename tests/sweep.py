@@ -20,6 +20,7 @@ tests/sweep runs other seeds and more policies.
 
 import os
 import subprocess
+import sys
 import tempfile
 
 from grown_policies import Draw, Seeds, grown_policy
@@ -28,9 +29,15 @@ from sweep_edits import edit_all, edit_back, gather_all, keep_answers, load_all
 from sweep_runs import Ground, run_refused, run_sample
 from swept import Sweep, Swept
 from tables import PROGRAM, programs
+from tally import difference
 
 SEED, COUNT = 1, 8_000
 LOT, EACH = 500, 8
+
+# The script that sweeps more, and what the part asks of it: another seed, and a few policies.
+SCRIPT = os.path.join(os.path.dirname(os.path.abspath(__file__)), "sweep")
+FEW = ("2", "24")
+SECONDS = 300
 
 # The least shares of what has to come: policies that load of all, edits that are accepted and that are refused of all, rows that
 # allow and that deny of all.
@@ -107,6 +114,14 @@ def note_counts(counts, tally):
         tally.note(f"sweep: enough {what}", problems)
 
 
+def note_script(program, tally):
+    """Has the script sweep a few policies, and refuse a word that is no number."""
+    for words, wanted in ((FEW, (0, True)), (("2", "few"), (2, False))):
+        done = subprocess.run([sys.executable, SCRIPT, program, *words], capture_output=True, timeout=SECONDS, check=False)
+        came = (done.returncode, done.stdout.endswith(b" passed, 0 failed\n"))
+        tally.note(f"tests/sweep {' '.join(words)}", difference("status, and whether all passed", wanted, came))
+
+
 def run_all(program, tally):
     """Sweeps the policies of SEED, with the build of the program `cases` that `rt run` makes."""
     built = programs()
@@ -116,3 +131,4 @@ def run_all(program, tally):
     counts = run_sweep(program, built[0], Seeds(), SEED, range(COUNT), tally)
     print_counts(SEED, counts)
     note_counts(counts, tally)
+    note_script(program, tally)
