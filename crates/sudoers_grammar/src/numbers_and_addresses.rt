@@ -12,7 +12,7 @@ use crate::token_with_text::{begins_with_byte, ends_with_byte, has_byte};
 /// The highest number that an ID may have.
 pub const ID_LIMIT: u32 = u32::MAX;
 
-/// Returns whether it is a decimal digit.
+/// Returns whether `byte` is a decimal digit.
 fn is_digit(byte: u8) -> bool
     ensures { result ≡ is_digit byte }
 {
@@ -60,7 +60,7 @@ fn parse_canonical_number(limit: u32, text: &[u8]) -> Option<u32>
     }
 }
 
-/// Returns the bytes before the first such byte, and those behind it.
+/// Returns the bytes before the first `byte`, and those behind it.
 fn split_at_first_byte(byte: u8, text: &[u8]) -> Option<(&[u8], &[u8])>
     ensures { model_of_split_parts result ≡ parts_around_first_byte byte text.now }
 {
@@ -142,28 +142,28 @@ pub fn parse_network_atom(text: &[u8]) -> Option<Atom>
     Some(Atom::Network(address, mask))
 }
 
-/// Returns whether it may stand in a network.
+/// Returns whether `byte` can stand in a network.
 fn is_network_byte(byte: u8) -> bool
     ensures { result ≡ (is_digit byte || byte == 46 || byte == 47) }
 {
     is_digit(byte) || byte == b'.' || byte == b'/'
 }
 
-/// Returns whether all bytes may stand in a network.
+/// Returns whether each byte of `bytes` can stand in a network.
 fn are_network_bytes(text: &[u8]) -> bool
     ensures { result ≡ list_all (λ b. is_digit b || b == 46 || b == 47) text.now }
 {
     text.iter().all(|byte| is_network_byte(*byte))
 }
 
-/// Returns whether it is digits, `.` and `/` alone, with a `/` among them.
+/// Returns whether `text` is digits, `.` and `/` alone, with a `/` among them.
 pub fn is_network_like(text: &[u8]) -> bool
     ensures { result ≡ is_network_like_text text.now }
 {
     are_network_bytes(text) && has_byte(b'/', text)
 }
 
-/// Returns whether two digits there are a number from the one to the other.
+/// Returns whether the two bytes of `text` at `at` are digits of a number from `low` to `high`.
 fn is_two_digit_number_between(low: u32, high: u32, at: usize, text: &[u8]) -> bool
     requires { at + 2 ≤ length text.now }
     ensures { result ≡ is_two_digits_within_range low high at text.now }
@@ -174,7 +174,7 @@ fn is_two_digit_number_between(low: u32, high: u32, at: usize, text: &[u8]) -> b
     }
 }
 
-/// Returns whether month, day and hour may stand so in a time stamp.
+/// Returns whether the time stamp `text` has a month, a day and an hour that exist.
 fn is_stamp_month_day_hour_valid(text: &[u8]) -> bool
     requires { 11 ≤ length text.now }
     ensures { result ≡ has_valid_stamp_month_day_hour text.now }
@@ -184,7 +184,7 @@ fn is_stamp_month_day_hour_valid(text: &[u8]) -> bool
         && is_two_digit_number_between(0, 23, 8, text)
 }
 
-/// Returns whether minutes and seconds may, where they stand there.
+/// Returns whether the minutes and seconds of the time stamp `text` exist, as far as it has them.
 fn are_stamp_minutes_and_seconds_valid(text: &[u8]) -> bool
     requires { 11 ≤ length text.now }
     ensures { result ≡ has_valid_stamp_minutes_and_seconds text.now }
@@ -194,7 +194,7 @@ fn are_stamp_minutes_and_seconds_valid(text: &[u8]) -> bool
         && (len < 15 || is_two_digit_number_between(0, 59, 12, text))
 }
 
-/// Returns whether a time stamp may have so many bytes.
+/// Returns whether a time stamp can have `len` bytes: 11, 13 or 15.
 fn is_time_stamp_len(len: usize) -> bool
     ensures value { result ≡ is_time_stamp_size len }
     ensures least { result ≡ true → 11 ≤ len }
@@ -202,7 +202,7 @@ fn is_time_stamp_len(len: usize) -> bool
     len == 11 || len == 13 || len == 15
 }
 
-/// Returns whether it is a time stamp (sudoers(5), Date_Spec).
+/// Returns whether `text` is a time stamp (sudoers(5), Date_Spec).
 #[tactic(auto, unfolding(crate::specs::Number::is_time_stamp_text))]
 pub fn is_time_stamp(text: &[u8]) -> bool
     ensures { result ≡ is_time_stamp_text text.now }

@@ -225,70 +225,70 @@ fn list_kind_of_scope_sign(sign: &[u8]) -> Option<Kind>
 }
 
 impl TokenWithText<'_> {
-    /// Returns whether it is a word.
+    /// Returns whether the token is a word.
     pub fn is_word(&self) -> bool
         ensures { result ≡ is_word self.now.kind }
     {
         matches!(self.kind, TokenKind::Word)
     }
 
-    /// Returns whether it is in quotes.
+    /// Returns whether the token is in quotes.
     pub fn is_quoted(&self) -> bool
         ensures { result ≡ is_quoted self.now.kind }
     {
         matches!(self.kind, TokenKind::Quoted)
     }
 
-    /// Returns whether it is a mark or a sign.
+    /// Returns whether the token is a mark or a sign.
     fn is_punct(&self) -> bool
         ensures { result ≡ is_punct self.now.kind }
     {
         matches!(self.kind, TokenKind::Punct)
     }
 
-    /// Returns whether it is an argument of a command.
+    /// Returns whether the token is an argument of a command.
     pub fn is_arg(&self) -> bool
         ensures { result ≡ is_arg self.now.kind }
     {
         matches!(self.kind, TokenKind::Arg)
     }
 
-    /// Returns whether it is a digest.
+    /// Returns whether the token is a digest.
     pub fn is_digest(&self) -> bool
         ensures { result ≡ is_digest self.now.kind }
     {
         matches!(self.kind, TokenKind::Digest)
     }
 
-    /// Returns whether it is the name of a parameter.
+    /// Returns whether the token is the name of a parameter.
     pub fn is_parameter_name(&self) -> bool
         ensures { result ≡ is_parameter_name_kind self.now.kind }
     {
         matches!(self.kind, TokenKind::Name)
     }
 
-    /// Returns whether it is the value of a parameter.
+    /// Returns whether the token is the value of a parameter.
     pub fn is_value(&self) -> bool
         ensures { result ≡ is_value self.now.kind }
     {
         matches!(self.kind, TokenKind::Value)
     }
 
-    /// Returns whether it is a comment.
+    /// Returns whether the token is a comment.
     pub fn is_comment(&self) -> bool
         ensures { result ≡ is_comment self.now.kind }
     {
         matches!(self.kind, TokenKind::Comment)
     }
 
-    /// Returns whether no piece begins there.
+    /// Returns whether the token is bad: no piece begins at its place.
     pub fn is_bad(&self) -> bool
         ensures { result ≡ is_bad self.now.kind }
     {
         matches!(self.kind, TokenKind::Bad)
     }
 
-    /// Returns whether it is this mark.
+    /// Returns whether the token is the mark `byte`.
     #[tactic(auto, unfolding(crate::specs::Piece::is_mark_of_byte))]
     pub fn is_punct_mark(&self, byte: u8) -> bool
         ensures { result ≡ is_mark_of_byte byte (model_of_token_part self.now) }
@@ -296,7 +296,7 @@ impl TokenWithText<'_> {
         self.is_punct() && self.text == [byte].as_slice()
     }
 
-    /// Returns whether it is the word `Defaults`.
+    /// Returns whether the token is the word `Defaults`.
     #[tactic(auto, unfolding(crate::specs::Piece::is_given_word))]
     pub fn is_defaults_word(&self) -> bool
         ensures { result ≡ is_defaults (model_of_token_part self.now) }
@@ -304,7 +304,7 @@ impl TokenWithText<'_> {
         self.is_word() && self.text == b"Defaults".as_slice()
     }
 
-    /// Returns whether an alias may be named so.
+    /// Returns whether the token is a name that an alias can have.
     #[tactic(auto, unfolding(crate::specs::Piece::is_alias_name))]
     pub fn is_alias_name(&self) -> bool
         ensures { result ≡ is_alias_name (model_of_token_part self.now) }
@@ -312,7 +312,7 @@ impl TokenWithText<'_> {
         self.is_word() && is_name(self.text)
     }
 
-    /// Returns the kind of alias that it begins a line of.
+    /// Returns the kind of the aliases that a line defines which begins with the token.
     #[tactic(auto, unfolding(crate::specs::Piece::alias_kind_of_token))]
     pub fn alias_kind(&self) -> Option<Kind>
         ensures { result ≡ alias_kind_of_token (model_of_token_part self.now) }
@@ -324,7 +324,7 @@ impl TokenWithText<'_> {
         }
     }
 
-    /// Returns whether it begins an include, of a directory or not.
+    /// Returns whether the include that the token begins is of a directory; nothing if it begins no include.
     #[tactic(auto, unfolding(crate::specs::Piece::include_is_dir_of_token))]
     pub fn include_is_dir(&self) -> Option<bool>
         ensures { result ≡ include_is_dir_of_token (model_of_token_part self.now) }
@@ -336,7 +336,7 @@ impl TokenWithText<'_> {
         }
     }
 
-    /// Returns the option that it names.
+    /// Returns the option that the token names.
     #[tactic(auto, unfolding(crate::specs::Piece::option_of_token))]
     pub fn option_name(&self) -> Option<OptionName>
         ensures { result ≡ option_of_token (model_of_token_part self.now) }
@@ -348,7 +348,7 @@ impl TokenWithText<'_> {
         }
     }
 
-    /// Returns the tag that it is.
+    /// Returns the tag that the token is, and whether it stands without `NO`.
     #[tactic(auto, unfolding(crate::specs::Piece::tag_and_sign_of_token))]
     pub fn tag_with_sign(&self) -> Option<(Tag, bool)>
         ensures { result ≡ tag_and_sign_of_token (model_of_token_part self.now) }
@@ -360,7 +360,7 @@ impl TokenWithText<'_> {
         }
     }
 
-    /// Returns how the digest behind it is computed.
+    /// Returns the algorithm that the token names for the digest behind it.
     #[tactic(auto, unfolding(crate::specs::Piece::digest_kind_of_token))]
     pub fn digest_kind(&self) -> Option<DigestKind>
         ensures { result ≡ digest_kind_of_token (model_of_token_part self.now) }
@@ -372,7 +372,7 @@ impl TokenWithText<'_> {
         }
     }
 
-    /// Returns the operator that it is.
+    /// Returns the operator that the token is.
     #[tactic(auto, unfolding(crate::specs::Piece::operator_of_token))]
     pub fn operator(&self) -> Option<Operator>
         ensures { result ≡ operator_of_token (model_of_token_part self.now) }
@@ -384,7 +384,7 @@ impl TokenWithText<'_> {
         }
     }
 
-    /// Returns what it is the scope's sign of, directly behind a word that ends at this byte.
+    /// Returns the kind of the scope of which the token is the sign, directly behind a word that ends at the byte `stop`.
     #[tactic(auto, unfolding(crate::specs::Piece::scope_kind_of_sign_token_after))]
     pub fn scope_kind_of_sign_after(&self, stop: usize) -> Option<Kind>
         ensures { result ≡ scope_kind_of_sign_token_after stop (model_of_token_part self.now) }

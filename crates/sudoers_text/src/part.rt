@@ -32,7 +32,7 @@ pub enum ByteRunKind {
     Clean,
 }
 
-/// Returns whether it is one of `!`, `=`, `:`, `,`, `(` and `)`.
+/// Returns whether `byte` is one of `!`, `=`, `:`, `,`, `(` and `)`.
 #[inline(always)]
 pub fn is_punct(byte: u8) -> bool
     ensures { result ≡ is_punct byte }
@@ -40,7 +40,7 @@ pub fn is_punct(byte: u8) -> bool
     matches!(byte, b'!' | b'=' | b':' | b',' | b'(' | b')')
 }
 
-/// Returns whether it stands for itself in the path of an include.
+/// Returns whether `byte` stands for itself in the path of an include.
 #[inline(always)]
 fn is_include_path_byte(byte: u8) -> bool
     ensures { result ≡ is_byte_of_include_path byte }
@@ -48,7 +48,7 @@ fn is_include_path_byte(byte: u8) -> bool
     !matches!(byte, 0 | b'\n' | b'\r' | b' ' | b'\t' | b'"' | b'#' | b'\\')
 }
 
-/// Returns whether it stands for itself in a word.
+/// Returns whether `byte` stands for itself in a word.
 #[inline(always)]
 fn is_word_byte(byte: u8) -> bool
     ensures { result ≡ is_word_byte byte }
@@ -56,7 +56,7 @@ fn is_word_byte(byte: u8) -> bool
     is_include_path_byte(byte) && !is_punct(byte)
 }
 
-/// Returns whether it stands for itself in a command's path, and in an argument.
+/// Returns whether `byte` stands for itself in a command's path, and in an argument.
 #[inline(always)]
 fn is_path_byte(byte: u8) -> bool
     ensures { result ≡ is_path_byte byte }
@@ -64,7 +64,7 @@ fn is_path_byte(byte: u8) -> bool
     is_include_path_byte(byte) && !is_comma_colon_or_equals(byte)
 }
 
-/// Returns whether it stands for itself in a parameter's value.
+/// Returns whether `byte` stands for itself in a parameter's value.
 #[inline(always)]
 fn is_value_byte(byte: u8) -> bool
     ensures { result ≡ is_value_byte byte }
@@ -72,7 +72,7 @@ fn is_value_byte(byte: u8) -> bool
     is_include_path_byte(byte) && byte != b','
 }
 
-/// Returns whether it stands for itself in a quoted part.
+/// Returns whether `byte` stands for itself in a quoted part.
 #[inline(always)]
 fn is_quoted_byte(byte: u8) -> bool
     ensures { result ≡ is_quoted_byte byte }
@@ -88,7 +88,7 @@ fn is_quoted_non_separator_byte(byte: u8) -> bool
     is_quoted_byte(byte) && !is_comma_colon_or_equals(byte)
 }
 
-/// Returns whether it is an upper-case letter.
+/// Returns whether `byte` is an upper-case letter.
 #[inline(always)]
 pub fn is_upper(byte: u8) -> bool
     ensures { result ≡ is_upper byte }
@@ -96,7 +96,7 @@ pub fn is_upper(byte: u8) -> bool
     byte.is_ascii_uppercase()
 }
 
-/// Returns whether it is a letter or a digit.
+/// Returns whether `byte` is a letter or a digit.
 #[inline(always)]
 fn is_alphanumeric(byte: u8) -> bool
     ensures { result ≡ is_alphanumeric byte }
@@ -104,7 +104,7 @@ fn is_alphanumeric(byte: u8) -> bool
     byte.is_ascii_digit() || is_upper(byte) || byte.is_ascii_lowercase()
 }
 
-/// Returns whether it may stand in a parameter's name.
+/// Returns whether `byte` can stand in a parameter's name.
 #[inline(always)]
 fn is_parameter_name_byte(byte: u8) -> bool
     ensures { result ≡ is_byte_of_parameter_name byte }
@@ -112,7 +112,7 @@ fn is_parameter_name_byte(byte: u8) -> bool
     is_alphanumeric(byte) || byte == b'_'
 }
 
-/// Returns whether it may stand in a digest.
+/// Returns whether `byte` can stand in a digest.
 #[inline(always)]
 fn is_digest_byte(byte: u8) -> bool
     ensures { result ≡ is_digest_byte byte }

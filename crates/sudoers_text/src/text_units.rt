@@ -8,7 +8,7 @@ ghost use Rattle.sudoers_text.specs.internal.Left.{LeftAgreesWithUnits, LeftDesc
 
 use memchr::memchr;
 
-/// Returns whether it is a space or a tab.
+/// Returns whether `byte` is a space or a tab.
 #[inline(always)]
 pub fn is_blank(byte: u8) -> bool
     ensures { result ≡ is_blank byte }
@@ -16,7 +16,7 @@ pub fn is_blank(byte: u8) -> bool
     byte == b' ' || byte == b'\t'
 }
 
-/// Returns whether it is `!`, `(` or `%`.
+/// Returns whether `byte` is `!`, `(` or `%`.
 #[inline(always)]
 pub fn is_sign_before_id(byte: u8) -> bool
     ensures { result ≡ is_sign_byte_before_id byte }
@@ -24,7 +24,7 @@ pub fn is_sign_before_id(byte: u8) -> bool
     byte == b'!' || byte == b'(' || byte == b'%'
 }
 
-/// Returns whether it is `,`, `:` or `=`.
+/// Returns whether `byte` is `,`, `:` or `=`.
 #[inline(always)]
 pub fn is_comma_colon_or_equals(byte: u8) -> bool
     ensures { result ≡ is_comma_colon_or_equals byte }
@@ -225,7 +225,7 @@ pub fn unit_at(left: LeftContext, text: &[u8]) -> Option<TextUnit<'_>>
 }
 
 impl TextUnit<'_> {
-    /// Returns how many bytes it has.
+    /// Returns how many bytes the unit has.
     pub fn len(&self) -> usize
         ensures { result ≡ length (bytes_of_unit (model_of_unit self.now)) }
     {
@@ -239,7 +239,7 @@ impl TextUnit<'_> {
         }
     }
 
-    /// Returns whether a line that ends behind it is open.
+    /// Returns whether a line that ends behind the unit is open.
     fn leaves_line_open(&self) -> bool
         ensures { (before : List LineUnit) → result ≡ has_open_last_unit (model_of_unit self.now ∷ before) }
     {
@@ -251,7 +251,7 @@ impl TextUnit<'_> {
         }
     }
 
-    /// Returns whether it is a blank or a continuation.
+    /// Returns whether the unit is a blank or a continuation.
     #[inline]
     fn is_blank_or_continuation(&self) -> bool
         ensures { result ≡ is_gap_unit (model_of_unit self.now) }

@@ -76,7 +76,7 @@ impl LeftContext {
     }
 }
 
-/// Returns whether it is neither a backslash nor a CR.
+/// Returns whether `byte` is neither a backslash nor a CR.
 #[inline(always)]
 fn is_no_backslash_or_cr(byte: u8) -> bool
     ensures { result ≡ not (byte == 92 || byte == 13) }
@@ -142,7 +142,8 @@ impl LeftContextAtOffset {
         }
     }
 
-    /// Returns what is known left of a token, and what it tells of the token. Nothing has to be known, unless `#` or `%` begins it.
+    /// Returns the context left of the token at `start`, twice: to continue the scan from, and to choose the token's form.
+    /// Only a token that begins with `#` or `%` depends on it; for other tokens the scan stays where it is.
     #[inline(always)]
     fn advance_to_token(self, line: &[u8], start: usize) -> (Self, LeftContext)
         requires below { self.at ≤ start }
@@ -162,8 +163,10 @@ impl LeftContextAtOffset {
     }
 }
 
-/// Returns the tokens of a line: each is the longest piece of the first form of which one may stand in its place, and between them
-/// stand only blanks and continuations, and at the end the line end (sudoers(5), SUDOERS FILE FORMAT).
+/// Returns the tokens of `line` from left to right (sudoers(5), SUDOERS FILE FORMAT).
+///
+/// The forms of a token have an order. The first form that fits at a place decides, and takes the longest piece of that form.
+/// Blanks, continuations and the line end separate tokens and belong to none.
 ///
 /// # Errors
 ///

@@ -79,14 +79,14 @@ pub fn is_reserved(word: &[u8]) -> bool
     word == b"ALL".as_slice() || is_tag(word) || is_option_name(word)
 }
 
-/// Returns whether it may stand in an alias's name.
+/// Returns whether `byte` can stand in an alias's name.
 fn is_alias_byte(byte: u8) -> bool
     ensures { result ≡ is_alias_byte byte }
 {
     is_upper(byte) || byte.is_ascii_digit() || byte == b'_'
 }
 
-/// Returns whether all of them may stand in an alias's name.
+/// Returns whether each byte of `bytes` can stand in an alias's name.
 fn are_alias_bytes(bytes: &[u8]) -> bool
     ensures { result ≡ list_all is_alias_byte bytes.now }
 {

@@ -7,7 +7,7 @@ use crate::text_units::{begins_line_end, is_blank, line_end_len};
 use memchr::memchr2;
 use std::alloc::{AllocError, Global};
 
-/// Returns whether it is a hexadecimal digit.
+/// Returns whether `byte` is a hexadecimal digit.
 fn is_hex(byte: u8) -> bool
     ensures { result ≡ is_hex byte }
 {
