@@ -6,3 +6,5 @@ mod PrunedLines
 mod RenameMade
 mod RenamedMembers
 mod RenamedAnswers
+mod OtherFiles
+mod OtherLines

@@ -1,1 +1,2 @@
+pub mod MayChange
 pub mod Pruned

@@ -1,13 +1,16 @@
 //! Laws of edits of policies. Each is the contract of a function that does nothing.
 
+ghost use Rattle.std.specs.List.{filter};
 ghost use Rattle.std.specs.Prelude.{◌≡◌, ◌↔◌, ℕ, List, Option, Ok, true, false};
 ghost use Rattle.sudoers_text.specs.Renamed.{IsDefinableName};
 ghost use Rattle.sudoers_grammar.specs.declared.node.Kind.{Kind as KindOf};
 ghost use Rattle.sudoers_tree.specs.Definition.{definition_place_of_name};
 ghost use Rattle.sudoers_tree.specs.Fault.{is_some};
+ghost use Rattle.sudoers_tree.specs.Files.{lines_of_numbered_file};
 ghost use Rattle.sudoers_tree.specs.Line.{Line as LineOf};
 ghost use Rattle.sudoers_tree.specs.Load.{LoadedPolicy, named_files_of_policy, policy_or_load_fault};
 ghost use Rattle.sudoers_tree.specs.Policy.{AreValidWalkLines};
+ghost use Rattle.sudoers_tree.specs.Walk.{is_file_on_walk};
 ghost use Rattle.sudoers_check.specs.Chains.{HasCyclicAliasReachedFromSpecOrDefaults};
 ghost use Rattle.sudoers_match_member.specs.declared.people_and_commands.Who.{Who as WhoOf};
 ghost use Rattle.sudoers_match_member.specs.declared.request.Request.{Request as RequestOf};
@@ -15,11 +18,13 @@ ghost use Rattle.sudoers_match.specs.Answer.{Answer as AnswerOf, IsAnswerToReque
 ghost use Rattle.sudoers_match.specs.Default.{IsRunasDefault};
 ghost use Rattle.sudoers_match.specs.Groups.{ArePlacesOfMatchingHostGroups};
 ghost use Rattle.sudoers_match.specs.declared.matching_host_groups.HostGroupPlace.{HostGroupPlace as GroupPlaceOf};
+ghost use Rattle.sudoers_edit_script.specs.declared.edit.Edit.{Edit as EditOf};
 ghost use Rattle.sudoers_edit_script.specs.declared.edit.Edit.TheVariants.{Rename};
 ghost use Rattle.sudoers_edit.specs.Editing.{step as step_of};
 ghost use Rattle.sudoers_edit.specs.Renaming.{is_alias_name_in_use};
 ghost use Rattle.sudoers_edit.specs.Renamed.{lines_after_rename};
-ghost use Rattle.laws_edit.specs.Pruned.{KeepsReachableAliasesOnly};
+ghost use Rattle.laws_edit.specs.MayChange.{MayChangeFile};
+ghost use Rattle.laws_edit.specs.Pruned.{KeepsReachableAliasesOnly, has_no_alias_definition};
 
 use sudoers_check::laws::chains_are;
 use sudoers_edit::Edit;
@@ -99,4 +104,23 @@ pub fn prune_changes_no_answer()
     loaded_is_walk();
     chains_are();
     unreachable_definitions_change_no_answer();
+}
+
+/// An edit that is not refused leaves the lines of each file that it does not change, byte for byte, with what they say.
+pub fn edits_keep_other_files()
+    ensures { (edit : EditOf) (policy new : LoadedPolicy) (f : ℕ) → policy_or_load_fault (named_files_of_policy policy) ≡ Ok policy → step_of edit policy ≡ Ok new
+        → (MayChangeFile edit policy f → ⊥) → lines_of_numbered_file new.files f ≡ lines_of_numbered_file policy.files f }
+{
+    rename_is_taken_back();
+}
+
+/// A prune that is not refused leaves in each file every line that defines no alias, byte for byte and in its order. A file that is not on
+/// the walk keeps all its lines.
+pub fn prune_keeps_other_lines_of_each_file()
+    ensures others { (policy new : LoadedPolicy) (f : ℕ) → policy_or_load_fault (named_files_of_policy policy) ≡ Ok policy → step_of Edit.Prune policy ≡ Ok new
+        → filter has_no_alias_definition (lines_of_numbered_file new.files f) ≡ filter has_no_alias_definition (lines_of_numbered_file policy.files f) }
+    ensures off { (policy new : LoadedPolicy) (f : ℕ) → policy_or_load_fault (named_files_of_policy policy) ≡ Ok policy → step_of Edit.Prune policy ≡ Ok new
+        → is_file_on_walk policy.walk f ≡ false → lines_of_numbered_file new.files f ≡ lines_of_numbered_file policy.files f }
+{
+    edits_keep_other_files();
 }

@@ -80,8 +80,11 @@ pub fn print_command(
     head: &CommandSettings<'_>,
     command: &Member<'_>,
 ) -> Result<Vec<u8>, AllocError>
-    ensures { IfOk result (λ text. (h : HeadOf) → HoldsCommandSettings head.now h
+    // Any settings that `head` holds give the text; and it holds some.
+    ensures text { IfOk result (λ text. (h : HeadOf) → HoldsCommandSettings head.now h
         → text.items ≡ printed_runas_options_tags_and_command (effective_command (h, member_of_view command.now))) }
+    ensures every { IfOk result (λ text. (h : HeadOf) × HoldsCommandSettings head.now h
+        × (text.items ≡ printed_runas_options_tags_and_command (effective_command (h, member_of_view command.now)))) }
 {
     let mut out = Vec::new(alloc);
     append_effective_command(alloc, &mut out, head, command)?;

@@ -31,8 +31,7 @@ pub use Rattle.sudoers_edit.specs.Redoing.{RedoesLastUndone, undone_edits_after_
 pub use Rattle.sudoers_edit.specs.Renamed.{IsPolicyAfterRename, RenamedFilesAreWithinLimits, line_after_rename, lines_after_rename, named_alias_of_kind_and_name, parsed_file_after_rename, parsed_files_after_rename}
 pub use Rattle.sudoers_edit.specs.Renamed.{parsed_files_numbered_from_renamed_if_on_walk}
 unfoldable pub use Rattle.sudoers_edit.specs.Renaming.{policy_after_rename}
-pub use Rattle.sudoers_edit.specs.Renaming.{is_alias_name_in_use, line_replaced_at_offsets, mention_offset_of_member, mention_offsets_in_members, name_offset_if_alias_member_matches, name_offsets_in_definition}
-pub use Rattle.sudoers_edit.specs.Renaming.{name_offsets_in_line, named_files_after_rename, named_files_numbered_from_renamed_if_on_walk, text_of_renamed_line, texts_of_renamed_lines}
+pub use Rattle.sudoers_edit.specs.Renaming.{is_alias_name_in_use, named_files_after_rename, texts_of_renamed_lines}
 pub use Rattle.sudoers_edit.specs.Splice.{ByteExtent, bytes_between, definition_without_member, definitions_with_one_changed, extents_of_definition_members, extents_of_definitions, extents_of_members}
 pub use Rattle.sudoers_edit.specs.Splice.{are_owned_byte_offsets_in_both_lists, has_one_definition_more, has_one_member_more, is_option_equal_to, line_with_splice, line_without_bytes, owned_bytes_start, owned_bytes_stop}
 unfoldable pub use Rattle.sudoers_edit.specs.SpliceEdits.{text_owned_by_definition, text_owned_by_member, lines_with_definition_added, lines_with_definition_dropped, lines_with_member_added, lines_with_member_dropped}
@@ -51,6 +50,8 @@ pub use Rattle.sudoers_edit.specs.internal.Drafts.{IsPartialPrune, LeavesLinesBe
 pub use Rattle.sudoers_edit.specs.internal.Drafts.{limits_with_limit_of_file_set, removal_limits_after, replacement_text_by_first_change}
 pub use Rattle.sudoers_edit.specs.internal.EditLaws.{LawsBehindLineEdits, LawsBehindMemberEdits}
 pub use Rattle.sudoers_edit.specs.internal.LastLine.{LawsBehindFinalLfEdits}
+pub use Rattle.sudoers_edit.specs.internal.NameOffsets.{line_replaced_at_offsets, mention_offset_of_member, mention_offsets_in_members, name_offset_if_alias_member_matches, name_offsets_in_definition}
+pub use Rattle.sudoers_edit.specs.internal.NameOffsets.{name_offsets_in_line, named_files_with_name_replaced, named_files_numbered_from_replaced_if_on_walk, text_with_name_replaced, texts_with_name_replaced}
 pub use Rattle.sudoers_edit.specs.internal.Leading.{AreChangesOfEdit, rename_change_in_line, rename_changes_in_file, rename_changes_in_files}
 pub use Rattle.sudoers_edit.specs.internal.LeadingInFile.{AreApplicableChangesOfFile, AreLogicalLinesOfFileWithinTextLimit, EditSetsFileLines, line_changes_of_move, line_texts_of_file}
 pub use Rattle.sudoers_edit.specs.internal.OneMore.{IsLineTextWithItemCutOut, IsLineTextWithItemPutIn}

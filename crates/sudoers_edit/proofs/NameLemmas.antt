@@ -1,10 +1,11 @@
 -- Edits keep the names of files.
+use Rattle.sudoers_edit.proofs.Common.{parsed_files_numbered_from_renamed_if_on_walk, parsed_file_after_rename}
 use Rattle.sudoers_edit.proofs.Common.{AddDef, AddMember, BadName, Bool, DefinitionFilePlace, Delete, DropDef, DropMember, Edit, EditFault, EndLine, Err, Insert, Kind, Line, LineTexts, List, LoadFault, LoadedPolicy}
 use Rattle.sudoers_edit.proofs.Common.{Move, NameTaken, NamedFile, NoAlias, NoFile, None, Ok, OpenEnd, OpenLine, Option, ParsedFile, Place, Prune, PruneRemoval, Rename, Result, Some, TooLarge, WalkState, [], ap}
 use Rattle.sudoers_edit.proofs.Common.{definition_place_of_name, edit_result_and_then, false, file_place_of_definition, files_with_bytes_replaced, has_inner_line_without_lf, if◌then◌else◌, is_alias_name_in_use}
 use Rattle.sudoers_edit.proofs.Common.{is_file_on_walk, is_line_too_long, is_name, is_reserved, is_some, join, line_with_lf_added, line_with_lf_removed, lines_after_delete, changed_lines_unless_last_too_long, lines_after_insert}
 use Rattle.sudoers_edit.proofs.Common.{lines_after_move, lines_of_numbered_file, lines_with_definition_added, lines_with_definition_dropped, lines_with_last_changed, lines_with_member_added}
-use Rattle.sudoers_edit.proofs.Common.{lines_with_member_dropped, list_any, map, named_file_of_parsed, named_files_after_rename, named_files_of_policy, named_files_numbered_from_renamed_if_on_walk, names_of_named_files}
+use Rattle.sudoers_edit.proofs.Common.{lines_with_member_dropped, list_any, map, named_file_of_parsed, named_files_after_rename, named_files_of_policy, names_of_named_files}
 use Rattle.sudoers_edit.proofs.Common.{next_or_placed_refusal, not, place_within_file_of_definition, policy_after_removal, policy_after_removals, policy_after_rename, policy_of_files_or_refusal, policy_or_edit_fault}
 use Rattle.sudoers_edit.proofs.Common.{policy_or_first_refusal, policy_or_load_fault, policy_with_file_defining_alias_edited, policy_with_file_edited, policy_with_file_lines, prune_removals_of_walk, refl}
 use Rattle.sudoers_edit.proofs.Common.{result_or_refusal_if_none, result_unless_refused, slice_get, step, suc, sym, texts_of_lines, texts_of_renamed_lines, true, zero, ℕ, ◌+◌, ◌||◌, ◌∙◌, ◌∷◌, ◌≡◌}
@@ -54,12 +55,12 @@ alias_edit_keeps_file_names law policy k name edit = by (file_place_of_definitio
     by None = λ new is. absurd cc
     by (Some at) = lines_of_file_keep_file_names law policy at.file (edit (place_within_file_of_definition at) (lines_of_numbered_file policy.files at.file))
 
-renamed_files_keep_names : (n : ℕ) (k : Kind) (name fresh : List ℕ) (w : WalkState) (files : List ParsedFile) → names_of_named_files (named_files_numbered_from_renamed_if_on_walk n k name fresh w files) ≡ names_of_named_files (map named_file_of_parsed files)
+renamed_files_keep_names : (n : ℕ) (k : Kind) (name fresh : List ℕ) (w : WalkState) (files : List ParsedFile) → names_of_named_files (map named_file_of_parsed (parsed_files_numbered_from_renamed_if_on_walk n k name fresh w files)) ≡ names_of_named_files (map named_file_of_parsed files)
 renamed_files_keep_names n k name fresh w [] = refl
 renamed_files_keep_names n k name fresh w (file ∷ files) = by (is_file_on_walk w n) (renamed_files_keep_names (n + 1) k name fresh w files)
   where
-    by : (b : Bool) → names_of_named_files (named_files_numbered_from_renamed_if_on_walk (n + 1) k name fresh w files) ≡ names_of_named_files (map named_file_of_parsed files)
-        → names_of_named_files ((if b then record { name = file.name; bytes = join (texts_of_renamed_lines k name fresh file.lines) } else named_file_of_parsed file) ∷ named_files_numbered_from_renamed_if_on_walk (n + 1) k name fresh w files)
+    by : (b : Bool) → names_of_named_files (map named_file_of_parsed (parsed_files_numbered_from_renamed_if_on_walk (n + 1) k name fresh w files)) ≡ names_of_named_files (map named_file_of_parsed files)
+        → names_of_named_files (map named_file_of_parsed ((if b then parsed_file_after_rename k name fresh file else file) ∷ parsed_files_numbered_from_renamed_if_on_walk (n + 1) k name fresh w files))
         ≡ names_of_named_files (map named_file_of_parsed (file ∷ files))
     by true rest = ap (λ (names : List (List ℕ)). file.name ∷ names) rest
     by false rest = ap (λ (names : List (List ℕ)). file.name ∷ names) rest

@@ -3,12 +3,12 @@ use Rattle.sudoers_edit.proofs.Common.{AliasRenaming, AllByRecursion, AreApplica
 use Rattle.sudoers_edit.proofs.Common.{LineToLinesMapping, List, LoadedPolicy, LoadedFileLawsBehindRenames, MakeMappedLines, NamedFile, Node, Ok, ParsedFile, WalkLineSpot, WalkState, [], ap, ap₂, arith, changed_files_from_number}
 use Rattle.sudoers_edit.proofs.Common.{changes_of_file, false, file_names, files_after_changes, has_inner_line_without_lf, if◌then◌else◌, is_file_on_walk, join, lead_of_parsed_line, length, line_after_rename}
 use Rattle.sudoers_edit.proofs.Common.{lines_after_changes, lines_after_rename, lines_of_numbered_file, list_any, map, mapped_lines_at_spots, mapped_lines_from_number, name_of_numbered_file, named_alias_of_kind_and_name}
-use Rattle.sudoers_edit.proofs.Common.{named_file_of_parsed, named_files_after_rename, named_files_of_policy, named_files_numbered_from_renamed_if_on_walk, nat_eq, node_with_alias_renamed, one, policy_or_load_fault, refl}
-use Rattle.sudoers_edit.proofs.Common.{rename_changes_in_files, renaming_of_alias_in_node, subst, suc, sym, texts_of_lines, texts_of_renamed_lines, true, ℕ, ◌+◌, ◌∙◌, ◌∷◌, ◌≡◌}
+use Rattle.sudoers_edit.proofs.Common.{named_file_of_parsed, named_files_with_name_replaced, named_files_of_policy, named_files_numbered_from_replaced_if_on_walk, nat_eq, node_with_alias_renamed, one, policy_or_load_fault, refl}
+use Rattle.sudoers_edit.proofs.Common.{rename_changes_in_files, renaming_of_alias_in_node, subst, suc, sym, texts_of_lines, texts_with_name_replaced, true, ℕ, ◌+◌, ◌∙◌, ◌∷◌, ◌≡◌}
 use Rattle.sudoers_grammar.specs.Node as node
 use Rattle.sudoers_edit.proofs.NameFree.{IsLineWithoutAlias}
 use Rattle.sudoers_edit.proofs.RenamedPolicy.{renamed_lines_are_correctly_parsed}
-use Rattle.sudoers_edit.proofs.RenamedTexts.{renamed_texts_are_texts_of_renamed_lines}
+use Rattle.sudoers_edit.proofs.RenamedTexts.{texts_with_name_replaced_are_renamed_texts}
 use Rattle.sudoers_edit.proofs.RenameCovers.{walk_line_property_holds_in_its_files}
 use Rattle.sudoers_edit.proofs.SoundFiles.{AreSoundFiles, loaded_files_are_sound}
 use Rattle.sudoers_edit.proofs.RenameLines.{rename_changes_in_files_bring_logical_lines, renamed_lines_keep_inner_lf, texts_of_reverse_renamed_lines_are_former}
@@ -30,39 +30,39 @@ rename_changes_are_applicable l k name fresh old new policy sound = record {
   ended = λ f. ap has_inner_line_without_lf (rename_changes_make_lines_of_each_file l.none l.first f k name fresh policy.walk policy.files) ∙ ended f (is_file_on_walk policy.walk f);
 }
   where
-    ended : (f : ℕ) (on : Bool) → has_inner_line_without_lf (if on then texts_of_renamed_lines k name fresh (lines_of_numbered_file policy.files f) else texts_of_lines (lines_of_numbered_file policy.files f)) ≡ false
+    ended : (f : ℕ) (on : Bool) → has_inner_line_without_lf (if on then texts_with_name_replaced k name fresh (lines_of_numbered_file policy.files f) else texts_of_lines (lines_of_numbered_file policy.files f)) ≡ false
     ended f true =
-        ap has_inner_line_without_lf (renamed_texts_are_texts_of_renamed_lines l.lines.ascend k name fresh (lines_of_numbered_file policy.files f) (sound.says f))
+        ap has_inner_line_without_lf (texts_with_name_replaced_are_renamed_texts l.lines.ascend k name fresh (lines_of_numbered_file policy.files f) (sound.says f))
         ∙ renamed_lines_keep_inner_lf l.lines (named_alias_of_kind_and_name k name) fresh old new (lines_of_numbered_file policy.files f) (sound.says f)
         ∙ sound.ended f
     ended f false = sound.ended f
 
 -- They make these files.
-renamed_files_are_made_from_number : (m : ℕ) (k : Kind) (name fresh : List ℕ) (w : WalkState) (changes : List LineChange) (files : List ParsedFile)
+files_with_name_replaced_are_made_from_number : (m : ℕ) (k : Kind) (name fresh : List ℕ) (w : WalkState) (changes : List LineChange) (files : List ParsedFile)
     → ((i f : ℕ) → f ≡ m + i → lines_after_changes (changes_of_file f changes) (texts_of_lines (lines_of_numbered_file files i))
-    ≡ if is_file_on_walk w f then texts_of_renamed_lines k name fresh (lines_of_numbered_file files i) else texts_of_lines (lines_of_numbered_file files i))
-    → changed_files_from_number m changes files ≡ named_files_numbered_from_renamed_if_on_walk m k name fresh w files
-renamed_files_are_made_from_number m k name fresh w changes [] make = refl
-renamed_files_are_made_from_number m k name fresh w changes (file ∷ files) make =
+    ≡ if is_file_on_walk w f then texts_with_name_replaced k name fresh (lines_of_numbered_file files i) else texts_of_lines (lines_of_numbered_file files i))
+    → changed_files_from_number m changes files ≡ named_files_numbered_from_replaced_if_on_walk m k name fresh w files
+files_with_name_replaced_are_made_from_number m k name fresh w changes [] make = refl
+files_with_name_replaced_are_made_from_number m k name fresh w changes (file ∷ files) make =
     ap₂ (λ (first : NamedFile) (rest : List NamedFile). first ∷ rest) (by (is_file_on_walk w m) (make 0 m (omega arith)))
-    (renamed_files_are_made_from_number (m + 1) k name fresh w changes files (λ i f is. make (suc i) f (omega (arith, is))))
+    (files_with_name_replaced_are_made_from_number (m + 1) k name fresh w changes files (λ i f is. make (suc i) f (omega (arith, is))))
   where
     now : List (List ℕ)
     now = lines_after_changes (changes_of_file m changes) (texts_of_lines file.lines)
 
-    by : (on : Bool) → now ≡ (if on then texts_of_renamed_lines k name fresh file.lines else texts_of_lines file.lines)
+    by : (on : Bool) → now ≡ (if on then texts_with_name_replaced k name fresh file.lines else texts_of_lines file.lines)
         → (let made : NamedFile = record { name = file.name; bytes = join now } in made)
-        ≡ (if on then record { name = file.name; bytes = join (texts_of_renamed_lines k name fresh file.lines) } else named_file_of_parsed file)
+        ≡ (if on then record { name = file.name; bytes = join (texts_with_name_replaced k name fresh file.lines) } else named_file_of_parsed file)
     by true is = ap (λ (lines : List (List ℕ)). let made : NamedFile = record { name = file.name; bytes = join lines } in made) is
     by false is = ap (λ (lines : List (List ℕ)). let made : NamedFile = record { name = file.name; bytes = join lines } in made) is
 
-pub rename_changes_make_renamed_files : LoadedFileLawsBehindRenames → (k : Kind) (name fresh : List ℕ) (policy : LoadedPolicy)
-    → files_after_changes (rename_changes_of_policy k name fresh policy) policy.files ≡ named_files_after_rename k name fresh policy
-rename_changes_make_renamed_files l k name fresh policy =
-    renamed_files_are_made_from_number 0 k name fresh policy.walk (rename_changes_of_policy k name fresh policy) policy.files (λ i f is.
+pub rename_changes_make_files_with_name_replaced : LoadedFileLawsBehindRenames → (k : Kind) (name fresh : List ℕ) (policy : LoadedPolicy)
+    → files_after_changes (rename_changes_of_policy k name fresh policy) policy.files ≡ named_files_with_name_replaced k name fresh policy
+rename_changes_make_files_with_name_replaced l k name fresh policy =
+    files_with_name_replaced_are_made_from_number 0 k name fresh policy.walk (rename_changes_of_policy k name fresh policy) policy.files (λ i f is.
     let same : f ≡ i = omega (arith, is) in
     subst (λ (n : ℕ). lines_after_changes (changes_of_file n (rename_changes_of_policy k name fresh policy)) (texts_of_lines (lines_of_numbered_file policy.files i))
-    ≡ if is_file_on_walk policy.walk n then texts_of_renamed_lines k name fresh (lines_of_numbered_file policy.files i) else texts_of_lines (lines_of_numbered_file policy.files i)) (sym same)
+    ≡ if is_file_on_walk policy.walk n then texts_with_name_replaced k name fresh (lines_of_numbered_file policy.files i) else texts_of_lines (lines_of_numbered_file policy.files i)) (sym same)
     (rename_changes_make_lines_of_each_file l.none l.first i k name fresh policy.walk policy.files))
 
 -- THE WALK
@@ -104,8 +104,8 @@ file_on_walk_has_renamed_lines : LoadedFileLawsBehindRenames → (k : Kind) (nam
 file_on_walk_has_renamed_lines l k name fresh policy sound f on =
     let lines : List Line = lines_of_numbered_file policy.files f in
     rename_changes_make_lines_of_each_file l.none l.first f k name fresh policy.walk policy.files
-    ∙ ap (λ (b : Bool). if b then texts_of_renamed_lines k name fresh lines else texts_of_lines lines) on
-    ∙ renamed_texts_are_texts_of_renamed_lines l.lines.ascend k name fresh lines (sound.says f)
+    ∙ ap (λ (b : Bool). if b then texts_with_name_replaced k name fresh lines else texts_of_lines lines) on
+    ∙ texts_with_name_replaced_are_renamed_texts l.lines.ascend k name fresh lines (sound.says f)
 
 -- and another file has its lines
 file_not_on_walk_keeps_lines : LoadedFileLawsBehindRenames → (k : Kind) (name fresh : List ℕ) (policy : LoadedPolicy) → (f : ℕ) → is_file_on_walk policy.walk f ≡ false
@@ -113,7 +113,7 @@ file_not_on_walk_keeps_lines : LoadedFileLawsBehindRenames → (k : Kind) (name 
 file_not_on_walk_keeps_lines l k name fresh policy f off =
     let lines : List Line = lines_of_numbered_file policy.files f in
     rename_changes_make_lines_of_each_file l.none l.first f k name fresh policy.walk policy.files
-    ∙ ap (λ (b : Bool). if b then texts_of_renamed_lines k name fresh lines else texts_of_lines lines) off
+    ∙ ap (λ (b : Bool). if b then texts_with_name_replaced k name fresh lines else texts_of_lines lines) off
 
 rename_changes_make_mapped_lines : LoadedFileLawsBehindRenames → (k : Kind) (name fresh : List ℕ) → IsDefinableName name → IsDefinableName fresh → (policy : LoadedPolicy) → AreSoundFiles policy.files
     → MakeMappedLines (line_mapping_of_rename k name fresh) (rename_changes_of_policy k name fresh policy) policy.files policy.walk
@@ -145,31 +145,31 @@ walk_after_rename_is_renamed_walk l k name fresh policy new r =
 
 -- THE NAME GIVEN BACK
 
-reverse_renamed_files_are_made_from_number : (m : ℕ) (k : Kind) (name fresh : List ℕ) (w : WalkState) (olds news : List ParsedFile) → file_names news ≡ file_names olds
-    → ((i f : ℕ) → f ≡ m + i → (if is_file_on_walk w f then texts_of_renamed_lines k fresh name (lines_of_numbered_file news i) else texts_of_lines (lines_of_numbered_file news i)) ≡ texts_of_lines (lines_of_numbered_file olds i))
-    → named_files_numbered_from_renamed_if_on_walk m k fresh name w news ≡ map named_file_of_parsed olds
-reverse_renamed_files_are_made_from_number m k name fresh w [] [] names back = refl
-reverse_renamed_files_are_made_from_number m k name fresh w [] (new ∷ news) names back = absurd cc
-reverse_renamed_files_are_made_from_number m k name fresh w (old ∷ olds) [] names back = absurd cc
-reverse_renamed_files_are_made_from_number m k name fresh w (old ∷ olds) (new ∷ news) names back =
+files_with_name_replaced_back_are_former_from_number : (m : ℕ) (k : Kind) (name fresh : List ℕ) (w : WalkState) (olds news : List ParsedFile) → file_names news ≡ file_names olds
+    → ((i f : ℕ) → f ≡ m + i → (if is_file_on_walk w f then texts_with_name_replaced k fresh name (lines_of_numbered_file news i) else texts_of_lines (lines_of_numbered_file news i)) ≡ texts_of_lines (lines_of_numbered_file olds i))
+    → named_files_numbered_from_replaced_if_on_walk m k fresh name w news ≡ map named_file_of_parsed olds
+files_with_name_replaced_back_are_former_from_number m k name fresh w [] [] names back = refl
+files_with_name_replaced_back_are_former_from_number m k name fresh w [] (new ∷ news) names back = absurd cc
+files_with_name_replaced_back_are_former_from_number m k name fresh w (old ∷ olds) [] names back = absurd cc
+files_with_name_replaced_back_are_former_from_number m k name fresh w (old ∷ olds) (new ∷ news) names back =
     let same : new.name ≡ old.name = cc in
     let rest : file_names news ≡ file_names olds = cc in
     ap₂ (λ (first : NamedFile) (more : List NamedFile). first ∷ more) (by (is_file_on_walk w m) same (back 0 m (omega arith)))
-    (reverse_renamed_files_are_made_from_number (m + 1) k name fresh w olds news rest (λ i f is. back (suc i) f (omega (arith, is))))
+    (files_with_name_replaced_back_are_former_from_number (m + 1) k name fresh w olds news rest (λ i f is. back (suc i) f (omega (arith, is))))
   where
     named : (called : List ℕ) (lines : List (List ℕ)) → called ≡ old.name → lines ≡ texts_of_lines old.lines
         → (let made : NamedFile = record { name = called; bytes = join lines } in made) ≡ named_file_of_parsed old
     named called lines is are = ap₂ (λ (n : List ℕ) (ls : List (List ℕ)). let made : NamedFile = record { name = n; bytes = join ls } in made) is are
 
-    by : (on : Bool) → new.name ≡ old.name → (if on then texts_of_renamed_lines k fresh name new.lines else texts_of_lines new.lines) ≡ texts_of_lines old.lines
-        → (if on then record { name = new.name; bytes = join (texts_of_renamed_lines k fresh name new.lines) } else named_file_of_parsed new) ≡ named_file_of_parsed old
-    by true same is = named new.name (texts_of_renamed_lines k fresh name new.lines) same is
+    by : (on : Bool) → new.name ≡ old.name → (if on then texts_with_name_replaced k fresh name new.lines else texts_of_lines new.lines) ≡ texts_of_lines old.lines
+        → (if on then record { name = new.name; bytes = join (texts_with_name_replaced k fresh name new.lines) } else named_file_of_parsed new) ≡ named_file_of_parsed old
+    by true same is = named new.name (texts_with_name_replaced k fresh name new.lines) same is
     by false same is = named new.name (texts_of_lines new.lines) same is
 
 -- the lines of a file, with the old name given back if the file is on the walk, are those before
 reverse_rename_restores_lines_of_file : LoadedFileLawsBehindRenames → (k : Kind) (name fresh : List ℕ) (policy new : LoadedPolicy) → IsLoadedAfterRename k name fresh policy new
     → AllByRecursion (IsLineWithoutAlias k fresh) policy.walk.lines → (f : ℕ) → (on : Bool) → is_file_on_walk policy.walk f ≡ on
-    → (if on then texts_of_renamed_lines k fresh name (lines_of_numbered_file new.files f) else texts_of_lines (lines_of_numbered_file new.files f)) ≡ texts_of_lines (lines_of_numbered_file policy.files f)
+    → (if on then texts_with_name_replaced k fresh name (lines_of_numbered_file new.files f) else texts_of_lines (lines_of_numbered_file new.files f)) ≡ texts_of_lines (lines_of_numbered_file policy.files f)
 reverse_rename_restores_lines_of_file l k name fresh policy new r without f true on =
     let sound : AreSoundFiles policy.files = loaded_files_are_sound l policy r.loaded in
     let can : AreApplicableChanges (rename_changes_of_policy k name fresh policy) policy.files = rename_changes_are_applicable l k name fresh r.old_name r.new_name policy sound in
@@ -178,7 +178,7 @@ reverse_rename_restores_lines_of_file l k name fresh policy new r without f true
     l.tell (lines_of_numbered_file new.files f) (lines_after_rename k name fresh lines) (l.said (files_after_changes (rename_changes_of_policy k name fresh policy) policy.files) new r.is f)
     (renamed_lines_are_correctly_parsed l.lines.same (named_alias_of_kind_and_name k name) fresh r.old_name r.new_name lines (sound.says f))
     (l.after (rename_changes_of_policy k name fresh policy) policy new r.loaded can r.is f ∙ file_on_walk_has_renamed_lines l k name fresh policy sound f on) in
-    ap (texts_of_renamed_lines k fresh name) now
+    ap (texts_with_name_replaced k fresh name) now
     ∙ texts_of_reverse_renamed_lines_are_former l.lines k name fresh r.old_name r.new_name lines (sound.says f)
     (walk_line_property_holds_in_its_files (IsLineWithoutAlias k fresh) policy.files policy.walk (l.goes policy.files) (l.walked (named_files_of_policy policy) policy r.loaded) without f on)
 reverse_rename_restores_lines_of_file l k name fresh policy new r without f false off =
@@ -187,11 +187,11 @@ reverse_rename_restores_lines_of_file l k name fresh policy new r without f fals
     l.after (rename_changes_of_policy k name fresh policy) policy new r.loaded can r.is f ∙ file_not_on_walk_keeps_lines l k name fresh policy f off
 
 pub reverse_rename_restores_files : LoadedFileLawsBehindRenames → (k : Kind) (name fresh : List ℕ) (policy new : LoadedPolicy) → IsLoadedAfterRename k name fresh policy new
-    → AllByRecursion (IsLineWithoutAlias k fresh) policy.walk.lines → named_files_after_rename k fresh name new ≡ named_files_of_policy policy
+    → AllByRecursion (IsLineWithoutAlias k fresh) policy.walk.lines → named_files_with_name_replaced k fresh name new ≡ named_files_of_policy policy
 reverse_rename_restores_files l k name fresh policy new r without =
-    reverse_renamed_files_are_made_from_number 0 k name fresh new.walk policy.files new.files (l.names (rename_changes_of_policy k name fresh policy) policy new r.is) (λ i f is.
+    files_with_name_replaced_back_are_former_from_number 0 k name fresh new.walk policy.files new.files (l.names (rename_changes_of_policy k name fresh policy) policy new r.is) (λ i f is.
     let at : f ≡ i = omega (arith, is) in
     let same : is_file_on_walk new.walk f ≡ is_file_on_walk policy.walk i =
     ap (list_any (nat_eq f)) (walk_after_rename_is_renamed_walk l k name fresh policy new r).1 ∙ ap (λ (n : ℕ). is_file_on_walk policy.walk n) at in
-    ap (λ (on : Bool). if on then texts_of_renamed_lines k fresh name (lines_of_numbered_file new.files i) else texts_of_lines (lines_of_numbered_file new.files i)) same
+    ap (λ (on : Bool). if on then texts_with_name_replaced k fresh name (lines_of_numbered_file new.files i) else texts_of_lines (lines_of_numbered_file new.files i)) same
     ∙ reverse_rename_restores_lines_of_file l k name fresh policy new r without i (is_file_on_walk policy.walk i) refl)

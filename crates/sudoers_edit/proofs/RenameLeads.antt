@@ -5,8 +5,9 @@ use Rattle.sudoers_edit.proofs.Common.{named_files_after_rename, named_files_of_
 use Rattle.sudoers_edit.proofs.Common.{result_ok, run, step, subst, sym, texts_of_lines, texts_of_renamed_lines, true, ℕ, ◌||◌, ◌∙◌, ◌∷◌, ◌≡◌}
 use Rattle.std.specs.Prelude.{Result, option_and_then}
 use Rattle.sudoers_edit.proofs.RenamedPolicy.{name_defined_on_walk_is_definable}
-use Rattle.sudoers_edit.proofs.RenameFiles.{IsLoadedAfterRename, rename_changes_are_applicable, rename_changes_make_renamed_files, reverse_rename_restores_files, rename_changes_of_policy, walk_after_rename_is_renamed_walk}
+use Rattle.sudoers_edit.proofs.RenameFiles.{IsLoadedAfterRename, rename_changes_are_applicable, rename_changes_make_files_with_name_replaced, reverse_rename_restores_files, rename_changes_of_policy, walk_after_rename_is_renamed_walk}
 use Rattle.sudoers_edit.proofs.SoundFiles.{loaded_files_are_sound, walk_lines_of_sound_files_are_short}
+use Rattle.sudoers_edit.proofs.RenameReadings.{renamed_files_are_files_with_name_replaced}
 use Rattle.sudoers_edit.proofs.RenameLines.{CanRenameBackInLines, renamed_lines_can_be_renamed_back}
 
 -- The alias is defined on the walk of a policy, and the new name is free there.
@@ -29,6 +30,13 @@ unrefused_rename_is_load_of_renamed_files k name fresh policy some new free shor
 accepted_edit_is_run_alone : (e : Edit) (policy new : LoadedPolicy) → step e policy ≡ Ok new → run (e ∷ []) policy ≡ Some new
 accepted_edit_is_run_alone e policy new is = ap (λ (r : Result LoadedPolicy EditFault). option_and_then (run []) (result_ok r)) is
 
+-- the changes of a rename make the renamed files
+pub rename_changes_make_renamed_files : LoadedFileLawsBehindRenames → (k : Kind) (name fresh : List ℕ) (policy : LoadedPolicy) → policy_or_load_fault (named_files_of_policy policy) ≡ Ok policy
+    → files_after_changes (rename_changes_of_policy k name fresh policy) policy.files ≡ named_files_after_rename k name fresh policy
+rename_changes_make_renamed_files l k name fresh policy loaded =
+    rename_changes_make_files_with_name_replaced l k name fresh policy
+    ∙ sym (renamed_files_are_files_with_name_replaced l.lines 0 k name fresh policy.walk policy.files (loaded_files_are_sound l policy loaded).says)
+
 -- one rename leads back
 pub reverse_rename_leads_back : LoadedFileLawsBehindRenames → (k : Kind) (name fresh : List ℕ) (policy new : LoadedPolicy) → CanRenameOnWalk k name fresh policy
     → policy_or_load_fault (files_after_changes (rename_changes_of_policy k name fresh policy) policy.files) ≡ Ok new → policy_after_rename k fresh name new ≡ Ok policy
@@ -43,6 +51,8 @@ reverse_rename_leads_back l k name fresh policy new f told =
     unrefused_rename_is_load_of_renamed_files k fresh name new (ap (λ (ls : List Line). is_some (definition_place_of_name k fresh ls)) now ∙ b.some) b.old
     (ap (is_alias_name_in_use k name) now ∙ b.free)
     (ap (λ (ls : List Line). list_any is_line_too_long (texts_of_renamed_lines k fresh name ls)) now ∙ ap (list_any is_line_too_long) b.are ∙ short)
+    ∙ ap policy_of_files_or_refusal (renamed_files_are_files_with_name_replaced l.lines 0 k fresh name new.walk new.files
+    (l.said (files_after_changes (rename_changes_of_policy k name fresh policy) policy.files) new told))
     ∙ ap policy_of_files_or_refusal (reverse_rename_restores_files l k name fresh policy new r b.without)
     ∙ ap policy_or_edit_fault f.loaded
 
@@ -53,7 +63,7 @@ rename_changes_make_edit_of_rename l k name fresh policy changes f short are =
     subst (AreChangesOfEdit (Rename k name fresh) (Rename k fresh name ∷ []) policy) (sym are) (record {
       fits = rename_changes_are_applicable l k name fresh (name_defined_on_walk_is_definable k name policy.walk.lines (l.walk (named_files_of_policy policy) policy f.loaded) f.some) f.new policy
           (loaded_files_are_sound l policy f.loaded);
-      forth = unrefused_rename_is_load_of_renamed_files k name fresh policy f.some f.new f.free short ∙ ap policy_of_files_or_refusal (sym (rename_changes_make_renamed_files l k name fresh policy));
+      forth = unrefused_rename_is_load_of_renamed_files k name fresh policy f.some f.new f.free short ∙ ap policy_of_files_or_refusal (sym (rename_changes_make_renamed_files l k name fresh policy f.loaded));
       inverse_is = refl;
       back = λ new told. accepted_edit_is_run_alone (Rename k fresh name) new policy (reverse_rename_leads_back l k name fresh policy new f told);
     })

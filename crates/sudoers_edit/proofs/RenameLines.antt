@@ -1,9 +1,10 @@
 -- Lines in which an alias has another name, and the name given back.
+use Rattle.sudoers_edit.proofs.Common.{texts_of_renamed_lines}
 use Rattle.sudoers_edit.proofs.Common.{AllByRecursion, AreValidWalkLines, Bool, EachIsOneLineWhenCut, IsCorrectlyParsed, IsDefinableName, IsLogicalLine, Kind, Line, LineChange, LineReadsAsNode, List, NamedAlias}
 use Rattle.sudoers_edit.proofs.Common.{ParsedFile, PlacedDefinition, RenamedLineLaws, WalkState, [], alias_offsets_in_node, ap, ap₂, arith, bytes_eq, bytes_eq-Decides, definition_place_of_name, definitions_of_lines}
 use Rattle.sudoers_edit.proofs.Common.{false, has_inner_line_without_lf, if◌then◌else◌, is_alias_name_in_use, is_file_on_walk, is_some, length, line_after_rename, line_replaced_at_offsets, line_text_after_rename}
 use Rattle.sudoers_edit.proofs.Common.{lines_after_rename, lines_of_numbered_file, ltb-false, map, mentions_in_lines, name_offsets_in_line, named_alias_of_kind_and_name, nat_lt, nil_from_length, not, or_false, refl}
-use Rattle.sudoers_edit.proofs.Common.{rename_change_in_line, rename_changes_in_file, rename_changes_in_files, subst, suc, sym, texts_of_changes, texts_of_lines, texts_of_renamed_lines, true, ℕ, ◌++◌, ◌+◌, ◌||◌, ◌∙◌}
+use Rattle.sudoers_edit.proofs.Common.{rename_change_in_line, rename_changes_in_file, rename_changes_in_files, subst, suc, sym, texts_of_changes, texts_of_lines, texts_with_name_replaced, true, ℕ, ◌++◌, ◌+◌, ◌||◌, ◌∙◌}
 use Rattle.sudoers_edit.proofs.Common.{◌∷◌, ◌≡◌}
 use Rattle.sudoers_edit.proofs.NameFree.{IsLineWithoutAlias, lines_not_naming_alias_are_without_it}
 use Rattle.sudoers_edit.proofs.NameGone.{renamed_lines_lack_old_name}
@@ -12,7 +13,7 @@ use Rattle.sudoers_edit.proofs.PutNames.{replacement_at_once_is_replacement_in_t
 use Rattle.sudoers_edit.proofs.RenamedNames.{AreRenamedDefinitions, definitions_of_renamed_lines_are_renamed}
 use Rattle.sudoers_edit.proofs.RenamedOnce.{undefined_name_is_lacked_by_definitions, name_lacked_by_definitions_is_undefined, defined_and_undefined_names_differ, new_name_is_defined_in_old_place, renamed_definitions_lack_old_name}
 use Rattle.sudoers_edit.proofs.RenamedPolicy.{renamed_lines_are_correctly_parsed, name_defined_on_walk_is_definable}
-use Rattle.sudoers_edit.proofs.RenamedTexts.{renamed_texts_are_texts_of_renamed_lines}
+use Rattle.sudoers_edit.proofs.RenamedTexts.{texts_with_name_replaced_are_renamed_texts}
 
 -- ---- the texts
 
@@ -79,9 +80,9 @@ reverse_rename_of_lines_restores_texts l k name fresh (line ∷ lines) says with
 
 -- renamed lines with the old name are the lines before
 pub texts_of_reverse_renamed_lines_are_former : RenamedLineLaws → (k : Kind) (name fresh : List ℕ) → IsDefinableName name → IsDefinableName fresh → (lines : List Line) → AllByRecursion IsCorrectlyParsed lines
-    → AllByRecursion (IsLineWithoutAlias k fresh) lines → texts_of_renamed_lines k fresh name (lines_after_rename k name fresh lines) ≡ texts_of_lines lines
+    → AllByRecursion (IsLineWithoutAlias k fresh) lines → texts_with_name_replaced k fresh name (lines_after_rename k name fresh lines) ≡ texts_of_lines lines
 texts_of_reverse_renamed_lines_are_former l k name fresh old new lines says without =
-    renamed_texts_are_texts_of_renamed_lines l.ascend k fresh name (lines_after_rename k name fresh lines) (renamed_lines_are_correctly_parsed l.same (named_alias_of_kind_and_name k name) fresh old new lines says)
+    texts_with_name_replaced_are_renamed_texts l.ascend k fresh name (lines_after_rename k name fresh lines) (renamed_lines_are_correctly_parsed l.same (named_alias_of_kind_and_name k name) fresh old new lines says)
     ∙ reverse_rename_of_lines_restores_texts l k name fresh lines says without
 
 pub name_of_no_mentions_is_not_mentioned : (k : Kind) (fresh : List ℕ) (lines : List Line) → nat_lt 0 (length (mentions_in_lines k fresh lines)) ≡ false → mentions_in_lines k fresh lines ≡ []
@@ -119,7 +120,7 @@ renamed_lines_can_be_renamed_back l k name fresh lines f =
       free =
           ap₂ (λ (a : Bool) (n : ℕ). a || nat_lt 0 n) (name_lacked_by_definitions_is_undefined k name es (renamed_definitions_lack_old_name k name fresh ds es are apart))
           (ap length (renamed_lines_lack_old_name k name fresh apart 0 lines));
-      are = texts_of_reverse_renamed_lines_are_former l k name fresh old f.new lines f.walk.says without;
+      are = reverse_rename_of_lines_restores_texts l k name fresh lines f.walk.says without;
     }
   where
     turned : bytes_eq fresh name ≡ false → bytes_eq name fresh ≡ false

@@ -1,11 +1,13 @@
 -- Whether a rename makes a line of the walk too long: whether one that its changes bring is.
+use Rattle.sudoers_edit.proofs.Common.{texts_of_renamed_lines}
 use Rattle.sudoers_edit.proofs.Common.{AllByRecursion, AreLinesAtSpots, Bool, EachIsOneLineWhenCut, IsCorrectlyParsed, IsMappedWalk, KeepsIncludeLead, Kind, Line, LineChange, LineToLinesMapping, List, LoadedPolicy}
 use Rattle.sudoers_edit.proofs.Common.{LoadedFileLawsBehindRenames, MakeMappedLines, NamedFile, NoChangesLaw, Ok, ParsedFile, RenamedLineLaws, Some, WalkLineSpot, WalkState, [], ap, ap₂, arith, changed_files_from_number, false}
 use Rattle.sudoers_edit.proofs.Common.{has_inner_line_without_lf, if◌then◌else◌, is_file_on_walk, is_line_too_long, join, le-ltb, length, line_limit, line_replaced_at_offsets, lines_of_numbered_file, list_any, map}
 use Rattle.sudoers_edit.proofs.Common.{mapped_lines_at_spots, mapped_lines_from_number, name_of_numbered_file, name_offsets_in_line, named_file_of_parsed, named_files_of_policy, one, or_false, policy_or_load_fault}
-use Rattle.sudoers_edit.proofs.Common.{refl, rename_change_in_line, rename_changes_in_file, rename_changes_in_files, slice_get, subst, suc, sym, text_of_renamed_line, texts_of_changes, texts_of_lines}
-use Rattle.sudoers_edit.proofs.Common.{texts_of_renamed_lines, true, zero, ℕ, ◌++◌, ◌+◌, ◌||◌, ◌∙◌, ◌∷◌, ◌≡◌, ◌≤◌}
+use Rattle.sudoers_edit.proofs.Common.{refl, rename_change_in_line, rename_changes_in_file, rename_changes_in_files, slice_get, subst, suc, sym, text_with_name_replaced, texts_of_changes, texts_of_lines}
+use Rattle.sudoers_edit.proofs.Common.{texts_with_name_replaced, true, zero, ℕ, ◌++◌, ◌+◌, ◌||◌, ◌∙◌, ◌∷◌, ◌≡◌, ◌≤◌}
 use Rattle.sudoers_edit.proofs.RenameCovers.{walk_line_property_holds_in_its_files}
+use Rattle.sudoers_edit.proofs.RenamedTexts.{texts_with_name_replaced_are_renamed_texts}
 use Rattle.sudoers_edit.proofs.SoundFiles.{AreSoundFiles, loaded_files_are_sound}
 
 -- WHAT THE CHANGES OF FILES BRING
@@ -16,7 +18,7 @@ disjunction_is_associative false b c = refl
 
 long_rename_changes_are_of_lines_or_rest : RenamedLineLaws → (f n : ℕ) (k : Kind) (name fresh : List ℕ) (lines : List Line) (rest : List LineChange) → EachIsOneLineWhenCut (texts_of_lines lines)
     → list_any is_line_too_long (texts_of_changes (rename_changes_in_file f n k name fresh lines ++ rest))
-    ≡ (list_any is_line_too_long (texts_of_renamed_lines k name fresh lines) || list_any is_line_too_long (texts_of_changes rest))
+    ≡ (list_any is_line_too_long (texts_with_name_replaced k name fresh lines) || list_any is_line_too_long (texts_of_changes rest))
 long_rename_changes_are_of_lines_or_rest l f n k name fresh [] rest alone = refl
 long_rename_changes_are_of_lines_or_rest l f n k name fresh (line ∷ lines) rest alone = by (long_rename_changes_are_of_lines_or_rest l f (n + 1) k name fresh lines rest alone.1) (name_offsets_in_line k name line.node)
   where
@@ -24,7 +26,7 @@ long_rename_changes_are_of_lines_or_rest l f n k name fresh (line ∷ lines) res
     later = rename_changes_in_file f (n + 1) k name fresh lines
 
     long : Bool
-    long = list_any is_line_too_long (texts_of_renamed_lines k name fresh lines)
+    long = list_any is_line_too_long (texts_with_name_replaced k name fresh lines)
 
     behind : Bool
     behind = list_any is_line_too_long (texts_of_changes rest)
@@ -40,13 +42,13 @@ long_rename_changes_are_of_lines_or_rest l f n k name fresh (line ∷ lines) res
 -- where none that they bring is too long, none of a file on the walk is
 short_rename_changes_imply_short_file_lines : RenamedLineLaws → (m : ℕ) (k : Kind) (name fresh : List ℕ) (w : WalkState) (files : List ParsedFile) → ((i : ℕ) → EachIsOneLineWhenCut (texts_of_lines (lines_of_numbered_file files i)))
     → list_any is_line_too_long (texts_of_changes (rename_changes_in_files m k name fresh w files)) ≡ false
-    → (i f : ℕ) → f ≡ m + i → is_file_on_walk w f ≡ true → list_any is_line_too_long (texts_of_renamed_lines k name fresh (lines_of_numbered_file files i)) ≡ false
+    → (i f : ℕ) → f ≡ m + i → is_file_on_walk w f ≡ true → list_any is_line_too_long (texts_with_name_replaced k name fresh (lines_of_numbered_file files i)) ≡ false
 short_rename_changes_imply_short_file_lines l m k name fresh w [] each short i f is on = refl
 short_rename_changes_imply_short_file_lines l m k name fresh w (file ∷ files) each short zero f is on =
     let same : f ≡ m = omega (arith, is) in
     let here : is_file_on_walk w m ≡ true = ap (λ (n : ℕ). is_file_on_walk w n) (sym same) ∙ on in
     let later : List LineChange = rename_changes_in_files (m + 1) k name fresh w files in
-    (or_false (list_any is_line_too_long (texts_of_renamed_lines k name fresh file.lines)) (list_any is_line_too_long (texts_of_changes later))
+    (or_false (list_any is_line_too_long (texts_with_name_replaced k name fresh file.lines)) (list_any is_line_too_long (texts_of_changes later))
     (sym (long_rename_changes_are_of_lines_or_rest l m 0 k name fresh file.lines later (each 0))
     ∙ ap (λ (b : Bool). list_any is_line_too_long (texts_of_changes ((if b then rename_changes_in_file m 0 k name fresh file.lines else []) ++ later))) (sym here)
     ∙ short)).0
@@ -59,13 +61,13 @@ short_rename_changes_imply_short_file_lines l m k name fresh w (file ∷ files) 
     by : (b : Bool) → list_any is_line_too_long (texts_of_changes ((if b then rename_changes_in_file m 0 k name fresh file.lines else []) ++ later)) ≡ false
         → list_any is_line_too_long (texts_of_changes later) ≡ false
     by true short =
-        (or_false (list_any is_line_too_long (texts_of_renamed_lines k name fresh file.lines)) (list_any is_line_too_long (texts_of_changes later))
+        (or_false (list_any is_line_too_long (texts_with_name_replaced k name fresh file.lines)) (list_any is_line_too_long (texts_of_changes later))
         (sym (long_rename_changes_are_of_lines_or_rest l m 0 k name fresh file.lines later (each 0)) ∙ short)).1
     by false short = short
 
 -- and where none of a file on the walk is, none that they bring is
 short_file_lines_imply_short_rename_changes : RenamedLineLaws → (m : ℕ) (k : Kind) (name fresh : List ℕ) (w : WalkState) (files : List ParsedFile) → ((i : ℕ) → EachIsOneLineWhenCut (texts_of_lines (lines_of_numbered_file files i)))
-    → ((i f : ℕ) → f ≡ m + i → is_file_on_walk w f ≡ true → list_any is_line_too_long (texts_of_renamed_lines k name fresh (lines_of_numbered_file files i)) ≡ false)
+    → ((i f : ℕ) → f ≡ m + i → is_file_on_walk w f ≡ true → list_any is_line_too_long (texts_with_name_replaced k name fresh (lines_of_numbered_file files i)) ≡ false)
     → list_any is_line_too_long (texts_of_changes (rename_changes_in_files m k name fresh w files)) ≡ false
 short_file_lines_imply_short_rename_changes l m k name fresh w [] each short = refl
 short_file_lines_imply_short_rename_changes l m k name fresh w (file ∷ files) each short =
@@ -75,7 +77,7 @@ short_file_lines_imply_short_rename_changes l m k name fresh w (file ∷ files) 
     later : List LineChange
     later = rename_changes_in_files (m + 1) k name fresh w files
 
-    by : (b : Bool) → (b ≡ true → list_any is_line_too_long (texts_of_renamed_lines k name fresh file.lines) ≡ false) → list_any is_line_too_long (texts_of_changes later) ≡ false
+    by : (b : Bool) → (b ≡ true → list_any is_line_too_long (texts_with_name_replaced k name fresh file.lines) ≡ false) → list_any is_line_too_long (texts_of_changes later) ≡ false
         → list_any is_line_too_long (texts_of_changes ((if b then rename_changes_in_file m 0 k name fresh file.lines else []) ++ later)) ≡ false
     by true here more =
         long_rename_changes_are_of_lines_or_rest l m 0 k name fresh file.lines later (each 0) ∙ ap₂ (λ (a b : Bool). a || b) (here refl) more
@@ -155,23 +157,23 @@ property_in_walked_files_holds_of_walk P files w each (at ∷ spots) (line ∷ l
 -- BOTH
 
 abbrev pub IsRenamedLineShort : Kind → List ℕ → List ℕ → Line → Type 0
-IsRenamedLineShort k name fresh line = is_line_too_long (text_of_renamed_line k name fresh line) ≡ false
+IsRenamedLineShort k name fresh line = is_line_too_long (text_with_name_replaced k name fresh line) ≡ false
 
-pub no_too_long_text_implies_all_short : (k : Kind) (name fresh : List ℕ) (lines : List Line) → list_any is_line_too_long (texts_of_renamed_lines k name fresh lines) ≡ false
+pub no_too_long_text_implies_all_short : (k : Kind) (name fresh : List ℕ) (lines : List Line) → list_any is_line_too_long (texts_with_name_replaced k name fresh lines) ≡ false
     → AllByRecursion (IsRenamedLineShort k name fresh) lines
 no_too_long_text_implies_all_short k name fresh [] short = tt
 no_too_long_text_implies_all_short k name fresh (line ∷ lines) short =
-    let p = or_false (is_line_too_long (text_of_renamed_line k name fresh line)) (list_any is_line_too_long (texts_of_renamed_lines k name fresh lines)) short in
+    let p = or_false (is_line_too_long (text_with_name_replaced k name fresh line)) (list_any is_line_too_long (texts_with_name_replaced k name fresh lines)) short in
     (p.0, no_too_long_text_implies_all_short k name fresh lines p.1)
 
 pub all_short_implies_no_too_long_text : (k : Kind) (name fresh : List ℕ) (lines : List Line) → AllByRecursion (IsRenamedLineShort k name fresh) lines
-    → list_any is_line_too_long (texts_of_renamed_lines k name fresh lines) ≡ false
+    → list_any is_line_too_long (texts_with_name_replaced k name fresh lines) ≡ false
 all_short_implies_no_too_long_text k name fresh [] all = refl
 all_short_implies_no_too_long_text k name fresh (line ∷ lines) all = ap₂ (λ (a b : Bool). a || b) all.0 (all_short_implies_no_too_long_text k name fresh lines all.1)
 
-pub rename_changes_are_long_as_walk_is : LoadedFileLawsBehindRenames → (policy : LoadedPolicy) → policy_or_load_fault (named_files_of_policy policy) ≡ Ok policy → (k : Kind) (name fresh : List ℕ)
-    → list_any is_line_too_long (texts_of_changes (rename_changes_in_files 0 k name fresh policy.walk policy.files)) ≡ list_any is_line_too_long (texts_of_renamed_lines k name fresh policy.walk.lines)
-rename_changes_are_long_as_walk_is l policy loaded k name fresh = by (list_any is_line_too_long (texts_of_changes changes)) (list_any is_line_too_long (texts_of_renamed_lines k name fresh w.lines)) refl refl
+rename_changes_are_long_as_walk_with_name_replaced : LoadedFileLawsBehindRenames → (policy : LoadedPolicy) → policy_or_load_fault (named_files_of_policy policy) ≡ Ok policy → (k : Kind) (name fresh : List ℕ)
+    → list_any is_line_too_long (texts_of_changes (rename_changes_in_files 0 k name fresh policy.walk policy.files)) ≡ list_any is_line_too_long (texts_with_name_replaced k name fresh policy.walk.lines)
+rename_changes_are_long_as_walk_with_name_replaced l policy loaded k name fresh = by (list_any is_line_too_long (texts_of_changes changes)) (list_any is_line_too_long (texts_with_name_replaced k name fresh w.lines)) refl refl
   where
     w : WalkState
     w = policy.walk
@@ -185,14 +187,14 @@ rename_changes_are_long_as_walk_is l policy loaded k name fresh = by (list_any i
     sound : AreSoundFiles files
     sound = loaded_files_are_sound l policy loaded
 
-    forth : list_any is_line_too_long (texts_of_changes changes) ≡ false → list_any is_line_too_long (texts_of_renamed_lines k name fresh w.lines) ≡ false
+    forth : list_any is_line_too_long (texts_of_changes changes) ≡ false → list_any is_line_too_long (texts_with_name_replaced k name fresh w.lines) ≡ false
     forth short =
         all_short_implies_no_too_long_text k name fresh w.lines
         (property_in_walked_files_holds_of_walk (IsRenamedLineShort k name fresh) files w
         (λ f on. no_too_long_text_implies_all_short k name fresh (lines_of_numbered_file files f) (short_rename_changes_imply_short_file_lines l.lines 0 k name fresh w files sound.each short f f (omega arith) on))
         w.spots w.lines (l.stand (named_files_of_policy policy) policy loaded) (omega (arith, ap (λ (ls : List Line). length ls) (walk_lines_are_lines_kept_on_walk l policy loaded))))
 
-    back : list_any is_line_too_long (texts_of_renamed_lines k name fresh w.lines) ≡ false → list_any is_line_too_long (texts_of_changes changes) ≡ false
+    back : list_any is_line_too_long (texts_with_name_replaced k name fresh w.lines) ≡ false → list_any is_line_too_long (texts_of_changes changes) ≡ false
     back short =
         short_file_lines_imply_short_rename_changes l.lines 0 k name fresh w files sound.each (λ i f is on.
         let same : f ≡ i = omega (arith, is) in
@@ -200,8 +202,14 @@ rename_changes_are_long_as_walk_is l policy loaded k name fresh = by (list_any i
         (walk_line_property_holds_in_its_files (IsRenamedLineShort k name fresh) files w (l.goes files) (l.walked (named_files_of_policy policy) policy loaded) (no_too_long_text_implies_all_short k name fresh w.lines short) i
         (ap (λ (n : ℕ). is_file_on_walk w n) (sym same) ∙ on)))
 
-    by : (a b : Bool) → list_any is_line_too_long (texts_of_changes changes) ≡ a → list_any is_line_too_long (texts_of_renamed_lines k name fresh w.lines) ≡ b
-        → list_any is_line_too_long (texts_of_changes changes) ≡ list_any is_line_too_long (texts_of_renamed_lines k name fresh w.lines)
+    by : (a b : Bool) → list_any is_line_too_long (texts_of_changes changes) ≡ a → list_any is_line_too_long (texts_with_name_replaced k name fresh w.lines) ≡ b
+        → list_any is_line_too_long (texts_of_changes changes) ≡ list_any is_line_too_long (texts_with_name_replaced k name fresh w.lines)
     by true true is so = is ∙ sym so
     by false b is so = is ∙ sym (forth is)
     by true false is so = back so ∙ sym so
+
+pub rename_changes_are_long_as_walk_is : LoadedFileLawsBehindRenames → (policy : LoadedPolicy) → policy_or_load_fault (named_files_of_policy policy) ≡ Ok policy → (k : Kind) (name fresh : List ℕ)
+    → list_any is_line_too_long (texts_of_changes (rename_changes_in_files 0 k name fresh policy.walk policy.files)) ≡ list_any is_line_too_long (texts_of_renamed_lines k name fresh policy.walk.lines)
+rename_changes_are_long_as_walk_is l policy loaded k name fresh =
+    rename_changes_are_long_as_walk_with_name_replaced l policy loaded k name fresh
+    ∙ ap (list_any is_line_too_long) (texts_with_name_replaced_are_renamed_texts l.lines.ascend k name fresh policy.walk.lines (l.walk (named_files_of_policy policy) policy loaded).says)

@@ -1,4 +1,5 @@
 -- A rename over files to a free name is refused for its size alone, and one that is made is taken back by one rename.
+use Rattle.sudoers_edit.proofs.Common.{texts_with_name_replaced}
 use Rattle.sudoers_edit.proofs.Common.{AllByRecursion, AreValidWalkLines, BadName, Bool, EditFault, Err, IsDefinableName, IsPolicyAfterRename, Kind, Line, List, LoadFault, LoadedPolicy, NameTaken, NoAlias, Ok}
 use Rattle.sudoers_edit.proofs.Common.{TextSizeLawsBehindRenames, RenamedFilesAreWithinLimits, Result, TooLarge, [], ap, ap₂, arith, definition_place_of_name, false, inl, inr, is_alias_name_in_use, is_file_on_walk}
 use Rattle.sudoers_edit.proofs.Common.{is_line_too_long, is_name, is_reserved, is_some, le-ltb, length, line_limit, lines_after_rename, lines_of_numbered_file, list_any, mentions_in_lines, named_files_after_rename}
@@ -6,11 +7,10 @@ use Rattle.sudoers_edit.proofs.Common.{named_files_of_policy, not, or_false, pol
 use Rattle.sudoers_edit.proofs.Common.{texts_of_lines, texts_of_renamed_lines, true, ℕ, ◌||◌, ◌∙◌, ◌∷◌, ◌≡◌, ◌≤◌, ◌⊎◌}
 use Rattle.std.proofs.Common.{nat_lt}
 use Rattle.sudoers_edit.proofs.RenamedPolicy.{name_defined_on_walk_is_definable, renamed_lines_are_valid_walk_lines}
-use Rattle.sudoers_edit.proofs.RenamedTexts.{renamed_texts_are_texts_of_renamed_lines}
+use Rattle.sudoers_edit.proofs.RenamedTexts.{texts_with_name_replaced_are_renamed_texts}
 use Rattle.sudoers_edit.proofs.RenameCovers.{walk_line_property_holds_in_its_files}
-use Rattle.sudoers_edit.proofs.RenameFiles.{rename_changes_make_renamed_files}
 use Rattle.sudoers_edit.proofs.SoundFiles.{loaded_files_are_sound}
-use Rattle.sudoers_edit.proofs.RenameLeads.{CanRenameOnWalk, reverse_rename_leads_back, unrefused_name_is_name_and_not_reserved, unrefused_rename_is_load_of_renamed_files, rename_making_long_line_is_too_large}
+use Rattle.sudoers_edit.proofs.RenameLeads.{CanRenameOnWalk, reverse_rename_leads_back, unrefused_name_is_name_and_not_reserved, unrefused_rename_is_load_of_renamed_files, rename_making_long_line_is_too_large, rename_changes_make_renamed_files}
 use Rattle.sudoers_edit.proofs.RenameLong.{IsRenamedLineShort, property_in_walked_files_holds_of_walk, no_too_long_text_implies_all_short, all_short_implies_no_too_long_text, walk_lines_are_lines_kept_on_walk}
 use Rattle.sudoers_edit.proofs.RenameSizes.{IsRenameableWithinLines, LoadStopsAtTooLargeText, LoadsRenamedFiles, fitting_renamed_files_load, renamed_files_load_or_are_too_large}
 
@@ -28,6 +28,12 @@ renamed_walk_lines_are_valid l k name fresh policy loaded some new free =
 unused_name_is_undefined : (k : Kind) (fresh : List ℕ) (lines : List Line) → is_alias_name_in_use k fresh lines ≡ false → is_some (definition_place_of_name k fresh lines) ≡ false
 unused_name_is_undefined k fresh lines free = (or_false (is_some (definition_place_of_name k fresh lines)) (nat_lt 0 (length (mentions_in_lines k fresh lines))) free).0
 
+-- a line of the walk with the name replaced is too long if the renamed line is
+long_walk_lines_with_name_replaced_are_long_renamed_lines : TextSizeLawsBehindRenames → (k : Kind) (name fresh : List ℕ) (policy : LoadedPolicy) → policy_or_load_fault (named_files_of_policy policy) ≡ Ok policy
+    → list_any is_line_too_long (texts_with_name_replaced k name fresh policy.walk.lines) ≡ list_any is_line_too_long (texts_of_renamed_lines k name fresh policy.walk.lines)
+long_walk_lines_with_name_replaced_are_long_renamed_lines l k name fresh policy loaded =
+    ap (list_any is_line_too_long) (texts_with_name_replaced_are_renamed_texts l.base.lines.ascend k name fresh policy.walk.lines (l.base.walk (named_files_of_policy policy) policy loaded).says)
+
 -- where no line of the walk is too long, none of the files on it is
 short_walk_lines_imply_can_be_renamed : TextSizeLawsBehindRenames → (k : Kind) (name fresh : List ℕ) (policy : LoadedPolicy) → CanRenameOnWalk k name fresh policy
     → list_any is_line_too_long (texts_of_renamed_lines k name fresh policy.walk.lines) ≡ false → IsRenameableWithinLines k name fresh policy
@@ -39,7 +45,7 @@ short_walk_lines_imply_can_be_renamed l k name fresh policy f short = record {
   short = λ n on.
       all_short_implies_no_too_long_text k name fresh (lines_of_numbered_file policy.files n)
       (walk_line_property_holds_in_its_files (IsRenamedLineShort k name fresh) policy.files policy.walk (l.base.goes policy.files) (l.base.walked (named_files_of_policy policy) policy f.loaded)
-      (no_too_long_text_implies_all_short k name fresh policy.walk.lines short) n on);
+      (no_too_long_text_implies_all_short k name fresh policy.walk.lines (long_walk_lines_with_name_replaced_are_long_renamed_lines l k name fresh policy f.loaded ∙ short)) n on);
 }
 
 -- WHAT IT IS REFUSED FOR
@@ -81,9 +87,9 @@ lines_within_limit_are_not_too_long [] all = refl
 lines_within_limit_are_not_too_long (line ∷ lines) all = ap₂ (λ (a b : Bool). a || b) (le-ltb line_limit (length line) all.0) (lines_within_limit_are_not_too_long lines all.1)
 
 renamed_files_within_limits_have_short_lines : TextSizeLawsBehindRenames → (k : Kind) (name fresh : List ℕ) (policy : LoadedPolicy) → policy_or_load_fault (named_files_of_policy policy) ≡ Ok policy → RenamedFilesAreWithinLimits k name fresh policy
-    → (n : ℕ) → is_file_on_walk policy.walk n ≡ true → list_any is_line_too_long (texts_of_renamed_lines k name fresh (lines_of_numbered_file policy.files n)) ≡ false
+    → (n : ℕ) → is_file_on_walk policy.walk n ≡ true → list_any is_line_too_long (texts_with_name_replaced k name fresh (lines_of_numbered_file policy.files n)) ≡ false
 renamed_files_within_limits_have_short_lines l k name fresh policy loaded within n on =
-    ap (list_any is_line_too_long) (renamed_texts_are_texts_of_renamed_lines l.base.lines.ascend k name fresh (lines_of_numbered_file policy.files n) ((loaded_files_are_sound l.base policy loaded).says n))
+    ap (list_any is_line_too_long) (texts_with_name_replaced_are_renamed_texts l.base.lines.ascend k name fresh (lines_of_numbered_file policy.files n) ((loaded_files_are_sound l.base policy loaded).says n))
     ∙ lines_within_limit_are_not_too_long (texts_of_lines (lines_after_rename k name fresh (lines_of_numbered_file policy.files n))) (within n on).0
 
 -- The files with a name that was not defined before are a policy.
@@ -110,7 +116,8 @@ rename_within_limits_is_made l k name fresh policy f within =
   where
     short : list_any is_line_too_long (texts_of_renamed_lines k name fresh policy.walk.lines) ≡ false
     short =
-        all_short_implies_no_too_long_text k name fresh policy.walk.lines
+        sym (long_walk_lines_with_name_replaced_are_long_renamed_lines l k name fresh policy f.loaded)
+        ∙ all_short_implies_no_too_long_text k name fresh policy.walk.lines
         (property_in_walked_files_holds_of_walk (IsRenamedLineShort k name fresh) policy.files policy.walk
         (λ n on. no_too_long_text_implies_all_short k name fresh (lines_of_numbered_file policy.files n) (renamed_files_within_limits_have_short_lines l k name fresh policy f.loaded within n on))
         policy.walk.spots policy.walk.lines (l.base.stand (named_files_of_policy policy) policy f.loaded)
@@ -166,7 +173,7 @@ pub rename_made_is_undone_by_reverse_rename : TextSizeLawsBehindRenames → (k :
 rename_made_is_undone_by_reverse_rename l k name fresh policy new loaded is =
     let m : IsRenameMade k name fresh policy new = accepted_rename_has_its_conditions k name fresh policy new is in
     reverse_rename_leads_back l.base k name fresh policy new (rename_made_implies_can_rename k name fresh policy new loaded m)
-    (ap policy_or_load_fault (rename_changes_make_renamed_files l.base k name fresh policy) ∙ accepted_outcome_is_load (policy_or_load_fault (named_files_after_rename k name fresh policy)) new m.leads)
+    (ap policy_or_load_fault (rename_changes_make_renamed_files l.base k name fresh policy loaded) ∙ accepted_outcome_is_load (policy_or_load_fault (named_files_after_rename k name fresh policy)) new m.leads)
 
 -- and it has led to the policy with the new name
 pub rename_made_gives_renamed_policy : TextSizeLawsBehindRenames → (k : Kind) (name fresh : List ℕ) (policy new : LoadedPolicy) → policy_or_load_fault (named_files_of_policy policy) ≡ Ok policy

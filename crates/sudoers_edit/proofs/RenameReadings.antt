@@ -1,9 +1,9 @@
 -- The files of a policy with another name for an alias, as they are read.
 use Rattle.sudoers_edit.proofs.Common.{AllByRecursion, Bool, IsCorrectlyParsed, Kind, List, NamedFile, None, Option, ParsedFile, RenamedLineLaws, Some, WalkState, [], ap, ap₂, arith, false, fault_of_numbered_file}
-use Rattle.sudoers_edit.proofs.Common.{file_names, if◌then◌else◌, is_file_on_walk, join, lines_after_rename, lines_of_numbered_file, map, named_file_of_parsed, named_files_numbered_from_renamed_if_on_walk, parsed_file_after_rename}
-use Rattle.sudoers_edit.proofs.Common.{parsed_files_numbered_from_renamed_if_on_walk, refl, suc, sym, texts_of_renamed_lines, true, zero, ℕ, ◌+◌, ◌∙◌, ◌∷◌, ◌≡◌}
+use Rattle.sudoers_edit.proofs.Common.{file_names, if◌then◌else◌, is_file_on_walk, join, lines_after_rename, lines_of_numbered_file, map, named_file_of_parsed, named_files_numbered_from_replaced_if_on_walk, parsed_file_after_rename}
+use Rattle.sudoers_edit.proofs.Common.{parsed_files_numbered_from_renamed_if_on_walk, refl, suc, sym, texts_with_name_replaced, true, zero, ℕ, ◌+◌, ◌∙◌, ◌∷◌, ◌≡◌}
 use Rattle.std.proofs.Common.{slice_get}
-use Rattle.sudoers_edit.proofs.RenamedTexts.{renamed_texts_are_texts_of_renamed_lines}
+use Rattle.sudoers_edit.proofs.RenamedTexts.{texts_with_name_replaced_are_renamed_texts}
 
 -- a file, with the other name if it is on the walk
 abbrev file_renamed_if_on_walk : Bool → Kind → List ℕ → List ℕ → ParsedFile → ParsedFile
@@ -46,15 +46,15 @@ parsed_file_not_on_walk_is_kept zero f m k name fresh w (file ∷ files) is off 
 parsed_file_not_on_walk_is_kept (suc i) f m k name fresh w (file ∷ files) is off = parsed_file_not_on_walk_is_kept i f (m + 1) k name fresh w files (omega (arith, is)) off
 
 -- their bytes are those to which a rename leads
-pub named_files_of_renamed_parsed_files : RenamedLineLaws → (m : ℕ) (k : Kind) (name fresh : List ℕ) (w : WalkState) (files : List ParsedFile) → ((i : ℕ) → AllByRecursion IsCorrectlyParsed (lines_of_numbered_file files i))
-    → map named_file_of_parsed (parsed_files_numbered_from_renamed_if_on_walk m k name fresh w files) ≡ named_files_numbered_from_renamed_if_on_walk m k name fresh w files
-named_files_of_renamed_parsed_files l m k name fresh w [] says = refl
-named_files_of_renamed_parsed_files l m k name fresh w (file ∷ files) says =
-    ap₂ (λ (first : NamedFile) (rest : List NamedFile). first ∷ rest) (by (is_file_on_walk w m)) (named_files_of_renamed_parsed_files l (m + 1) k name fresh w files (λ i. says (suc i)))
+pub renamed_files_are_files_with_name_replaced : RenamedLineLaws → (m : ℕ) (k : Kind) (name fresh : List ℕ) (w : WalkState) (files : List ParsedFile) → ((i : ℕ) → AllByRecursion IsCorrectlyParsed (lines_of_numbered_file files i))
+    → map named_file_of_parsed (parsed_files_numbered_from_renamed_if_on_walk m k name fresh w files) ≡ named_files_numbered_from_replaced_if_on_walk m k name fresh w files
+renamed_files_are_files_with_name_replaced l m k name fresh w [] says = refl
+renamed_files_are_files_with_name_replaced l m k name fresh w (file ∷ files) says =
+    ap₂ (λ (first : NamedFile) (rest : List NamedFile). first ∷ rest) (by (is_file_on_walk w m)) (renamed_files_are_files_with_name_replaced l (m + 1) k name fresh w files (λ i. says (suc i)))
   where
     by : (on : Bool) → named_file_of_parsed (file_renamed_if_on_walk on k name fresh file)
-        ≡ (if on then record { name = file.name; bytes = join (texts_of_renamed_lines k name fresh file.lines) } else named_file_of_parsed file)
+        ≡ (if on then record { name = file.name; bytes = join (texts_with_name_replaced k name fresh file.lines) } else named_file_of_parsed file)
     by true =
         ap (λ (lines : List (List ℕ)). let made : NamedFile = record { name = file.name; bytes = join lines } in made)
-        (sym (renamed_texts_are_texts_of_renamed_lines l.ascend k name fresh file.lines (says 0)))
+        (sym (texts_with_name_replaced_are_renamed_texts l.ascend k name fresh file.lines (says 0)))
     by false = refl

@@ -1,10 +1,11 @@
 -- The files to which a rename leads are a policy, unless one is too large.
+use Rattle.sudoers_edit.proofs.Common.{named_files_after_rename}
 use Rattle.sudoers_edit.proofs.Common.{AllByRecursion, AreDefinedNamesValid, AreFilesMapped, AreValidWalkLines, Bool, CanReplaceFiles, EachIsOneLineWhenCut, Err, IsCorrectlyParsed, IsDefinableName, IsLogicalLine}
 use Rattle.sudoers_edit.proofs.Common.{IsPolicyAfterRename, Kind, Line, List, LoadFault, LoadedPolicy, NamedAlias, NamedFile, Ok, ParsedFile, TextSizeLawsBehindRenames, Result, TextFault, WalkState, [], ap, arith}
 use Rattle.sudoers_edit.proofs.Common.{cut_outcome_of_text, false, file_limit, file_names, first_repeated_file_name, has_inner_line_without_lf, if◌then◌else◌, inl, inr, is_file_on_walk, is_line_too_long, join}
 use Rattle.sudoers_edit.proofs.Common.{length, line_after_rename, line_limit, line_text_after_rename, lines_after_rename, lines_of_numbered_file, list_any, load_then, ltb-false, map, mapped_lines_at_spots}
-use Rattle.sudoers_edit.proofs.Common.{named_alias_of_kind_and_name, named_file_of_parsed, named_files_after_rename, named_files_of_policy, named_files_numbered_from_renamed_if_on_walk, or_false, parsed_file_of_texts, parsed_file_of_cut_or_fault}
-use Rattle.sudoers_edit.proofs.Common.{parsed_files_after_rename, parsed_files_or_cut_fault, policy_of_parsed_files, policy_or_load_fault, refl, subst, suc, sym, text_limit, texts_of_lines, texts_of_renamed_lines}
+use Rattle.sudoers_edit.proofs.Common.{named_alias_of_kind_and_name, named_file_of_parsed, named_files_of_policy, named_files_numbered_from_replaced_if_on_walk, or_false, parsed_file_of_texts, parsed_file_of_cut_or_fault}
+use Rattle.sudoers_edit.proofs.Common.{parsed_files_after_rename, parsed_files_or_cut_fault, policy_of_parsed_files, policy_or_load_fault, refl, subst, suc, sym, text_limit, texts_of_lines, texts_with_name_replaced}
 use Rattle.sudoers_edit.proofs.Common.{true, zero, ℕ, ◌++◌, ◌+◌, ◌∙◌, ◌∷◌, ◌≡◌, ◌≤◌, ◌⊎◌}
 use Rattle.std.proofs.Common.{nat_lt}
 use Rattle.sudoers_text.specs.declared.fault.TextFault.TheVariants as text
@@ -14,11 +15,11 @@ use Rattle.sudoers_tree.proofs.ChangedLoads.{AreFewFilesWithDistinctNames, loade
 use Rattle.sudoers_tree.proofs.Loads.{accepted_files_load_by_their_parsed_files}
 use Rattle.sudoers_tree.proofs.SameNames.{same_file_names_have_same_count, same_file_names_have_same_repeated_name}
 use Rattle.sudoers_edit.proofs.RenamedPolicy.{renamed_lines_are_correctly_parsed}
-use Rattle.sudoers_edit.proofs.RenamedTexts.{renamed_texts_are_texts_of_renamed_lines}
+use Rattle.sudoers_edit.proofs.RenamedTexts.{texts_with_name_replaced_are_renamed_texts}
 use Rattle.sudoers_edit.proofs.RenameFiles.{rename_keeps_include_leads, rename_mapping_maps_lines_to_renamed, rename_mapping_maps_walk_to_renamed, line_mapping_of_rename}
 use Rattle.sudoers_edit.proofs.SoundFiles.{AreSoundFiles, loaded_files_are_sound}
 use Rattle.sudoers_edit.proofs.RenameLines.{renamed_lines_keep_inner_lf}
-use Rattle.sudoers_edit.proofs.RenameReadings.{renamed_parsed_files_have_no_fault, named_files_of_renamed_parsed_files, parsed_file_on_walk_has_renamed_lines, rename_keeps_file_names_of_parsed_files, parsed_file_not_on_walk_is_kept}
+use Rattle.sudoers_edit.proofs.RenameReadings.{renamed_parsed_files_have_no_fault, renamed_files_are_files_with_name_replaced, parsed_file_on_walk_has_renamed_lines, rename_keeps_file_names_of_parsed_files, parsed_file_not_on_walk_is_kept}
 
 -- ONE FILE
 
@@ -36,12 +37,12 @@ short_renamed_lines_are_cut_alone l alias fresh old new (line ∷ lines) each sa
 -- A file of which no line is too long then is cut into the renamed lines, if it is within the limit.
 fitting_renamed_file_is_cut_in_lines : TextSizeLawsBehindRenames → (k : Kind) (name fresh : List ℕ) → IsDefinableName name → IsDefinableName fresh → (lines : List Line)
     → EachIsOneLineWhenCut (texts_of_lines lines) → AllByRecursion IsCorrectlyParsed lines → has_inner_line_without_lf (texts_of_lines lines) ≡ false
-    → list_any is_line_too_long (texts_of_renamed_lines k name fresh lines) ≡ false → length (join (texts_of_lines (lines_after_rename k name fresh lines))) ≤ text_limit
+    → list_any is_line_too_long (texts_with_name_replaced k name fresh lines) ≡ false → length (join (texts_of_lines (lines_after_rename k name fresh lines))) ≤ text_limit
     → cut_outcome_of_text (join (texts_of_lines (lines_after_rename k name fresh lines))) ≡ Ok (texts_of_lines (lines_after_rename k name fresh lines))
 fitting_renamed_file_is_cut_in_lines l k name fresh old new lines each says ended short fits =
     l.joined (texts_of_lines (lines_after_rename k name fresh lines))
     (short_renamed_lines_are_cut_alone l (named_alias_of_kind_and_name k name) fresh old new lines each says
-    (ap (list_any is_line_too_long) (sym (renamed_texts_are_texts_of_renamed_lines l.base.lines.ascend k name fresh lines says)) ∙ short))
+    (ap (list_any is_line_too_long) (sym (texts_with_name_replaced_are_renamed_texts l.base.lines.ascend k name fresh lines says)) ∙ short))
     (renamed_lines_keep_inner_lf l.base.lines (named_alias_of_kind_and_name k name) fresh old new lines says ∙ ended) fits
 
 bytes_past_limit_are_too_large : (bytes : List ℕ) → nat_lt text_limit (length bytes) ≡ true → cut_outcome_of_text bytes ≡ Err text.TooLarge
@@ -63,7 +64,7 @@ RenamedFilesFitTextLimit m k name fresh w files =
 record AreSoundAndShortOnWalk (m : ℕ) (k : Kind) (name fresh : List ℕ) (w : WalkState) (files : List ParsedFile) : Type 0 where
   sound : AreSoundFiles files
   cut : (i : ℕ) → cut_outcome_of_text (join (texts_of_lines (lines_of_numbered_file files i))) ≡ Ok (texts_of_lines (lines_of_numbered_file files i))
-  short : (i f : ℕ) → f ≡ m + i → is_file_on_walk w f ≡ true → list_any is_line_too_long (texts_of_renamed_lines k name fresh (lines_of_numbered_file files i)) ≡ false
+  short : (i f : ℕ) → f ≡ m + i → is_file_on_walk w f ≡ true → list_any is_line_too_long (texts_with_name_replaced k name fresh (lines_of_numbered_file files i)) ≡ false
 
 sound_short_files_have_sound_short_rest : (m : ℕ) (k : Kind) (name fresh : List ℕ) (w : WalkState) (file : ParsedFile) (files : List ParsedFile)
     → AreSoundAndShortOnWalk m k name fresh w (file ∷ files) → AreSoundAndShortOnWalk (m + 1) k name fresh w files
@@ -75,13 +76,13 @@ sound_short_files_have_sound_short_rest m k name fresh w file files good = recor
 
 renamed_files_fit_or_stop_too_large : TextSizeLawsBehindRenames → (m : ℕ) (k : Kind) (name fresh : List ℕ) → IsDefinableName name → IsDefinableName fresh → (w : WalkState)
     (before files : List ParsedFile) → AreSoundAndShortOnWalk m k name fresh w files
-    → ReadingStopsAtTooLargeText (parsed_files_or_cut_fault before (named_files_numbered_from_renamed_if_on_walk m k name fresh w files)) ⊎ RenamedFilesFitTextLimit m k name fresh w files
+    → ReadingStopsAtTooLargeText (parsed_files_or_cut_fault before (named_files_numbered_from_replaced_if_on_walk m k name fresh w files)) ⊎ RenamedFilesFitTextLimit m k name fresh w files
 renamed_files_fit_or_stop_too_large l m k name fresh old new w before [] good = inr (λ i f is on. omega arith)
 renamed_files_fit_or_stop_too_large l m k name fresh old new w before (file ∷ files) good =
     by (is_file_on_walk w m) refl (λ read. renamed_files_fit_or_stop_too_large l (m + 1) k name fresh old new w (before ++ read ∷ []) files (sound_short_files_have_sound_short_rest m k name fresh w file files good))
   where
     rest : List NamedFile
-    rest = named_files_numbered_from_renamed_if_on_walk (m + 1) k name fresh w files
+    rest = named_files_numbered_from_replaced_if_on_walk (m + 1) k name fresh w files
 
     bytes : List ℕ
     bytes = join (texts_of_lines (lines_after_rename k name fresh file.lines))
@@ -116,11 +117,11 @@ renamed_files_fit_or_stop_too_large l m k name fresh old new w before (file ∷ 
         (λ on. fits) later
 
     by : (b : Bool) → is_file_on_walk w m ≡ b → Later
-        → ReadingStopsAtTooLargeText (parsed_files_or_cut_fault before ((if b then record { name = file.name; bytes = join (texts_of_renamed_lines k name fresh file.lines) } else named_file_of_parsed file) ∷ rest))
+        → ReadingStopsAtTooLargeText (parsed_files_or_cut_fault before ((if b then record { name = file.name; bytes = join (texts_with_name_replaced k name fresh file.lines) } else named_file_of_parsed file) ∷ rest))
         ⊎ RenamedFilesFitTextLimit m k name fresh w (file ∷ files)
     by true on later =
         subst (λ (lines : List (List ℕ)). ReadingStopsAtTooLargeText (with_cut (cut_outcome_of_text (join lines))) ⊎ RenamedFilesFitTextLimit m k name fresh w (file ∷ files))
-        (sym (renamed_texts_are_texts_of_renamed_lines l.base.lines.ascend k name fresh file.lines (good.sound.says 0))) (by_size on (nat_lt text_limit (length bytes)) refl later)
+        (sym (texts_with_name_replaced_are_renamed_texts l.base.lines.ascend k name fresh file.lines (good.sound.says 0))) (by_size on (nat_lt text_limit (length bytes)) refl later)
     by false off later =
         goes_on (join (texts_of_lines file.lines)) (texts_of_lines file.lines) (good.cut 0) (λ on. absurd (let both : true ≡ false = sym on ∙ off in cc)) later
 
@@ -132,7 +133,7 @@ pub record IsRenameableWithinLines (k : Kind) (name fresh : List ℕ) (policy : 
   pub old : IsDefinableName name
   pub new : IsDefinableName fresh
   pub names : AreValidWalkLines (lines_after_rename k name fresh policy.walk.lines)
-  pub short : (f : ℕ) → is_file_on_walk policy.walk f ≡ true → list_any is_line_too_long (texts_of_renamed_lines k name fresh (lines_of_numbered_file policy.files f)) ≡ false
+  pub short : (f : ℕ) → is_file_on_walk policy.walk f ≡ true → list_any is_line_too_long (texts_with_name_replaced k name fresh (lines_of_numbered_file policy.files f)) ≡ false
 
 -- The renamed files are a policy, with the walk over them.
 pub record LoadsRenamedFiles (k : Kind) (name fresh : List ℕ) (policy : LoadedPolicy) : Type 0 where
@@ -181,8 +182,7 @@ fitting_renamed_files_load l k name fresh policy can fit =
     (fitting_renamed_files_can_replace_files l k name fresh policy can fit) (subst AreDefinedNamesValid (sym mapped) names) in
     record {
       new = record { files = parsed_files_after_rename k name fresh policy; walk = got.0 };
-      is =
-          ap policy_or_load_fault (sym (named_files_of_renamed_parsed_files l.base.lines 0 k name fresh policy.walk policy.files (loaded_files_are_sound l.base policy can.loaded).says)) ∙ got.1;
+      is = got.1;
       renamed_is = record { files = refl; lines = got.3.lines ∙ mapped; on = got.3.on };
     }
 
@@ -193,13 +193,15 @@ LoadStopsAtTooLargeText outcome = (name : List ℕ) × (outcome ≡ Err (InFile 
 pub renamed_files_load_or_are_too_large : TextSizeLawsBehindRenames → (k : Kind) (name fresh : List ℕ) (policy : LoadedPolicy) → IsRenameableWithinLines k name fresh policy
     → LoadStopsAtTooLargeText (policy_or_load_fault (named_files_after_rename k name fresh policy)) ⊎ LoadsRenamedFiles k name fresh policy
 renamed_files_load_or_are_too_large l k name fresh policy can =
-    by (renamed_files_fit_or_stop_too_large l 0 k name fresh can.old can.new policy.walk [] policy.files (record {
+    by (subst (λ (files : List NamedFile). ReadingStopsAtTooLargeText (parsed_files_or_cut_fault [] files) ⊎ RenamedFilesFitTextLimit 0 k name fresh policy.walk policy.files)
+    (sym (renamed_files_are_files_with_name_replaced l.base.lines 0 k name fresh policy.walk policy.files sound.says))
+    (renamed_files_fit_or_stop_too_large l 0 k name fresh can.old can.new policy.walk [] policy.files (record {
       sound = sound;
       cut = l.base.cut (named_files_of_policy policy) policy can.loaded;
       short = λ i f is on.
           let same : f ≡ i = omega (arith, is) in
           can.short i (ap (λ (n : ℕ). is_file_on_walk policy.walk n) (sym same) ∙ on);
-    }))
+    })))
   where
     sound : AreSoundFiles policy.files
     sound = loaded_files_are_sound l.base policy can.loaded
@@ -212,13 +214,9 @@ renamed_files_load_or_are_too_large l k name fresh policy can =
 
     as_read : policy_or_load_fault (named_files_after_rename k name fresh policy) ≡ load_then (parsed_files_or_cut_fault [] (named_files_after_rename k name fresh policy)) policy_of_parsed_files
     as_read =
-        let same : map named_file_of_parsed (parsed_files_after_rename k name fresh policy) ≡ named_files_after_rename k name fresh policy =
-        named_files_of_renamed_parsed_files l.base.lines 0 k name fresh policy.walk policy.files sound.says in
         accepted_files_load_by_their_parsed_files (named_files_after_rename k name fresh policy)
-        (ap (λ (files : List NamedFile). nat_lt file_limit (length files)) (sym same)
-        ∙ ap (nat_lt file_limit) (same_file_names_have_same_count policy.files (parsed_files_after_rename k name fresh policy) names) ∙ few.few)
-        (ap (first_repeated_file_name []) (sym same)
-        ∙ same_file_names_have_same_repeated_name [] policy.files (parsed_files_after_rename k name fresh policy) names ∙ few.once)
+        (ap (nat_lt file_limit) (same_file_names_have_same_count policy.files (parsed_files_after_rename k name fresh policy) names) ∙ few.few)
+        (same_file_names_have_same_repeated_name [] policy.files (parsed_files_after_rename k name fresh policy) names ∙ few.once)
 
     by : ReadingStopsAtTooLargeText (parsed_files_or_cut_fault [] (named_files_after_rename k name fresh policy)) ⊎ RenamedFilesFitTextLimit 0 k name fresh policy.walk policy.files
         → LoadStopsAtTooLargeText (policy_or_load_fault (named_files_after_rename k name fresh policy)) ⊎ LoadsRenamedFiles k name fresh policy

@@ -2,7 +2,7 @@
 use Rattle.sudoers_edit.proofs.Common.{AreFileNumbersOfChangesInOrder, AreChangesInOrder, Bool, FirstChangeLaw, Kind, Line, LineChange, List, NoChangesLaw, ParsedFile, Put, Swap, Take, WalkState, [], ap, append-nil}
 use Rattle.sudoers_edit.proofs.Common.{append_assoc, arith, changes_of_file, drop, eq-eqb, false, file_number_of_change, if◌then◌else◌, is_file_on_walk, length, line_number_of_change, line_replaced_at_offsets}
 use Rattle.sudoers_edit.proofs.Common.{lines_after_changes, lines_changed_from_number, lines_of_numbered_file, min_line_number_after_change, name_offsets_in_line, nat_tests, option_to_list, refl}
-use Rattle.sudoers_edit.proofs.Common.{rename_change_in_line, rename_changes_in_file, rename_changes_in_files, subst, suc, sym, take, text_of_change, texts_of_lines, texts_of_renamed_lines, true, zero, ℕ, ◌++◌, ◌+◌}
+use Rattle.sudoers_edit.proofs.Common.{rename_change_in_line, rename_changes_in_file, rename_changes_in_files, subst, suc, sym, take, text_of_change, texts_of_lines, texts_with_name_replaced, true, zero, ℕ, ◌++◌, ◌+◌}
 use Rattle.sudoers_edit.proofs.Common.{◌-◌, ◌<◌, ◌==◌, ◌∙◌, ◌∷◌, ◌≡◌, ◌≤◌}
 
 abbrev TextLines : Type 0
@@ -165,16 +165,16 @@ first_line_before_changes_stays none first n (change ∷ changes) line lines ord
     ∙ ap (λ (z : TextLines). line ∷ z) (sym (first (n + 1) change changes lines order))
 
 -- they make the renamed lines
-rename_changes_in_file_make_renamed_lines : NoChangesLaw → FirstChangeLaw → (f n : ℕ) (k : Kind) (name fresh : List ℕ) (lines : List Line)
-    → lines_changed_from_number n (rename_changes_in_file f n k name fresh lines) (texts_of_lines lines) ≡ texts_of_renamed_lines k name fresh lines
-rename_changes_in_file_make_renamed_lines none first f n k name fresh [] = none n []
-rename_changes_in_file_make_renamed_lines none first f n k name fresh (line ∷ lines) = by (rename_changes_in_file_make_renamed_lines none first f (n + 1) k name fresh lines) (name_offsets_in_line k name line.node)
+rename_changes_in_file_replace_name_in_lines : NoChangesLaw → FirstChangeLaw → (f n : ℕ) (k : Kind) (name fresh : List ℕ) (lines : List Line)
+    → lines_changed_from_number n (rename_changes_in_file f n k name fresh lines) (texts_of_lines lines) ≡ texts_with_name_replaced k name fresh lines
+rename_changes_in_file_replace_name_in_lines none first f n k name fresh [] = none n []
+rename_changes_in_file_replace_name_in_lines none first f n k name fresh (line ∷ lines) = by (rename_changes_in_file_replace_name_in_lines none first f (n + 1) k name fresh lines) (name_offsets_in_line k name line.node)
   where
     changes : List LineChange
     changes = rename_changes_in_file f (n + 1) k name fresh lines
 
-    by : lines_changed_from_number (n + 1) changes (texts_of_lines lines) ≡ texts_of_renamed_lines k name fresh lines → (starts : List ℕ) → lines_changed_from_number n (rename_change_in_line f n (length name) fresh starts line.text ++ changes) (texts_of_lines (line ∷ lines))
-        ≡ line_replaced_at_offsets 0 (length name) fresh starts line.text ∷ texts_of_renamed_lines k name fresh lines
+    by : lines_changed_from_number (n + 1) changes (texts_of_lines lines) ≡ texts_with_name_replaced k name fresh lines → (starts : List ℕ) → lines_changed_from_number n (rename_change_in_line f n (length name) fresh starts line.text ++ changes) (texts_of_lines (line ∷ lines))
+        ≡ line_replaced_at_offsets 0 (length name) fresh starts line.text ∷ texts_with_name_replaced k name fresh lines
     by rest [] =
         first_line_before_changes_stays none first n changes line.text (texts_of_lines lines)
         (rename_changes_in_file_are_in_order f (n + 1) (n + 1) (n + 1 + length (texts_of_lines lines)) k name fresh lines (omega arith) (omega (arith, texts_of_lines_are_as_many lines)))
@@ -192,13 +192,13 @@ rename_changes_in_file_make_renamed_lines none first f n k name fresh (line ∷ 
 -- the lines of a file after the changes: those with the new name, if the file is on the walk
 pub rename_changes_make_lines_of_each_file : NoChangesLaw → FirstChangeLaw → (f : ℕ) (k : Kind) (name fresh : List ℕ) (w : WalkState) (files : List ParsedFile)
     → lines_after_changes (changes_of_file f (rename_changes_in_files 0 k name fresh w files)) (texts_of_lines (lines_of_numbered_file files f))
-    ≡ if is_file_on_walk w f then texts_of_renamed_lines k name fresh (lines_of_numbered_file files f) else texts_of_lines (lines_of_numbered_file files f)
+    ≡ if is_file_on_walk w f then texts_with_name_replaced k name fresh (lines_of_numbered_file files f) else texts_of_lines (lines_of_numbered_file files f)
 rename_changes_make_lines_of_each_file none first f k name fresh w files =
     ap (λ cs. lines_after_changes cs (texts_of_lines (lines_of_numbered_file files f))) (rename_changes_of_numbered_file f 0 f k name fresh w files (omega arith)) ∙ by (is_file_on_walk w f)
   where
     by : (on : Bool) → lines_after_changes (rename_changes_in_file_if_on_walk on f k name fresh (lines_of_numbered_file files f)) (texts_of_lines (lines_of_numbered_file files f))
-        ≡ if on then texts_of_renamed_lines k name fresh (lines_of_numbered_file files f) else texts_of_lines (lines_of_numbered_file files f)
-    by true = rename_changes_in_file_make_renamed_lines none first f 0 k name fresh (lines_of_numbered_file files f)
+        ≡ if on then texts_with_name_replaced k name fresh (lines_of_numbered_file files f) else texts_of_lines (lines_of_numbered_file files f)
+    by true = rename_changes_in_file_replace_name_in_lines none first f 0 k name fresh (lines_of_numbered_file files f)
     by false = none 0 (texts_of_lines (lines_of_numbered_file files f))
 
 -- the changes of each file are in order

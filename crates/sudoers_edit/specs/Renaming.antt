@@ -1,79 +1,31 @@
 -- An alias given another name in all files on the walk.
-use Rattle.std.specs.Prelude.{ℕ, ◌+◌, ◌-◌, Bool, not, ◌&&◌, ◌||◌, nat_lt, if◌then◌else◌, List, [], ◌∷◌, ◌++◌, length, take, drop, map, Result}
-use Rattle.std.specs.List.{flat_map, list_any}
-use Rattle.std.specs.Str.{bytes_eq}
+use Rattle.std.specs.Prelude.{ℕ, Bool, not, ◌||◌, nat_lt, List, length, map, Result}
+use Rattle.std.specs.List.{list_any}
 use Rattle.sudoers_text.specs.Word.{is_name, is_reserved}
-use Rattle.sudoers_grammar.specs.Node.{Def, Member, Node}
 use Rattle.sudoers_grammar.specs.declared.node.Kind.{Kind}
-use Rattle.sudoers_grammar.specs.Listed.{AliasMember}
-use Rattle.sudoers_tree.specs.Line.{Line}
-use Rattle.sudoers_tree.specs.declared.place.Span.{Span}
-use Rattle.sudoers_tree.specs.Definition.{is_equal_kind, definition_place_of_name}
+use Rattle.sudoers_tree.specs.Definition.{definition_place_of_name}
 use Rattle.sudoers_tree.specs.Fault.{is_some}
-use Rattle.sudoers_tree.specs.Mention.{members_of_kind_in_line, mentions_in_lines, mention_span_of_member}
+use Rattle.sudoers_tree.specs.Line.{Line}
+use Rattle.sudoers_tree.specs.Load.{LoadedPolicy, named_file_of_parsed}
+use Rattle.sudoers_tree.specs.Mention.{mentions_in_lines}
+use Rattle.sudoers_tree.specs.Policy.{texts_of_lines}
+use Rattle.sudoers_tree.specs.declared.named_files.NamedFile.{NamedFile}
 use Rattle.sudoers_edit.specs.Landing.{is_line_too_long, result_unless_refused, policy_of_files_or_refusal}
+use Rattle.sudoers_edit.specs.Renamed.{lines_after_rename, parsed_files_after_rename}
 use Rattle.sudoers_edit.specs.declared.fault.EditFault.{EditFault}
 use Rattle.sudoers_edit.specs.declared.fault.EditFault.TheVariants.{NoAlias, BadName, NameTaken, TooLarge}
-use Rattle.sudoers_text.specs.Line.{join}
-use Rattle.sudoers_tree.specs.Files.{ParsedFile}
-use Rattle.sudoers_tree.specs.Load.{LoadedPolicy, named_file_of_parsed}
-use Rattle.sudoers_tree.specs.Walk.{WalkState, is_file_on_walk}
-use Rattle.sudoers_tree.specs.declared.named_files.NamedFile.{NamedFile}
-use Rattle.sudoers_grammar.specs.Node as node
 
--- WHERE THE NAME STANDS
-
--- where it is mentioned by this member: at which bytes of the line
-abbrev pub mention_offset_of_member : List ℕ → Member → List ℕ
-mention_offset_of_member name m = map (λ (s : Span). s.start) (mention_span_of_member 0 name m m.atom)
-
--- where it is mentioned by one of these members
-abbrev pub mention_offsets_in_members : List ℕ → List Member → List ℕ
-mention_offsets_in_members name members = flat_map (mention_offset_of_member name) members
-
--- where it stands in a definition: as the name that is defined, and in the members
-abbrev pub name_offsets_in_definition : List ℕ → Def → List ℕ
-name_offsets_in_definition name d = (if bytes_eq name d.name then d.start ∷ [] else []) ++ mention_offsets_in_members name d.members
-
--- where it stands in what a line says, as an alias of this kind
-abbrev pub name_offsets_in_line : Kind → List ℕ → Node → List ℕ
-name_offsets_in_line k name (node.Alias j defs) = if is_equal_kind k j then flat_map (name_offsets_in_definition name) defs else []
-name_offsets_in_line k name (node.Spec users groups) = mention_offsets_in_members name (members_of_kind_in_line k (node.Spec users groups))
-name_offsets_in_line k name (node.Defaults scope params) = mention_offsets_in_members name (members_of_kind_in_line k (node.Defaults scope params))
-name_offsets_in_line k name node.Blank = []
-name_offsets_in_line k name node.Comment = []
-name_offsets_in_line k name (node.Include dir path) = []
-
--- where an alias among the members of all lists stands, if it is this name in a list of this kind
-abbrev pub name_offset_if_alias_member_matches : Kind → List ℕ → AliasMember → List ℕ
-name_offset_if_alias_member_matches k name a = if is_equal_kind k a.kind && bytes_eq name a.name then (a.stop - length name) ∷ [] else []
-
--- ANOTHER NAME
-
--- the line from a byte on, with other bytes where at these places so many stand
-abbrev pub line_replaced_at_offsets : ℕ → ℕ → List ℕ → List ℕ → List ℕ → List ℕ
-line_replaced_at_offsets from size fresh [] line = drop from line
-line_replaced_at_offsets from size fresh (start ∷ starts) line = take (start - from) (drop from line) ++ fresh ++ line_replaced_at_offsets (start + size) size fresh starts line
-
-abbrev pub text_of_renamed_line : Kind → List ℕ → List ℕ → Line → List ℕ
-text_of_renamed_line k name fresh line = line_replaced_at_offsets 0 (length name) fresh (name_offsets_in_line k name line.node) line.text
-
--- the lines of a policy with another name for an alias
+-- the texts of lines with another name for an alias
 abbrev pub texts_of_renamed_lines : Kind → List ℕ → List ℕ → List Line → List (List ℕ)
-texts_of_renamed_lines k name fresh policy = map (text_of_renamed_line k name fresh) policy
+texts_of_renamed_lines k name fresh lines = texts_of_lines (lines_after_rename k name fresh lines)
 
+-- the files of a policy with another name for an alias, in those that are on the walk
+abbrev pub named_files_after_rename : Kind → List ℕ → List ℕ → LoadedPolicy → List NamedFile
+named_files_after_rename k name fresh policy = map named_file_of_parsed (parsed_files_after_rename k name fresh policy)
+
+-- The name is defined or mentioned in the kind.
 abbrev pub is_alias_name_in_use : Kind → List ℕ → List Line → Bool
 is_alias_name_in_use k fresh policy = is_some (definition_place_of_name k fresh policy) || nat_lt 0 (length (mentions_in_lines k fresh policy))
-
--- these files, the first of which has the number n, with another name for the alias in those that are on the walk
-abbrev pub named_files_numbered_from_renamed_if_on_walk : ℕ → Kind → List ℕ → List ℕ → WalkState → List ParsedFile → List NamedFile
-named_files_numbered_from_renamed_if_on_walk n k name fresh w [] = []
-named_files_numbered_from_renamed_if_on_walk n k name fresh w (file ∷ files) =
-    (if is_file_on_walk w n then record { name = file.name; bytes = join (texts_of_renamed_lines k name fresh file.lines) } else named_file_of_parsed file)
-    ∷ named_files_numbered_from_renamed_if_on_walk (n + 1) k name fresh w files
-
-abbrev pub named_files_after_rename : Kind → List ℕ → List ℕ → LoadedPolicy → List NamedFile
-named_files_after_rename k name fresh policy = named_files_numbered_from_renamed_if_on_walk 0 k name fresh policy.walk policy.files
 
 -- the policy with another name for the alias that the walk defines, or the first cause of its refusal
 unfoldable pub policy_after_rename : Kind → List ℕ → List ℕ → LoadedPolicy → Result LoadedPolicy EditFault

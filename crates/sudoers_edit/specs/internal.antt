@@ -6,6 +6,7 @@ pub mod LastLine
 pub mod Leading
 pub mod LeadingInFile
 pub mod Made
+pub mod NameOffsets
 pub mod OneMore
 pub mod PruneLaws
 pub mod PruneOrder

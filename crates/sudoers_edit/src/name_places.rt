@@ -2,7 +2,7 @@
 ghost use Rattle.std.specs.Prelude.{◌≡◌, ◌++◌, IfOk, OnOk};
 ghost use Rattle.std.specs.List.{flat_map};
 ghost use Rattle.sudoers_line_rows.specs.View.{alias_definition_of_view, alias_definitions_of_view, members_of_view, node_of_view};
-ghost use Rattle.sudoers_edit.specs.Renaming.{name_offset_if_alias_member_matches, mention_offsets_in_members, name_offsets_in_definition, name_offsets_in_line};
+ghost use Rattle.sudoers_edit.specs.internal.NameOffsets.{name_offset_if_alias_member_matches, mention_offsets_in_members, name_offsets_in_definition, name_offsets_in_line};
 
 use std::alloc::{AllocError, Global};
 use sudoers_tree::{

@@ -7,7 +7,8 @@ ghost use Rattle.sudoers_tree.specs.Files.{lines_of_numbered_file};
 ghost use Rattle.sudoers_tree.specs.Line.{line_of_view};
 ghost use Rattle.sudoers_tree.specs.Walk.{is_file_on_walk};
 ghost use Rattle.sudoers_edit.specs.Landing.{is_line_too_long};
-ghost use Rattle.sudoers_edit.specs.Renaming.{line_replaced_at_offsets, name_offsets_in_line, is_alias_name_in_use as taken};
+ghost use Rattle.sudoers_edit.specs.Renaming.{is_alias_name_in_use as taken};
+ghost use Rattle.sudoers_edit.specs.internal.NameOffsets.{line_replaced_at_offsets, name_offsets_in_line};
 ghost use Rattle.sudoers_edit.specs.internal.Leading.{IsPlanOutcome, rename_change_in_line, rename_changes_in_file, rename_changes_in_files};
 
 use crate::edit_plan::{EditPlan, allocator_of};

@@ -16,6 +16,9 @@ use sudoers_tree::{Items, LineChange, LoadFault, NamedFile, Policy, WalkLineSpot
 /// Whether the include lines of a file come behind its other lines. A wrong body says that they do.
 const INCLUDED_LAST: bool = false;
 
+/// Whether the files of a folder come in the order of the list. A wrong body says that they do.
+const FOLDER_IN_LIST_ORDER: bool = false;
+
 /// Returns the policy of `files`, from the first on.
 ///
 /// # Errors
@@ -27,6 +30,10 @@ pub fn load_files(alloc: Global, files: &[NamedFile]) -> Result<Policy, LoadFaul
 {
     if INCLUDED_LAST {
         let moved = files_included_last(alloc, files)?;
+        return Policy::load(alloc, moved.as_slice());
+    }
+    if FOLDER_IN_LIST_ORDER {
+        let moved = swap_names_of_last_files(alloc, files)?;
         return Policy::load(alloc, moved.as_slice());
     }
     Policy::load(alloc, files)
@@ -100,12 +107,41 @@ pub fn insert_line(
 fn files_included_last(alloc: Global, files: &[NamedFile]) -> Result<Vec<NamedFile>, AllocError> {
     let mut moved = Vec::new(alloc);
     for file in files {
-        moved.push(NamedFile {
-            name: Items::from_slice(alloc, file.name.as_slice())?,
-            bytes: text_included_last(alloc, file)?,
-        })?;
+        let text = text_included_last(alloc, file)?;
+        moved.push(make_file(alloc, file.name.as_slice(), text.as_slice())?)?;
     }
     Ok(moved)
+}
+
+/// Returns `files`, of which the last two have each other's name: if they are in one folder, it is read in the order of the list.
+fn swap_names_of_last_files(
+    alloc: Global,
+    files: &[NamedFile],
+) -> Result<Vec<NamedFile>, AllocError> {
+    let mut moved = Vec::new(alloc);
+    for (number, file) in files.iter().enumerate() {
+        let other = match files.len().saturating_sub(number) {
+            1 => number.saturating_sub(1),
+            2 => number.saturating_add(1),
+            _ => number,
+        };
+        let name = match files.get(other) {
+            Some(other) => other.name.as_slice(),
+            None => file.name.as_slice(),
+        };
+        moved.push(make_file(alloc, name, file.bytes.as_slice())?)?;
+    }
+    Ok(moved)
+}
+
+/// Returns the file `name` with the bytes `bytes`.
+fn make_file(alloc: Global, name: &[u8], bytes: &[u8]) -> Result<NamedFile, AllocError>
+    ensures { IfOk result (λ file. file ≡ record { name = name.now; bytes = bytes.now }) }
+{
+    Ok(NamedFile {
+        name: Items::from_slice(alloc, name)?,
+        bytes: Items::from_slice(alloc, bytes)?,
+    })
 }
 
 /// Returns the text of `file` with its include lines behind its other lines.

@@ -8,7 +8,7 @@ use Rattle.sudoers_tree.specs.Files.{ParsedFile}
 use Rattle.sudoers_tree.specs.Line.{Line}
 use Rattle.sudoers_tree.specs.Load.{LoadedPolicy, policy_or_load_fault}
 use Rattle.sudoers_tree.specs.Walk.{WalkState, is_file_on_walk}
-use Rattle.sudoers_edit.specs.Renaming.{line_replaced_at_offsets, name_offsets_in_line}
+use Rattle.sudoers_edit.specs.internal.NameOffsets.{line_replaced_at_offsets, name_offsets_in_line}
 use Rattle.sudoers_edit.specs.Editing.{step, inv, run, IsRefusalOrNoMemory}
 use Rattle.sudoers_edit.specs.Landing.{policy_of_files_or_refusal}
 use Rattle.sudoers_edit_script.specs.declared.edit.Edit.{Edit}

@@ -23,7 +23,7 @@ returns c =
     let y = printed_tags (given_tags_in_order (final_value_of_tag h.tags)) in
     let m = printed_member false Cmnd member in
     let said : c.in_ok-command.command.items ≡ (x ++ y) ++ m =
-    c.in_ok-command.ensures bare (record { runas = refl; options = is.options; tags = is.tags }) in
+    c.in_ok-command.ensures.text bare (record { runas = refl; options = is.options; tags = is.tags }) in
     let first : c.append_listed_runas_spec.new.out.items ≡ o ++ r =
     c.in_ok-append_listed_runas_spec.ensures ∙ ap (λ (s : Option RunasSpec). o ++ printed_runas (runas_spec_with_users_filled_in user d s)) is.runas in
     e
