@@ -28,8 +28,10 @@ FOLDER = "sub"
 COMMANDS = ("check", "convert", "edit", "help", "list", "show")
 OPTIONS_OF_LIST = (
     *("-U", "--other-user", "-u", "--user", "-g", "--group", "--passwd", "--group-file"),
-    *("--host", "--moment", "--interfaces", "--root", "--why", "-h", "--help"),
+    *("--host", "--moment", "--interfaces", "--root", "--why", "-h", "--help", "--error-status", "--explain", "--plain"),
 )
+OPTIONS_OF_CHECK = ("-h", "--help", "-q", "-s", "--root", "--skipped", "--all", "--error-status", "--explain", "--plain")
+OPTIONS_OF_SHOW = ("--error-status", "--explain", "-h", "--help", "--plain", "--root")
 ALL_FILES = (*FILES, FOLDER)
 FORMS = ("json", "sudoers")
 KEYS = ("group=", "host=", "user=")
@@ -47,7 +49,12 @@ ROWS = (
     (("check", "w"), ("web team",)),
     (("check", "p"), ("policy",)),
     (("check", "x"), ()),
-    (("check", "-"), ("-h", "--help", "-q", "-s", "--root", "--skipped")),
+    (("check", "-"), OPTIONS_OF_CHECK),
+    (("check", "--e"), ("--error-status", "--explain")),
+    (("check", "--p"), ("--plain",)),
+    (("check", "--error-status", ""), ()),
+    (("check", "--error-status", "2", "p"), ("policy",)),
+    (("check", "--explain", "--plain", "w"), ("web team",)),
     (("check", "--s"), ("--skipped",)),
     (("check", "--r"), ("--root",)),
     (("check", "--root", ""), (FOLDER,)),
@@ -61,13 +68,18 @@ ROWS = (
     (("co",), ("convert",)),
     (
         ("convert", "-"),
-        ("-e", "--expand-aliases", "-f", "--form", "-h", "--help", "-m", "--match", "-p", "--prune-matches", "--root"),
+        (
+            *("-e", "--expand-aliases", "-f", "--form", "-h", "--help", "-m", "--match", "-p", "--prune-matches", "--root"),
+            *("--error-status", "--explain", "--plain"),
+        ),
     ),
+    (("convert", "--ex"), ("--expand-aliases", "--explain")),
+    (("convert", "--error-status", "p"), ()),
     (("convert", "--f"), ("--form",)),
     (("convert", "--m"), ("--match",)),
     (("convert", "--root", "s"), (FOLDER,)),
     (("convert", "-f", "json", "--root", "sub", ""), ALL_FILES),
-    (("convert", "-e", "--p"), ("--prune-matches",)),
+    (("convert", "-e", "--p"), ("--plain", "--prune-matches")),
     (("convert", "-f", ""), FORMS),
     (("convert", "-f", "j"), ("json",)),
     (("convert", "-f", "s"), ("sudoers",)),
@@ -99,7 +111,10 @@ ROWS = (
     (("list", "-"), OPTIONS_OF_LIST),
     (("list", "--o"), ("--other-user",)),
     (("list", "--group-"), ("--group-file",)),
-    (("list", "-U", "bob", "--p"), ("--passwd",)),
+    (("list", "-U", "bob", "--p"), ("--passwd", "--plain")),
+    (("list", "--e"), ("--error-status", "--explain")),
+    (("list", "--error-status", ""), ()),
+    (("list", "--error-status=7", "p"), ("policy",)),
     (("list", "--passwd", ""), ALL_FILES),
     (("list", "--passwd", "w"), ("web team",)),
     (("list", "--group-file", "p"), ("policy",)),
@@ -127,12 +142,17 @@ ROWS = (
     (("list", "policy", "/bin/ls", "-"), ()),
     (("show", ""), ALL_FILES),
     (("show", "s"), ("sub",)),
-    (("show", "--"), ("--help", "--root")),
+    (("show", "-"), OPTIONS_OF_SHOW),
+    (("show", "--error-status", "p"), ()),
+    (("show", "--plain", "p"), ("policy",)),
     (("show", "--root", "s"), (FOLDER,)),
     (("show", "--root", "sub", "s"), (FOLDER,)),
     (("show", "policy", "w"), ()),
     (("edit", ""), ALL_FILES),
-    (("edit", "-"), ("--also", "--files", "-h", "--help", "--redo", "--root", "--undo")),
+    (("edit", "-"), ("--also", "--error-status", "--files", "-h", "--help", "--redo", "--root", "--undo")),
+    (("edit", "--e"), ("--error-status",)),
+    (("edit", "--error-status", ""), ()),
+    (("edit", "--error-status", "7", "p"), ("policy",)),
     (("edit", "--a"), ("--also",)),
     (("edit", "--also", ""), ALL_FILES),
     (("edit", "--also=w"), ("web team",)),
@@ -157,10 +177,10 @@ ROWS = (
 
 # zsh offers the options if there is nothing else to offer.
 ZSH_ROWS = {
-    ("check", "policy", ""): ("-h", "--help", "-q", "-s", "--root", "--skipped"),
+    ("check", "policy", ""): OPTIONS_OF_CHECK,
     ("convert", "-f", "sudoers", "policy", ""): (
         *("-e", "--expand-aliases", "-h", "--help"),
-        *("-m", "--match", "-p", "--prune-matches", "--root"),
+        *("-m", "--match", "-p", "--prune-matches", "--root", "--error-status", "--explain", "--plain"),
     ),
 }
 
@@ -319,8 +339,7 @@ def run_lists(program, tally):
     whole, each = helps(program)
     tally.note("completed commands", difference("commands", commands_of_help(whole), set(COMMANDS)))
     options = dict(ROWS)
-    wanted = {name: set(options[name, "-"]) for name in ("check", "convert", "list")}
-    wanted |= {"edit": set(options["edit", "-"]), "show": {"-h", "--help", "--root"}}
+    wanted = {name: set(options[name, "-"]) for name in ("check", "convert", "edit", "list", "show")}
     tally.note("completed options", difference("options", options_of_help(whole.partition("\nOptions:\n")[2]), set(options[("-",)])))
     for name, text in each.items():
         tally.note(f"completed options of {name}", difference("options", options_of_help(text), wanted.get(name)))

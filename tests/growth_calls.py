@@ -246,11 +246,23 @@ def note_question(stand, name, asked):
     stand.tally.note(f"growths of {name}", difference("frames, and some growths", (True, True), met))
 
 
+# The calls that the program asks, whose growths the part `explaining` refuses.
+BY_PROGRAM = (
+    "explain::append_help",
+    "explain::explain_load_fault",
+    "explain::list_load_faults",
+    "explain::list_pieces_that_may_stand",
+    "explain::make_expected_words",
+    "explain::make_pointer_row",
+    "explain::make_shown_row",
+)
+
+
 def note_public_calls(tally):
     """Notes the public calls that take memory and that nothing here asks, and what is asked here that is none."""
     asked = {name.partition(" ")[0] for name in QUESTIONS} | set(CHANGING.values())
     tally.note("calls by which others are met", difference("asked", set(), set(INNER.values()) - set(QUESTIONS) - asked))
-    public, known = list(public_calls()), asked | set(INNER)
+    public, known = list(public_calls()), asked | {*INNER, *BY_PROGRAM}
     tally.note("public calls that take memory", difference("not asked", [], sorted(set(public) - known)))
     tally.note("calls that are asked", difference("no public call", [], sorted(known - set(public))))
     tally.note("calls that are asked or met by others", difference("both", set(), asked & set(INNER)))

@@ -206,6 +206,18 @@ def run_wrong(stand):
                 stand.note(f"root {top!r}", words, Wanted(stderr=None, status=2, stderr_has=(text,)), folder)
 
 
+def run_unseen(program, tally):
+    """A folder that cannot be looked at is a wrong command line, with the reason."""
+    tree = {"loop": Link("loop"), "closed": Closed(None), "closed/image/main": ""}
+    tops = (("loop", "its links lead in a circle"), ("x" * 300, "its name is too long"), ("closed/image", "permission denied"))
+    with stand_of_nobody(PART, program, tally) as stand, Folder(tree) as folder:
+        for top, reason in tops:
+            for words in ("check --root TOP main", "show --root TOP main", "edit --files - --root TOP main"):
+                text = f"error: invalid value '{top}' for '--root <DIR>': {reason}".encode()
+                wanted = Wanted(stderr=None, status=2, stderr_has=(text,))
+                stand.note(f"root {top!r}", words.replace("TOP", top), wanted, folder)
+
+
 def run_tops(stand):
     """The folder itself may be named in any way, also by a link."""
     with Folder({"image/etc/sudoers": "@include ../a\n", "image/a": "# a\n", "link": Link("image"), "a": "no policy\n"}) as folder:
@@ -251,6 +263,7 @@ def run_all(program, tally):
         run_row(stand, changed, row)
     run_tops(stand)
     run_wrong(stand)
+    run_unseen(program, tally)
     run_deep(stand)
     if changed.words:
         run_drawn(stand, changed)

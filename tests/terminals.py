@@ -2,7 +2,8 @@
 
 A row of SHOWN has a name, a tree, words, what both streams show together on a terminal, and the exit status. A row of ROWS
 has the stream with control bytes in place of the text. The program runs with its output, or its errors, on a terminal, and
-again with pipes. What the terminal gets has to be what the pipe gets, with `\\xHH` for each control byte but LF and tab.
+again with pipes. What the terminal gets has to be what the pipe gets, with `\\xHH` for each control byte but LF and tab. As an
+error is explained on a terminal, the rows with an error of a policy have the option `--plain`.
 """
 
 import os
@@ -31,11 +32,27 @@ PLAIN = "\x01\x1b\x07\x7f\b"
 ARGUMENTS = {"main": f"User_Alias A = x{PLAIN}, bob\nA ALL = /bin/a {PLAIN}\tx, /bin/b {PLAIN}\n"}
 QUOTED = '@include "x\\x1b]0;own\\x07\\x0ay"\n'
 
+
+def missing(row):
+    """The explanation of an include line of a missing file, which is the first row of `main`."""
+    return b" --> main:1:10\n  |\n1 | %s\n  |          ^ no such file\n  = help: put the file there, or remove the line\n" % row
+
+
 HOSTILE = {"main": "bob ALL = /bin/a\x1b[2J, /bin/a\x7f\n"}
 
 SHOWN = (
-    ("the_report", {"main": '@include "x\\x1b]0;owned\\x07"\n'}, "check main", b"main:1:1: include x\\x1b]0;owned\\x07 not loaded\n", 1),
-    ("an_error", {"main": '@include "x\\x1b[2J"\n'}, "show main", b"sudoers_tool: main:1:1: include x\\x1b[2J not loaded\n", 1),
+    ("the_report", {"main": '@include "x\\x1b]0;owned\\x07"\n'}, "check main", b"main:1:1: include x\\x1b]0;owned\\x07 not loaded\n" + missing(b'@include "x\\x1b]0;owned\\x07"'), 1),
+    ("an_error", {"main": '@include "x\\x1b[2J"\n'}, "show main", b"sudoers_tool: main:1:1: include x\\x1b[2J not loaded\n" + missing(b'@include "x\\x1b[2J"'), 1),
+    (
+        "an_excerpt",
+        {"main": "bob ALL = /bin/a\x1b[2J, ls\n"},
+        "check main",
+        b"main:1:23: syntax error: UnexpectedToken\n --> main:1:23\n  |\n1 | bob ALL = /bin/a\\x1b[2J, ls\n  |                          ^ "
+        b"expected a command (a path from `/`, `ALL` or an alias in capitals), `(`, a tag as `NOPASSWD:` or an option as `CWD=/dir`\n"
+        b"  = help: write the full path of the command, as `/usr/bin/ls`\n",
+        1,
+    ),
+    ("a_name_of_a_missing_file", {}, "show \x1b[2J", b"sudoers_tool: NoRoot\n  = help: \\x1b[2J: no such file\n", 1),
     ("a_listing", HOSTILE, f"{ASKED} bob main", b"bob on h:\n    (root) /bin/a\\x1b[2J\n    (root) /bin/a\\x7f\n", 0),
     ("a_reason", HOSTILE, f"{ASKED} bob --why main /bin/a\x7f", b"main:1:23: allowed by: (root) /bin/a\\x7f\n", 0),
     ("names_of_files", {"main": "@includedir d\n", "d/\x1bx": "# a\n"}, "show main", b"file 1 main\n1 include 1\nfile 2 d/\\x1bx\n1 comment 1\n", 0),
@@ -48,21 +65,21 @@ SHOWN = (
         b"%% 4 main\n# a\n%% 0 \\x1b[2J\nsudoers_tool: \\x1b[2J: no line of the edited policy includes this file\n",
         0,
     ),
-    ("line_feeds_and_tabs", {"main": '@include "x\\x0a\\x09y"\n'}, "check main", b"main:1:1: include x\n\ty not loaded\n", 1),
-    ("bytes_that_are_not_utf_8", {"main": '@include "x\\xff\\x9b"\n'}, "check main", b"main:1:1: include x\xff\x9b not loaded\n", 1),
+    ("line_feeds_and_tabs", {"main": '@include "x\\x0a\\x09y"\n'}, "check main", b"main:1:1: include x\n\ty not loaded\n" + missing(b'@include "x\\x0a\\x09y"'), 1),
+    ("bytes_that_are_not_utf_8", {"main": '@include "x\\xff\\x9b"\n'}, "check main", b"main:1:1: include x\xff\x9b not loaded\n" + missing(b'@include "x\\xff\\x9b"'), 1),
 )
 
 # The stream that has the control bytes is the first word.
 ROWS = (
     ("report", MANY, "stdout", "check main", 0),
     ("skipped_names", MANY, "stdout", "check --skipped main", 0),
-    ("error_in_a_report", {"main": QUOTED}, "stdout", "check main", 1),
+    ("error_in_a_report", {"main": QUOTED}, "stdout", "check --plain main", 1),
     ("lines", MANY, "stdout", "show main", 0),
     ("reason", MANY, "stdout", f"{ASKED} bob --why main /bin/a", 0),
     ("listing", ARGUMENTS, "stdout", f"{ASKED} bob main", 0),
     ("policy", ARGUMENTS, "stdout", "convert -f sudoers main", 0),
     ("edited_files", {"s": "", **MANY, "main": "@includedir d\n# \x1b[0m\r\n", f"d/{NAME}": Link("none")}, "stdout", "edit --files s main", 0),
-    ("error", {"main": QUOTED}, "stderr", "show main", 1),
+    ("error", {"main": QUOTED}, "stderr", "show --plain main", 1),
     ("error_with_a_name", MANY, "stderr", "edit --files main main", 1),
     ("name_off_the_walk", {"s": "", "main": "# a\n"}, "stderr", ["edit", "--files", "s", "--also", LINE, "main"], 0),
     ("wrong_folder", {}, "stderr", ["check", "--root", f"none{NAME}", "main"], 2),

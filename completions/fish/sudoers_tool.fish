@@ -14,7 +14,7 @@ function __sudoers_tool_plain_words
             set no_options yes
         else if test -z "$no_options"; and string match --quiet -- '-?*' $word
             # These options take the next word.
-            contains -- "$plain[1]" check convert edit list show; and test $word = --root; and set option $word
+            contains -- "$plain[1]" check convert edit list show; and contains -- $word --root --error-status; and set option $word
             contains -- convert $plain; and contains -- $word -f --form -m --match; and set option $word
             contains -- list $plain; and contains -- $word -U --other-user -u --user -g --group; and set option $word
             contains -- edit $plain; and contains -- $word --also --files --undo --redo; and set option $word
@@ -83,8 +83,9 @@ complete -c sudoers_tool -n __fish_use_subcommand -a edit -d 'Apply an edit scri
 complete -c sudoers_tool -n __fish_use_subcommand -a help -d 'Print help'
 complete -c sudoers_tool -n __fish_use_subcommand -a list -d 'Print what a user may run on a host, or whether a command is allowed'
 complete -c sudoers_tool -n __fish_use_subcommand -a show -d 'Print the lines of a policy'
-complete -c sudoers_tool -n '__fish_seen_subcommand_from check' -s q -d 'Print nothing; only set the exit status'
+complete -c sudoers_tool -n '__fish_seen_subcommand_from check' -s q -d 'Print no report; only set the exit status'
 complete -c sudoers_tool -n '__fish_seen_subcommand_from check' -s s -d 'Treat undefined and cyclic aliases as errors'
+complete -c sudoers_tool -n '__fish_seen_subcommand_from check' -l all -d 'Print the first error of each line of all files'
 complete -c sudoers_tool -n '__fish_seen_subcommand_from check' -l skipped -d 'List the folders and the files in included folders that are not read'
 complete -c sudoers_tool -n '__fish_seen_subcommand_from convert' -s e -l expand-aliases -d 'Replace aliases by their members'
 complete -c sudoers_tool -n '__fish_seen_subcommand_from convert' -s f -l form -x -a 'json sudoers' -d 'Form of the output: sudoers or json'
@@ -105,6 +106,12 @@ complete -c sudoers_tool -n __sudoers_tool_option_of_list -l interfaces -x -d 'A
 complete -c sudoers_tool -n __sudoers_tool_option_of_list -l why -d 'Print the rule that decides'
 complete -c sudoers_tool -n '__fish_seen_subcommand_from check convert edit show' -l root -x -a '(__fish_complete_directories)' -d 'Folder that is the root for the policy and the files that it includes'
 complete -c sudoers_tool -n __sudoers_tool_option_of_list -l root -x -a '(__fish_complete_directories)' -d 'Folder that is the root for the policy and the files that it includes'
+complete -c sudoers_tool -n '__fish_seen_subcommand_from check convert edit show' -l error-status -x -d 'Exit status of an error'
+complete -c sudoers_tool -n __sudoers_tool_option_of_list -l error-status -x -d 'Exit status of an error'
+complete -c sudoers_tool -n '__fish_seen_subcommand_from check convert show' -l explain -d 'Explain an error, also where standard error is no terminal'
+complete -c sudoers_tool -n __sudoers_tool_option_of_list -l explain -d 'Explain an error, also where standard error is no terminal'
+complete -c sudoers_tool -n '__fish_seen_subcommand_from check convert show' -l plain -d 'Print an error alone, also on a terminal'
+complete -c sudoers_tool -n __sudoers_tool_option_of_list -l plain -d 'Print an error alone, also on a terminal'
 complete -c sudoers_tool -n '__sudoers_tool_argument_of check convert edit list show' -F
 complete -c sudoers_tool -n __sudoers_tool_word_of_list -F
 complete -c sudoers_tool -n '__sudoers_tool_argument_of help' -a 'check convert edit list show'

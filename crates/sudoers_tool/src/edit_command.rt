@@ -3,6 +3,7 @@
 use crate::also_option::{
     ALSO, add_also_files, make_also_option, print_files_not_included, trouble_of_gather_fault,
 };
+use crate::explaining::make_error_status_option;
 use crate::file_trouble::FileTrouble;
 use crate::files::{STDIN, open_disk_files, open_named_file};
 use crate::files_within_byte_budget::FilesWithinByteBudget;
@@ -22,7 +23,7 @@ pub const EDIT: &str = "edit";
 
 /// The two forms of the command line.
 const USAGE: &str =
-    "sudoers_tool edit [--undo <N>] [--redo <N>]\n       sudoers_tool edit [OPTIONS] --files <SCRIPT> <POLICY>";
+    "sudoers_tool edit [--undo <N>] [--redo <N>] [--error-status <N>]\n       sudoers_tool edit [OPTIONS] --files <SCRIPT> <POLICY>";
 
 /// The option that says how many edits to take back.
 const UNDO: &str = "undo";
@@ -52,6 +53,7 @@ pub fn make_edit_subcommand<'a>(alloc: Global, top: Arg<'a>) -> Result<Command<'
         .arg(make_files_option_naming_script(alloc)?)?
         .arg(make_also_option(alloc)?)?
         .arg(top.requires_arg(SCRIPT)?)?
+        .arg(make_error_status_option(alloc))?
         .arg(make_policy_argument(alloc)?)
 }
 

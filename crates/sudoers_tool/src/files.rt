@@ -1,5 +1,6 @@
 //! Files that the command line names.
 
+use crate::kept_files::KeptFiles;
 use clap::ArgMatches;
 use std::alloc::{AllocError, Global};
 use std::io::Stdin;
@@ -16,6 +17,9 @@ pub const STDIN_NUMBER: i32 = 0;
 
 /// The files of the disk and the standard input.
 pub type Disk = FilesOnDisk<HostRuntime, Stdin>;
+
+/// The files of the disk and the standard input, each of which is read once.
+pub type KeptDisk = KeptFiles<Disk>;
 
 /// Returns the files of the disk for the policy `root`: those below the folder that `words` name, if they name one.
 pub fn open_disk_files(
@@ -47,11 +51,34 @@ pub fn open_named_file(rt: &HostRuntime, file: &str) -> Result<fs::File, ToolFau
     }
 }
 
-/// Returns whether `dir` is a folder.
-pub fn is_folder(rt: &HostRuntime, dir: &str) -> Result<bool, AllocError> {
+/// Returns why `dir` is not a folder; nothing if it is one.
+pub fn find_trouble_with_folder(
+    rt: &HostRuntime,
+    dir: &str,
+) -> Result<Option<&'static str>, AllocError> {
     match fs::metadata(rt, dir) {
-        Ok(metadata) => Ok(metadata.is_dir()),
+        Ok(metadata) if metadata.is_dir() => Ok(None),
+        Ok(_) => Ok(Some("no such folder")),
         Err(error) if error.kind() == io::ErrorKind::OutOfMemory => Err(AllocError),
-        Err(_) => Ok(false),
+        Err(error) if is_kind_of_missing_file(error.kind()) => Ok(Some("no such folder")),
+        Err(error) => Ok(Some(words_of_error_kind(error.kind()))),
+    }
+}
+
+/// Returns whether an error of the kind `kind` says that there is no such file.
+fn is_kind_of_missing_file(kind: io::ErrorKind) -> bool {
+    kind == io::ErrorKind::NotFound || kind == io::ErrorKind::NotADirectory
+}
+
+/// Returns the system's reason for an error of the kind `kind`, in words.
+pub fn words_of_error_kind(kind: io::ErrorKind) -> &'static str {
+    match kind {
+        io::ErrorKind::NotFound => "no such file",
+        io::ErrorKind::PermissionDenied => "permission denied",
+        io::ErrorKind::NotADirectory => "a part of its name is no folder",
+        io::ErrorKind::IsADirectory => "it is a folder",
+        io::ErrorKind::FilesystemLoop => "its links lead in a circle",
+        io::ErrorKind::InvalidFilename => "its name is too long",
+        _ => "the device failed",
     }
 }

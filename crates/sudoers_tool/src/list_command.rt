@@ -1,6 +1,6 @@
 //! The subcommand `list`: its command line, and its run.
 
-use crate::files::{STDIN, STDIN_NUMBER, open_disk_files, open_named_file};
+use crate::files::{KeptDisk, STDIN, STDIN_NUMBER, open_named_file};
 use crate::terminal::open_standard_output;
 use clap::{Arg, ArgAction, ArgMatches, Command};
 use std::alloc::{AllocError, Global};
@@ -209,6 +209,7 @@ pub fn run_list_command(
     rt: &HostRuntime,
     file: &str,
     words: &ArgMatches<'_>,
+    files: &mut KeptDisk,
 ) -> Result<u8, ToolFault> {
     let asked = ListQuestion::from_matches(rt.alloc(), file, words)?;
     let (passwd, group) = open_passwd_and_group_files(rt, words)?;
@@ -219,7 +220,7 @@ pub fn run_list_command(
     }
     run_list(
         rt.alloc(),
-        &mut open_disk_files(rt, words, file)?,
+        files,
         asked.file.as_slice(),
         &mut Counted::new(passwd),
         &mut Counted::new(group),

@@ -1,37 +1,47 @@
 //! A tool for sudoers policies whose promises are proved.
 #![tactic(auto)]
 
+mod all_errors;
 mod also_option;
+mod convert_command;
 mod edit_command;
+mod explaining;
 mod file_trouble;
 mod files;
 mod files_within_byte_budget;
+mod kept_files;
 mod list_command;
 mod terminal;
 
+use crate::all_errors::{make_all_flag, print_all_errors};
+use crate::convert_command::{make_convert_subcommand, run_convert_command};
 use crate::edit_command::{
     EDIT, apply_script_to_policy_both_from_stdin, edit_policy_or_stdin, find_edit_usage_error,
     make_edit_subcommand,
 };
+use crate::explaining::{
+    add_error_options, are_files_read_again, error_status_of_words, explain_outcome,
+    print_explanation,
+};
 use crate::file_trouble::FileTrouble;
-use crate::files::{STDIN, is_folder, open_disk_files};
+use crate::files::{KeptDisk, STDIN, find_trouble_with_folder, open_disk_files};
+use crate::kept_files::KeptFiles;
 use crate::list_command::{make_list_subcommand, run_list_command};
 use crate::terminal::{open_standard_error, open_standard_output, print_error_line};
 use clap::error::ErrorKind;
 use clap::{Arg, ArgAction, ArgMatches, Command, Error};
 use std::alloc::{AllocError, Global};
 use std::io;
-use std::io::Write;
+use std::io::{IsTerminal, Write};
 use std::process::ExitCode;
-use sudoers_run::{
-    CheckWords, ConvertWords, Counted, OutputForm, ToolFault, run_check, run_convert, run_show,
-};
-
-/// The forms in which `convert` prints.
-static FORMS: [&str; 2] = ["sudoers", "json"];
+use sudoers_run::{CheckWords, Counted, ToolFault, run_check, run_show};
 
 /// What `--version` prints after the program's name.
 const VERSION: &str = "0.8.0";
+
+/// What is printed before the program waits for a terminal.
+const BEFORE_WAITING: &[u8] =
+    b"waiting for SCRIPT, `%%` and POLICY on standard input; `sudoers_tool --help` prints the commands";
 
 /// What help prints last.
 const EXIT_STATUS: &str =
@@ -42,7 +52,7 @@ const EXIT_STATUS: &str =
 fn main(rt: HostRuntime) -> ExitCode {
     match run_command_line(&rt) {
         Ok(code) => code,
-        Err(fault) => report_fault(&rt, &FileTrouble::from(fault)),
+        Err(fault) => report_fault(&rt, &FileTrouble::from(fault), 1, &[]),
     }
 }
 
@@ -84,10 +94,10 @@ fn find_usage_error(
         return Ok(None);
     };
     if let Some(dir) = words.get_str("DIR")
-        && !is_folder(rt, dir)?
+        && let Some(trouble) = find_trouble_with_folder(rt, dir)?
     {
         let message = format!(in rt.alloc();
-            "invalid value '{dir}' for '--root <DIR>': no such folder"
+            "invalid value '{dir}' for '--root <DIR>': {trouble}"
         )?;
         return Ok(Some(message));
     }
@@ -115,25 +125,51 @@ fn make_command_for_usage<'a>(
 fn run_matched_command(rt: &HostRuntime, matches: &ArgMatches<'_>) -> ExitCode {
     match matches.subcommand() {
         Some((name, words)) if name != EDIT => {
-            let file = words.get_str("FILE").unwrap_or(STDIN);
-            print_error_of_outcome_and_get_exit_code(
-                rt,
-                turn_fault_into_trouble_without_file_name(run_named_command_on_file(
-                    rt, name, file, words,
-                )),
-            )
+            run_named_command_and_print_error(rt, name, words)
         }
         Some((_, words)) => print_error_of_outcome_and_get_exit_code(
             rt,
             edit_policy_or_stdin(rt, words),
+            error_status_of_words(words),
+            &[],
         ),
-        None => print_error_of_outcome_and_get_exit_code(
-            rt,
-            turn_fault_into_trouble_without_file_name(apply_script_to_policy_both_from_stdin(
-                rt, 0, 0,
-            )),
-        ),
+        None => {
+            print_hint_before_waiting(rt);
+            print_error_of_outcome_and_get_exit_code(
+                rt,
+                turn_fault_into_trouble_without_file_name(apply_script_to_policy_both_from_stdin(
+                    rt, 0, 0,
+                )),
+                1,
+                &[],
+            )
+        }
     }
+}
+
+/// Runs the command `name`, which reads a policy file, and prints its error, with the lines that explain it.
+fn run_named_command_and_print_error(
+    rt: &HostRuntime,
+    name: &str,
+    words: &ArgMatches<'_>,
+) -> ExitCode {
+    let file = words.get_str("FILE").unwrap_or(STDIN);
+    let error_status = error_status_of_words(words);
+    let mut files = match open_disk_files(rt, words, file) {
+        Ok(disk) => KeptFiles::new(rt.alloc(), disk, are_files_read_again(rt, words)),
+        Err(fault) => return report_fault(rt, &FileTrouble::from(fault), error_status, &[]),
+    };
+    let outcome = run_named_command_on_file(rt, name, file, words, &mut files);
+    let explanation = match explain_outcome(rt, words, file, &mut files, &outcome) {
+        Ok(text) => text,
+        Err(_) => Vec::new(rt.alloc()),
+    };
+    print_error_of_outcome_and_get_exit_code(
+        rt,
+        turn_fault_into_trouble_without_file_name(outcome),
+        error_status,
+        explanation.as_slice(),
+    )
 }
 
 /// Returns the outcome of a command whose errors are printed without the name of a file before them.
@@ -146,29 +182,43 @@ fn turn_fault_into_trouble_without_file_name(
     }
 }
 
-/// Runs the command `name`, which reads a policy file.
+/// Runs the command `name`, which reads the policy `file` among `files`.
 fn run_named_command_on_file(
     rt: &HostRuntime,
     name: &str,
     file: &str,
     words: &ArgMatches<'_>,
+    files: &mut KeptDisk,
 ) -> Result<u8, ToolFault> {
     match name {
-        "check" => run_check_command(rt, file, words),
-        "convert" => run_convert_command(rt, file, words),
-        "list" => run_list_command(rt, file, words),
-        _ => run_show_command(rt, file, words),
+        "check" => run_check_command(rt, file, words, files),
+        "convert" => run_convert_command(rt, file, words, files),
+        "list" => run_list_command(rt, file, words, files),
+        _ => run_show_command(rt, file, words, files),
     }
 }
 
-/// Returns the exit status of a command that ended so, and prints its error.
+/// Prints what the program waits for, if the standard input is a terminal.
+fn print_hint_before_waiting(rt: &HostRuntime) {
+    if rt.stdin().is_terminal() {
+        let _ = print_error_line(rt, &[BEFORE_WAITING]);
+    }
+}
+
+/// Returns the exit status of a command that ended so, and prints its error, of which the exit status is `error_status`, and the lines
+/// `explanation`.
 fn print_error_of_outcome_and_get_exit_code(
     rt: &HostRuntime,
     outcome: Result<u8, FileTrouble>,
+    error_status: u8,
+    explanation: &[u8],
 ) -> ExitCode {
     match outcome {
-        Ok(status) => ExitCode::from(status),
-        Err(trouble) => report_fault(rt, &trouble),
+        Ok(status) => {
+            print_explanation(rt, explanation);
+            ExitCode::from(status)
+        }
+        Err(trouble) => report_fault(rt, &trouble, error_status, explanation),
     }
 }
 
@@ -188,15 +238,25 @@ fn make_top_level_command<'a>(alloc: Global) -> Result<Command<'a>, AllocError> 
             "Check, show, edit, convert and list sudoers policies. Without a command, do what `edit` does",
         )
         .after_help(EXIT_STATUS)
-        .subcommand(make_check_subcommand(alloc)?)?
-        .subcommand(make_convert_subcommand(alloc)?)?
-        .subcommand(make_edit_subcommand(alloc, make_root_folder_option(alloc))?)?
-        .subcommand(make_list_subcommand(
+        .subcommand(add_error_options(alloc, make_check_subcommand(alloc)?)?)?
+        .subcommand(add_error_options(
             alloc,
-            make_root_folder_option(alloc),
-            make_policy_file_or_stdin_argument(alloc),
+            make_convert_subcommand(
+                alloc,
+                make_root_folder_option(alloc),
+                make_policy_file_or_stdin_argument(alloc),
+            )?,
         )?)?
-        .subcommand(make_show_subcommand(alloc)?)
+        .subcommand(make_edit_subcommand(alloc, make_root_folder_option(alloc))?)?
+        .subcommand(add_error_options(
+            alloc,
+            make_list_subcommand(
+                alloc,
+                make_root_folder_option(alloc),
+                make_policy_file_or_stdin_argument(alloc),
+            )?,
+        )?)?
+        .subcommand(add_error_options(alloc, make_show_subcommand(alloc)?)?)
 }
 
 /// Returns the command line of `check`.
@@ -204,7 +264,7 @@ fn make_check_subcommand<'a>(alloc: Global) -> Result<Command<'a>, AllocError> {
     let quiet = Arg::new(alloc, "quiet")
         .short('q')
         .action(ArgAction::SetTrue)
-        .help("Print nothing; only set the exit status");
+        .help("Print no report; only set the exit status");
     let strict = Arg::new(alloc, "strict")
         .short('s')
         .action(ArgAction::SetTrue)
@@ -222,50 +282,9 @@ fn make_check_subcommand<'a>(alloc: Global) -> Result<Command<'a>, AllocError> {
         .arg(quiet)?
         .arg(strict)?
         .arg(skipped)?
+        .arg(make_all_flag(alloc))?
         .arg(make_root_folder_option(alloc))?
         .arg(make_policy_file_or_stdin_argument(alloc))
-}
-
-/// Returns the command line of `convert`.
-fn make_convert_subcommand<'a>(alloc: Global) -> Result<Command<'a>, AllocError> {
-    let form = Arg::new(alloc, "FORM")
-        .short('f')
-        .long("form")
-        .required(true)
-        .value_parser(FORMS.as_slice())
-        .help("Form of the output: sudoers or json")
-        .hide_possible_values(true);
-    let expand = Arg::new(alloc, "expand")
-        .short('e')
-        .long("expand-aliases")
-        .action(ArgAction::SetTrue)
-        .help("Replace aliases by their members");
-    Command::new(alloc, "convert")
-        .about(
-            "Print the rules of a policy and of the files that it includes anew, as one policy or as JSON, without comments",
-        )
-        .arg(form)?
-        .arg(expand)?
-        .arg(make_filter_option(alloc))?
-        .arg(make_prune_lists_to_matches_flag(alloc))?
-        .arg(make_root_folder_option(alloc))?
-        .arg(make_policy_file_or_stdin_argument(alloc))
-}
-
-/// Returns the option with the text of a filter.
-fn make_filter_option<'a>(alloc: Global) -> Arg<'a> {
-    Arg::new(alloc, "FILTER").short('m').long("match").help(
-        "Print only rules for users, groups and hosts of these names, as user=bob,group=adm,host=www1; for review only",
-    )
-}
-
-/// Returns the option that prunes lists.
-fn make_prune_lists_to_matches_flag<'a>(alloc: Global) -> Arg<'a> {
-    Arg::new(alloc, "prune")
-        .short('p')
-        .long("prune-matches")
-        .action(ArgAction::SetTrue)
-        .help("With -m, drop other users and hosts from the lists of these rules")
 }
 
 /// Returns the option with the folder below which absolute names are read.
@@ -305,54 +324,15 @@ fn print_help_or_usage_error(rt: &HostRuntime, error: &Error) -> Result<ExitCode
 }
 
 /// Shows a policy, or standard input.
-fn run_show_command(rt: &HostRuntime, file: &str, words: &ArgMatches<'_>) -> Result<u8, ToolFault> {
-    let mut writer = Counted::new(open_standard_output(rt));
-    let root = file.as_bytes();
-    run_show(
-        rt.alloc(),
-        &mut open_disk_files(rt, words, file)?,
-        root,
-        &mut writer,
-    )
-}
-
-/// Returns the form that the words of `convert` name.
-fn form_of_convert_words(words: &ArgMatches<'_>) -> OutputForm {
-    match words.get_str("FORM") {
-        Some("json") => OutputForm::Json,
-        _ => OutputForm::Sudoers,
-    }
-}
-
-/// Returns what the words of `convert` ask for.
-fn form_filter_and_flags_of_convert_matches<'a>(words: &ArgMatches<'a>) -> ConvertWords<'a> {
-    ConvertWords {
-        form: form_of_convert_words(words),
-        filter: match words.get_str("FILTER") {
-            Some(text) => Some(text.as_bytes()),
-            None => None,
-        },
-        prune: words.get_flag("prune"),
-        expand: words.get_flag("expand"),
-    }
-}
-
-/// Converts a policy, or standard input.
-fn run_convert_command(
+fn run_show_command(
     rt: &HostRuntime,
     file: &str,
     words: &ArgMatches<'_>,
+    files: &mut KeptDisk,
 ) -> Result<u8, ToolFault> {
     let mut writer = Counted::new(open_standard_output(rt));
-    let asked = form_filter_and_flags_of_convert_matches(words);
     let root = file.as_bytes();
-    run_convert(
-        rt.alloc(),
-        &mut open_disk_files(rt, words, file)?,
-        root,
-        &asked,
-        &mut writer,
-    )
+    run_show(rt.alloc(), files, root, &mut writer)
 }
 
 /// Checks a policy, or standard input.
@@ -360,7 +340,11 @@ fn run_check_command(
     rt: &HostRuntime,
     file: &str,
     words: &ArgMatches<'_>,
+    files: &mut KeptDisk,
 ) -> Result<u8, ToolFault> {
+    if print_all_errors(rt, words, file, files)? {
+        return Ok(1);
+    }
     let mut writer = Counted::new(open_standard_output(rt));
     let root = file.as_bytes();
     let asked = CheckWords {
@@ -368,19 +352,20 @@ fn run_check_command(
         strict: words.get_flag("strict"),
         skipped: words.get_flag("skipped"),
     };
-    run_check(
-        rt.alloc(),
-        &mut open_disk_files(rt, words, file)?,
-        root,
-        &asked,
-        &mut writer,
-    )
+    run_check(rt.alloc(), files, root, &asked, &mut writer)
 }
 
-/// Prints an error, and returns exit status 1. Prints nothing if memory runs out.
-fn report_fault(rt: &HostRuntime, trouble: &FileTrouble) -> ExitCode {
-    if let Ok(text) = trouble.text(rt.alloc()) {
-        let _ = print_error_line(rt, &[text.as_slice()]);
+/// Prints an error and the lines `explanation`, and returns the exit status `error_status`. Prints nothing if memory runs out.
+fn report_fault(
+    rt: &HostRuntime,
+    trouble: &FileTrouble,
+    error_status: u8,
+    explanation: &[u8],
+) -> ExitCode {
+    if let Ok(text) = trouble.text(rt.alloc())
+        && print_error_line(rt, &[text.as_slice()]).is_ok()
+    {
+        print_explanation(rt, explanation);
     }
-    ExitCode::from(1)
+    ExitCode::from(error_status)
 }

@@ -1,0 +1,3 @@
+pub mod LaterFaults
+pub mod Blanks
+pub mod FaultsWithin

@@ -1,0 +1,2 @@
+pub mod ExpectedPieces
+pub mod ShownRow
