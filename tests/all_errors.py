@@ -1,7 +1,7 @@
 """Asks `check --all` for all errors of a policy.
 
 A row has a name, a tree, words, and what is printed. Each worked policy is checked with and without `--all`: the first line
-has to be the same error, or the whole report where there is none.
+has to be the same error, or the whole report where there is none. A row of SEVERAL checks several policies in one run.
 """
 
 import tempfile
@@ -10,6 +10,7 @@ import worked_policies
 from sweep_runs import ROOT, Ground
 from tally import difference
 
+from program import Wanted
 from stand import Folder, Stand
 
 PART = "all_errors"
@@ -34,6 +35,17 @@ ROWS = (
      b"main:1:1: include d/b twice\n"),
     ("a_continued_line", {"main": "bob ALL = \\\n  /bin/a, \\\n  ls\nann\n"}, "main",
      b"main:3:3: syntax error: UnexpectedToken\nmain:4:4: syntax error: EndOfLine\n"),
+)
+
+# The policies of a run, its words, and what it prints, with the exit status: each policy is one of its own.
+TWO = {"a": "User_Alias A = bob\nA ALL = ALL\n", "b": "User_Alias A = ann\nA ALL\n"}
+SEVERAL = (
+    ("two_policies", "check a b", b"a: parsed OK\nb:2:6: syntax error: EndOfLine\n", b"", 1),
+    ("two_good_policies", "check a a", b"a: parsed OK\na: parsed OK\n", b"", 0),
+    ("a_missing_policy_first", "check none a", b"a: parsed OK\n", b"sudoers_tool: none: NoRoot\n", 1),
+    ("a_missing_policy_last", "check -q b none", b"", b"sudoers_tool: none: NoRoot\n", 1),
+    ("the_highest_status", "check --error-status 7 none b", b"b:2:6: syntax error: EndOfLine\n", b"sudoers_tool: none: NoRoot\n", 7),
+    ("all_errors_of_each", "check --all b a b", b"b:2:6: syntax error: EndOfLine\na: parsed OK\nb:2:6: syntax error: EndOfLine\n", b"", 1),
 )
 
 
@@ -83,6 +95,11 @@ def run_all(program, tally):
     stand = Stand(PART, program, tally)
     for row in ROWS:
         run_row(stand, row)
+    with Folder(TWO) as folder:
+        for name, words, text, errors, status in SEVERAL:
+            stand.note(name, words, Wanted(text, errors, status=status), folder)
+        twice = stand.run("check - -", folder)
+        tally.note(f"{PART}: standard input twice", difference("status", 2, twice.status) + difference("stdout", b"", twice.stdout))
     with tempfile.TemporaryDirectory(prefix="sudoers_tool_tests_") as top:
         ground = Ground(program, top)
         for number, (files, where) in enumerate(worked_policies.policies().items()):

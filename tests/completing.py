@@ -25,13 +25,21 @@ SECONDS = 60
 
 FILES = ("policy", "web team", "a file with blanks")
 FOLDER = "sub"
-COMMANDS = ("check", "convert", "edit", "help", "list", "show")
+COMMANDS = ("check", "convert", "edit", "help", "list", "show", "what", "who", "why")
 OPTIONS_OF_LIST = (
     *("-U", "--other-user", "-u", "--user", "-g", "--group", "--passwd", "--group-file"),
     *("--host", "--moment", "--interfaces", "--root", "--why", "-h", "--help", "--error-status", "--explain", "--plain"),
 )
-OPTIONS_OF_CHECK = ("-h", "--help", "-q", "-s", "--root", "--skipped", "--all", "--error-status", "--explain", "--plain")
-OPTIONS_OF_SHOW = ("--error-status", "--explain", "-h", "--help", "--plain", "--root")
+OPTIONS_OF_CHECK = (
+    *("-h", "--help", "-q", "-s", "--root", "--skipped", "--all", "--json"),
+    *("--error-status", "--explain", "--plain"),
+)
+OPTIONS_OF_SHOW = ("--error-status", "--explain", "-h", "--help", "--json", "--plain", "--root")
+OPTIONS_OF_MACHINE = (
+    *("--policy", "--passwd", "--group-file", "--host", "--moment", "--interfaces"),
+    *("--root", "--explain", "--plain", "-h", "--help"),
+)
+OPTIONS_OF_TARGET = ("-u", "--user", "-g", "--group")
 ALL_FILES = (*FILES, FOLDER)
 FORMS = ("json", "sudoers")
 KEYS = ("group=", "host=", "user=")
@@ -56,6 +64,9 @@ ROWS = (
     (("check", "--error-status", "2", "p"), ("policy",)),
     (("check", "--explain", "--plain", "w"), ("web team",)),
     (("check", "--s"), ("--skipped",)),
+    (("check", "--j"), ("--json",)),
+    (("check", "--json", "w"), ("web team",)),
+    (("show", "--j"), ("--json",)),
     (("check", "--r"), ("--root",)),
     (("check", "--root", ""), (FOLDER,)),
     (("check", "--root", "p"), ()),
@@ -64,7 +75,7 @@ ROWS = (
     (("check", "-q", "--root=sub", "w"), ("web team",)),
     (("check", "-q", ""), ALL_FILES),
     (("check", "-q", "-s", "a"), ("a file with blanks",)),
-    (("check", "policy", ""), ()),
+    (("check", "policy", ""), ALL_FILES),
     (("co",), ("convert",)),
     (
         ("convert", "-"),
@@ -149,8 +160,9 @@ ROWS = (
     (("show", "--root", "sub", "s"), (FOLDER,)),
     (("show", "policy", "w"), ()),
     (("edit", ""), ALL_FILES),
-    (("edit", "-"), ("--also", "--error-status", "--files", "-h", "--help", "--redo", "--root", "--undo")),
-    (("edit", "--e"), ("--error-status",)),
+    (("edit", "-"), ("--also", "--error-status", "--explain", "--files", "-h", "--help", "--plain", "--redo", "--root", "--undo")),
+    (("edit", "--e"), ("--error-status", "--explain")),
+    (("edit", "--p"), ("--plain",)),
     (("edit", "--error-status", ""), ()),
     (("edit", "--error-status", "7", "p"), ("policy",)),
     (("edit", "--a"), ("--also",)),
@@ -170,14 +182,53 @@ ROWS = (
     (("edit", "--r"), ("--redo", "--root")),
     (("edit", "--undo", ""), ()),
     (("edit", "--undo", "1", "--re"), ("--redo",)),
-    (("help", ""), ("check", "convert", "edit", "list", "show")),
+    (("wh",), ("what", "who", "why")),
+    (("who",), ("who",)),
+    (("who", ""), ALL_FILES),
+    (("who", "-"), (*OPTIONS_OF_MACHINE, *OPTIONS_OF_TARGET, "--denied")),
+    (("who", "--d"), ("--denied",)),
+    (("who", "--p"), ("--passwd", "--plain", "--policy")),
+    (("who", "--policy", "w"), ("web team",)),
+    (("who", "--policy=p"), ("policy",)),
+    (("who", "--passwd", ""), ALL_FILES),
+    (("who", "--group-file=w"), ("web team",)),
+    (("who", "--host", ""), ()),
+    (("who", "--moment", "p"), ()),
+    (("who", "--interfaces", ""), ()),
+    (("who", "--root", ""), (FOLDER,)),
+    (("who", "--root=s"), (FOLDER,)),
+    (("who", "-u", "roo"), ("root",)),
+    (("who", "--group", "roo"), ("root",)),
+    (("who", "--policy", "policy", "--denied", "w"), ("web team",)),
+    (("who", "/bin/ls", "p"), ("policy",)),
+    (("who", "/bin/ls", "-"), ()),
+    (("who", "--", "p"), ("policy",)),
+    (("what", "-"), (*OPTIONS_OF_MACHINE, "-e", "--expand-aliases")),
+    (("what", "roo"), ("root",)),
+    (("what", "-e", "roo"), ("root",)),
+    (("what", "--policy", "p"), ("policy",)),
+    (("what", "--policy=policy", "roo"), ("root",)),
+    (("what", "--ex"), ("--expand-aliases", "--explain")),
+    (("what", "root", "--pl"), ("--plain",)),
+    (("what", "root", "p"), ()),
+    (("why", "-"), (*OPTIONS_OF_MACHINE, *OPTIONS_OF_TARGET)),
+    (("why", "roo"), ("root",)),
+    (("why", "-u", "roo"), ("root",)),
+    (("why", "--group=roo"), ("root",)),
+    (("why", "--root", "s"), (FOLDER,)),
+    (("why", "root", ""), ALL_FILES),
+    (("why", "root", "--us"), ("--user",)),
+    (("why", "root", "w"), ("web team",)),
+    (("why", "root", "/bin/ls", "p"), ("policy",)),
+    (("why", "root", "/bin/ls", "-"), ()),
+    (("help", ""), ("check", "convert", "edit", "list", "show", "what", "who", "why")),
+    (("help", "wh"), ("what", "who", "why")),
     (("help", "s"), ("show",)),
     (("help", "show", ""), ()),
 )
 
 # zsh offers the options if there is nothing else to offer.
 ZSH_ROWS = {
-    ("check", "policy", ""): OPTIONS_OF_CHECK,
     ("convert", "-f", "sudoers", "policy", ""): (
         *("-e", "--expand-aliases", "-h", "--help"),
         *("-m", "--match", "-p", "--prune-matches", "--root", "--error-status", "--explain", "--plain"),
@@ -339,7 +390,7 @@ def run_lists(program, tally):
     whole, each = helps(program)
     tally.note("completed commands", difference("commands", commands_of_help(whole), set(COMMANDS)))
     options = dict(ROWS)
-    wanted = {name: set(options[name, "-"]) for name in ("check", "convert", "edit", "list", "show")}
+    wanted = {name: set(options[name, "-"]) for name in ("check", "convert", "edit", "list", "show", "what", "who", "why")}
     tally.note("completed options", difference("options", options_of_help(whole.partition("\nOptions:\n")[2]), set(options[("-",)])))
     for name, text in each.items():
         tally.note(f"completed options of {name}", difference("options", options_of_help(text), wanted.get(name)))

@@ -4,6 +4,7 @@ The growths of a call are those of a frame that asks it alone, without those of 
 same.
 """
 
+import itertools
 from dataclasses import dataclass
 
 from growth_frames import WRITTEN, sampled_frames
@@ -246,23 +247,62 @@ def note_question(stand, name, asked):
     stand.tally.note(f"growths of {name}", difference("frames, and some growths", (True, True), met))
 
 
-# The calls that the program asks, whose growths the part `explaining` refuses.
-BY_PROGRAM = (
-    "explain::append_help",
-    "explain::explain_load_fault",
-    "explain::list_load_faults",
-    "explain::list_pieces_that_may_stand",
-    "explain::make_expected_words",
-    "explain::make_pointer_row",
-    "explain::make_shown_row",
-)
+# The calls that the program asks, behind the part of the tests that refuses growths of its runs.
+BY_PROGRAM = {
+    "explaining": (
+        "explain::Mistake::find_hint",
+        "explain::PlaceInFile::append_excerpt",
+        "explain::append_help",
+        "explain::explain_load_fault",
+        "explain::list_load_faults",
+        "explain::list_pieces_that_may_stand",
+        "explain::make_expected_words",
+        "explain::make_pointer_row",
+        "explain::make_shown_row",
+    ),
+    "explaining_edits": (
+        "explain_edits::explain_bad_bundle",
+        "explain_edits::explain_missing_mark",
+        "explain_edits::explain_refused_edit",
+        "explain_edits::explain_script_fault",
+    ),
+    "json": (
+        "report::JsonDocument::add_list",
+        "report::JsonDocument::add_member",
+        "report::JsonDocument::make_text",
+        "report::JsonList::add",
+        "report::LoadErrors::add",
+        "report::LoadErrors::new",
+        "report::PlaceInPolicy::to_value",
+        "report::load_or_list_faults",
+        "report::make_check_document",
+        "report::make_error_value",
+        "report::make_not_read_list",
+        "report::make_optional_place_value",
+        "report::make_show_document",
+        "report::make_show_error_document",
+        "report::make_text_value",
+    ),
+    "asking_machine": (
+        "ask::explain_user_answer",
+        "ask::list_rights_with_places",
+        "ask::list_users_who_may_run",
+        "list::append_listed_command",
+        "list::append_place_on_walk_line",
+        "list::append_runas_name",
+        "match::find_answer_in_specs",
+        "match::find_specs_for_command",
+        "match::list_specs_with_lines",
+        "undecided::list_undecided_members",
+    ),
+}
 
 
 def note_public_calls(tally):
     """Notes the public calls that take memory and that nothing here asks, and what is asked here that is none."""
     asked = {name.partition(" ")[0] for name in QUESTIONS} | set(CHANGING.values())
     tally.note("calls by which others are met", difference("asked", set(), set(INNER.values()) - set(QUESTIONS) - asked))
-    public, known = list(public_calls()), asked | {*INNER, *BY_PROGRAM}
+    public, known = list(public_calls()), asked | {*INNER, *itertools.chain(*BY_PROGRAM.values())}
     tally.note("public calls that take memory", difference("not asked", [], sorted(set(public) - known)))
     tally.note("calls that are asked", difference("no public call", [], sorted(known - set(public))))
     tally.note("calls that are asked or met by others", difference("both", set(), asked & set(INNER)))

@@ -6,7 +6,10 @@ sessions run in order in one shell and one folder. The folder /etc/sudoers.d of
 the page is a scratch folder.
 
 DIAGNOSTICS has to list each error that the program can print: each variant of
-the fault types, with the text that FaultText.antt states for it.
+the fault types, with the text that FaultText.antt states for it. The advices of
+an item are those that scripts/diagnostics puts there: the words of the hints that
+the item names. Each hint is named, and an item names just the hints that the
+tables of explanations show below its error.
 """
 
 import glob
@@ -16,7 +19,11 @@ import shutil
 import subprocess
 import tempfile
 from collections import Counter
+from importlib.machinery import SourceFileLoader
 
+import explaining
+import explaining_edits
+import tables
 from program import run
 from tally import difference
 
@@ -248,6 +255,61 @@ def run_errors(tally):
     tally.note("manual page, order of the refusals", difference("items", order, refusals))
 
 
+# ---- the advices
+
+
+def explanations():
+    """The errors of the tables of explanations, each with the rows below it."""
+    for folder, first in ((explaining.TABLES, {"policy": 1, "files": 1}), (explaining_edits.TABLES, {"edit": 2, "files": 2, "input": 1})):
+        for path in sorted(glob.glob(os.path.join(folder, "*.table"))):
+            for group in tables.groups_of(path):
+                error, *rows = [tables.text_of(row).decode(errors="replace") for _, row in group.rows[first[group.words[0]] :]]
+                yield error, rows
+    for row in explaining_edits.ROWS:
+        yield row[-2], row[-1].splitlines()
+
+
+def is_item_of(item, error):
+    """Whether an error has the form of an item, with or without the name of a file before it."""
+    form = re.sub(r"\b(?:FILE|NAME)\b", ".+", re.sub(r"\b(?:LINE|COL|N)\b", r"\\d+", re.escape(item).replace(r"\ ", " ")))
+    return re.fullmatch(rf"(?:.+: )?{form}", error, re.S) is not None
+
+
+def shown_advices(items, known):
+    """The pairs of an item and a hint that the tables show. A line that does not parse has the item of its cause."""
+    pairs = set()
+    for error, rows in explanations():
+        error = re.sub(r"^edit \d+: NotPolicy: ", "", error)
+        error, is_syntax = re.sub(r"^.*: syntax error: ", "", error), ": syntax error: " in error
+        for row in rows:
+            _, is_help, words = row.partition(explaining.HELP.decode())
+            fitting = [name for name, (text, is_edit) in known.items() if is_help and is_edit != is_syntax and f"{words} ".startswith(f"{text} ")]
+            if fitting:
+                name = max(fitting, key=lambda name: len(known[name][0]))
+                pairs |= {(item, name) for item in items if is_item_of(item, error)}
+    return pairs
+
+
+def run_advices(tally):
+    """The page has the advices of its items, and names each hint where the tables show it."""
+    script = os.path.join(TOP, "scripts", "diagnostics")
+    module = SourceFileLoader("diagnostics", script).load_module()
+    tally.note("manual page, advices", difference("page", module.page(), read(PAGE)))
+    words, edits = module.words_of_hints(), module.names_of_hints(*module.HINTS[1])
+    known = {name: (text, name in edits) for name, text in words.items()}
+    listed, item = set(), None
+    for line in section("DIAGNOSTICS"):
+        if line.startswith(".It "):
+            item = line[len(".It ") :].replace('"', "")
+        elif line.startswith(module.HEAD):
+            listed |= {(item, name) for name in line[len(module.HEAD) :].split()}
+    problems = [f"no item names {name}" for name in known if name not in {name for _, name in listed}]
+    shown = shown_advices({item for item, _ in listed}, known)
+    problems += [f"{item!r} does not name {name}, which a table shows" for item, name in sorted(shown - listed)]
+    problems += [f"{item!r} names {name}, which no table shows" for item, name in sorted(listed - shown)]
+    tally.note("manual page, hints", problems)
+
+
 # ---- the command line
 
 
@@ -285,4 +347,5 @@ def run_all(program, tally):
     run_lint(tally)
     run_examples(program, tally)
     run_errors(tally)
+    run_advices(tally)
     run_synopsis(program, tally)

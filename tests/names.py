@@ -38,7 +38,7 @@ VERBS = tuple(
     """
     add advance answer append apply ask bring bump carry change check choose close collect convert copy count cut
     decide drop edit enter expand expect explain extend filter_policy find finish flatten flip fold follow forget
-    gather get go guard inherit insert join keep leave list load look make mark_all mark_cyclic mark_reached
+    gather get go guard inherit insert join keep leave list load locate look make mark_all mark_cyclic mark_reached
     mark_used match move note open parse pass plan print prune pull push put read redo rename renew replace
     report_fault resolve rewrite run search select set settle show skip sort spend split store strip swap take tell
     turn undo visit walk write
@@ -47,7 +47,7 @@ VERBS = tuple(
 SAYING = tuple(
     """
     allows applies begins belongs brings comes continues ends fits follows has hits keeps leads leaves loses matches
-    names owns permits reads says speaks suits takes
+    names owns permits reads says sets speaks suits takes
     """.split()
 )
 WHOLE = ("new", "of", "from", "into", "len", "main")

@@ -17,15 +17,19 @@ from way_back import policy_of
 
 PEOPLE = {"passwd": "root:x:0:0:::\nbob:x:1000:1000:::\n", "group": "adm:x:4:bob\n"}
 LIST = ("list", "--passwd", "../people/passwd", "--group-file", "../people/group", "--host", "h1", "--moment", "2026010100Z", "-U", "bob")
+MACHINE = ("--passwd", "../people/passwd", "--group-file", "../people/group", "--host", "h1", "--moment", "2026010100Z", "--policy")
 ARGUMENT = "a" * 65_536
 
 # The words of each command before the policy and after it.
 COMMANDS = (
-    *((words, ()) for words in (("show",), ("check",), ("check", "-s"))),
+    *((words, ()) for words in (("show",), ("show", "--json"), ("check",), ("check", "-s"), ("check", "--all", "--json"))),
     *((("convert", "-f", form, *more), ()) for form in ("sudoers", "json") for more in ((), ("-e",))),
     *((("convert", "-f", "sudoers", *more, "-m", "user=bob,host=h1"), ()) for more in ((), ("-e", "-p"))),
     *((LIST, words) for words in ((), ("/bin/a",), ("/a", ARGUMENT))),
     ((*LIST, "-u", "root", "-g", "adm", "--why"), ("/a", *["x"] * 10_000)),
+    *((("who", "--denied", *MACHINE), words) for words in (("/bin/a",), ("/a", ARGUMENT))),
+    *((("what", *more, *MACHINE), ("bob",)) for more in ((), ("-e",))),
+    (("why", "-u", "root", "-g", "adm", *MACHINE), ("bob", "/a", *["x"] * 10_000)),
 )
 
 # The edits of each policy, with the words of `edit`; and those of a policy with aliases of a kind.
@@ -110,7 +114,7 @@ def note_input(programs, folder, name, files, edits, tally):
     for words, stdin in runs_of(files, edits):
         wanted, came = (run(program, words, stdin, folder=folder) for program in programs)
         problems = Wanted(wanted.stdout, wanted.stderr, wanted.status).problems(came)
-        problems += difference("an exit status, and no signal", True, came.status in (0, 1))
+        problems += difference("an exit status, and no signal", True, came.status in (0, 1, 3))
         tally.note(f"stack: {name}, {' '.join(words)[:120]}", problems)
 
 

@@ -56,7 +56,21 @@ SHOWN = (
     ("a_listing", HOSTILE, f"{ASKED} bob main", b"bob on h:\n    (root) /bin/a\\x1b[2J\n    (root) /bin/a\\x7f\n", 0),
     ("a_reason", HOSTILE, f"{ASKED} bob --why main /bin/a\x7f", b"main:1:23: allowed by: (root) /bin/a\\x7f\n", 0),
     ("names_of_files", {"main": "@includedir d\n", "d/\x1bx": "# a\n"}, "show main", b"file 1 main\n1 include 1\nfile 2 d/\\x1bx\n1 comment 1\n", 0),
-    ("a_carriage_return", {"main": "bob\r\n"}, "edit --files main main", b"sudoers_tool: script:1: BadWord\n", 1),
+    (
+        "a_carriage_return",
+        {"main": "bob\r\n"},
+        "edit --files main main",
+        b"sudoers_tool: script:1: BadWord\n --> script:1:4\n  |\n1 | bob\n  |    ^\n  = help: remove the carriage return at the end of the line\n",
+        1,
+    ),
+    (
+        "names_of_members",
+        {"s": "drop cmnd A 3\n", "main": "Cmnd_Alias A = /bin/a\x1b[2J, /bin/\x7f\n"},
+        "edit --files s main",
+        b"sudoers_tool: edit 1: NoPlace\n --> script:1:13\n  |\n1 | drop cmnd A 3\n  |             ^ 2 members: /bin/a\\x1b[2J, /bin/\\x7f\n"
+        b"  = help: write a number from 1 to 2\n",
+        1,
+    ),
     ("edited_carriage_returns", {"s": "", "main": "# a\r\n"}, "edit --files s main", b"%% 5 main\n# a\\x0d\n", 0),
     (
         "a_name_off_the_walk",
@@ -80,7 +94,7 @@ ROWS = (
     ("policy", ARGUMENTS, "stdout", "convert -f sudoers main", 0),
     ("edited_files", {"s": "", **MANY, "main": "@includedir d\n# \x1b[0m\r\n", f"d/{NAME}": Link("none")}, "stdout", "edit --files s main", 0),
     ("error", {"main": QUOTED}, "stderr", "show --plain main", 1),
-    ("error_with_a_name", MANY, "stderr", "edit --files main main", 1),
+    ("error_with_a_name", MANY, "stderr", "edit --plain --files main main", 1),
     ("name_off_the_walk", {"s": "", "main": "# a\n"}, "stderr", ["edit", "--files", "s", "--also", LINE, "main"], 0),
     ("wrong_folder", {}, "stderr", ["check", "--root", f"none{NAME}", "main"], 2),
     ("wrong_word", {}, "stderr", ["check", f"--{LINE}"], 2),
@@ -107,13 +121,13 @@ def read_all(device):
         parts.append(part)
 
 
-def run_on_terminal(program, words, folder, stream):
+def run_on_terminal(program, words, folder, stream, stdin=subprocess.DEVNULL):
     """What the program writes if one of its streams is a terminal, which changes no byte."""
     device, other = pty.openpty()
     tty.setraw(other)
     streams = {"stdout": subprocess.PIPE, "stderr": subprocess.PIPE, stream: other}
     try:
-        with subprocess.Popen([program, *words], stdin=subprocess.DEVNULL, env={}, cwd=folder, **streams) as child:
+        with subprocess.Popen([program, *words], stdin=stdin, env={}, cwd=folder, **streams) as child:
             os.close(other)
             shown = read_all(device)
             texts = dict(zip(("stdout", "stderr"), child.communicate(timeout=SECONDS)))

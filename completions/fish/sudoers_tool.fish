@@ -14,15 +14,16 @@ function __sudoers_tool_plain_words
             set no_options yes
         else if test -z "$no_options"; and string match --quiet -- '-?*' $word
             # These options take the next word.
-            contains -- "$plain[1]" check convert edit list show; and contains -- $word --root --error-status; and set option $word
+            contains -- "$plain[1]" check convert edit list show what who why; and contains -- $word --root --error-status; and set option $word
             contains -- convert $plain; and contains -- $word -f --form -m --match; and set option $word
             contains -- list $plain; and contains -- $word -U --other-user -u --user -g --group; and set option $word
             contains -- edit $plain; and contains -- $word --also --files --undo --redo; and set option $word
-            contains -- list $plain; and contains -- $word --passwd --group-file --host --moment --interfaces; and set option $word
+            contains -- "$plain[1]" list what who why; and contains -- $word --passwd --group-file --host --moment --interfaces --policy; and set option $word
+            contains -- "$plain[1]" who why; and contains -- $word -u --user -g --group; and set option $word
         else
             set -a plain $word
-            # What comes after the command of list belongs to it.
-            test "$plain[1]" = list; and test (count $plain) -eq 3; and set no_options yes
+            # What comes after the command that list, who or why asks about belongs to it.
+            contains -- "$plain[1]:"(count $plain) list:3 who:2 why:3; and set no_options yes
         end
     end
     string join -- \n $plain
@@ -47,10 +48,30 @@ function __sudoers_tool_option_of_list
     test (count $plain) -ge 1; and test (count $plain) -le 2; and test $plain[1] = list
 end
 
+# Succeeds if the next word is the command that who or why asks about, or a word after it.
+function __sudoers_tool_word_of_question
+    set -l plain (__sudoers_tool_plain_words); or return 1
+    test (count $plain) -ge 1; and test $plain[1] = who; and return 0
+    test (count $plain) -ge 2; and test $plain[1] = why
+end
+
+# Succeeds if the command line has one of these commands, which ask the machine, and the next word may be an option, or the value of one.
+function __sudoers_tool_option_of
+    set -l plain (__sudoers_tool_plain_words)
+    test (count $plain) -ge 1; and contains -- $plain[1] $argv; or return 1
+    test $plain[1] = what; or test (count $plain) -eq 1; or test $plain[1]:(count $plain) = why:2
+end
+
 # Succeeds if the next word may ask for help.
 function __sudoers_tool_help
     set -l plain (__sudoers_tool_plain_words)
-    test (count $plain) -lt 3; or test $plain[1] != list
+    test (count $plain) -lt 1; and return 0
+    switch $plain[1]
+        case list why
+            test (count $plain) -lt 3
+        case who
+            test (count $plain) -lt 2
+    end
 end
 
 # Prints what the last pair of a filter may be: a key, or a user or a group after its key.
@@ -83,9 +104,13 @@ complete -c sudoers_tool -n __fish_use_subcommand -a edit -d 'Apply an edit scri
 complete -c sudoers_tool -n __fish_use_subcommand -a help -d 'Print help'
 complete -c sudoers_tool -n __fish_use_subcommand -a list -d 'Print what a user may run on a host, or whether a command is allowed'
 complete -c sudoers_tool -n __fish_use_subcommand -a show -d 'Print the lines of a policy'
+complete -c sudoers_tool -n __fish_use_subcommand -a what -d 'Print what a user may run, with the places of the rules, and the Defaults that hold of him'
+complete -c sudoers_tool -n __fish_use_subcommand -a who -d 'Print who may run a command, with the rule that says so'
+complete -c sudoers_tool -n __fish_use_subcommand -a why -d 'Print whether a user may run a command, and the rule that says so'
 complete -c sudoers_tool -n '__fish_seen_subcommand_from check' -s q -d 'Print no report; only set the exit status'
 complete -c sudoers_tool -n '__fish_seen_subcommand_from check' -s s -d 'Treat undefined and cyclic aliases as errors'
 complete -c sudoers_tool -n '__fish_seen_subcommand_from check' -l all -d 'Print the first error of each line of all files'
+complete -c sudoers_tool -n '__fish_seen_subcommand_from check show' -l json -d 'Print one JSON document, also for an error'
 complete -c sudoers_tool -n '__fish_seen_subcommand_from check' -l skipped -d 'List the folders and the files in included folders that are not read'
 complete -c sudoers_tool -n '__fish_seen_subcommand_from convert' -s e -l expand-aliases -d 'Replace aliases by their members'
 complete -c sudoers_tool -n '__fish_seen_subcommand_from convert' -s f -l form -x -a 'json sudoers' -d 'Form of the output: sudoers or json'
@@ -108,10 +133,25 @@ complete -c sudoers_tool -n '__fish_seen_subcommand_from check convert edit show
 complete -c sudoers_tool -n __sudoers_tool_option_of_list -l root -x -a '(__fish_complete_directories)' -d 'Folder that is the root for the policy and the files that it includes'
 complete -c sudoers_tool -n '__fish_seen_subcommand_from check convert edit show' -l error-status -x -d 'Exit status of an error'
 complete -c sudoers_tool -n __sudoers_tool_option_of_list -l error-status -x -d 'Exit status of an error'
-complete -c sudoers_tool -n '__fish_seen_subcommand_from check convert show' -l explain -d 'Explain an error, also where standard error is no terminal'
+complete -c sudoers_tool -n '__fish_seen_subcommand_from check convert edit show' -l explain -d 'Explain an error, also where standard error is no terminal'
 complete -c sudoers_tool -n __sudoers_tool_option_of_list -l explain -d 'Explain an error, also where standard error is no terminal'
-complete -c sudoers_tool -n '__fish_seen_subcommand_from check convert show' -l plain -d 'Print an error alone, also on a terminal'
+complete -c sudoers_tool -n '__fish_seen_subcommand_from check convert edit show' -l plain -d 'Print an error alone, also on a terminal'
 complete -c sudoers_tool -n __sudoers_tool_option_of_list -l plain -d 'Print an error alone, also on a terminal'
 complete -c sudoers_tool -n '__sudoers_tool_argument_of check convert edit list show' -F
+complete -c sudoers_tool -n '__sudoers_tool_option_of who why' -s u -l user -x -a '(__fish_complete_users)' -d 'User as whom it would run'
+complete -c sudoers_tool -n '__sudoers_tool_option_of who why' -s g -l group -x -a '(__fish_complete_groups)' -d 'Group as which it would run'
+complete -c sudoers_tool -n '__sudoers_tool_option_of who' -l denied -d 'Print also the users whom a rule denies'
+complete -c sudoers_tool -n '__sudoers_tool_option_of what' -s e -l expand-aliases -d 'Replace aliases by their members'
+complete -c sudoers_tool -n '__sudoers_tool_option_of what who why' -l policy -r -F -d 'Policy file; without it /etc/sudoers'
+complete -c sudoers_tool -n '__sudoers_tool_option_of what who why' -l passwd -r -F -d 'File of users; without it /etc/passwd'
+complete -c sudoers_tool -n '__sudoers_tool_option_of what who why' -l group-file -r -F -d 'File of groups; without it /etc/group'
+complete -c sudoers_tool -n '__sudoers_tool_option_of what who why' -l host -x -d 'Long name of the host; without it that in /etc/hostname'
+complete -c sudoers_tool -n '__sudoers_tool_option_of what who why' -l moment -x -d 'Moment in UTC, as 20260101120000Z; without it now'
+complete -c sudoers_tool -n '__sudoers_tool_option_of what who why' -l interfaces -x -d 'Addresses of the host, as 10.1.2.9/24'
+complete -c sudoers_tool -n '__sudoers_tool_option_of what who why' -l root -x -a '(__fish_complete_directories)' -d 'Folder that is the root for the policy and for the files of the machine'
+complete -c sudoers_tool -n '__sudoers_tool_option_of what who why' -l explain -d 'Explain an error, also where standard error is no terminal'
+complete -c sudoers_tool -n '__sudoers_tool_option_of what who why' -l plain -d 'Print an error alone, also on a terminal'
 complete -c sudoers_tool -n __sudoers_tool_word_of_list -F
-complete -c sudoers_tool -n '__sudoers_tool_argument_of help' -a 'check convert edit list show'
+complete -c sudoers_tool -n __sudoers_tool_word_of_question -F
+complete -c sudoers_tool -n '__sudoers_tool_argument_of what why' -a '(__fish_complete_users)'
+complete -c sudoers_tool -n '__sudoers_tool_argument_of help' -a 'check convert edit list show what who why'

@@ -59,7 +59,7 @@ pub enum ExpectedPiece {
     Comment,
 }
 
-/// All possible that are tried, in the order in which they are told.
+/// All kinds of pieces, in the order in which they are printed.
 pub const EXPECTED_PIECES: [ExpectedPiece; 23] = [
     ExpectedPiece::Name,
     ExpectedPiece::Number,

@@ -39,6 +39,14 @@ file_row_column_text policy line text start =
     ++ codes ":" ++ decimal (physical_row_of_walk_line policy line + lf_count (take start text))
     ++ codes ":" ++ decimal (column_behind (take start text))
 
+abbrev pub place_text_on_optional_line : LoadedPolicy → ℕ → ℕ → Option Line → List ℕ
+place_text_on_optional_line policy number start None = []
+place_text_on_optional_line policy number start (Some line) = file_row_column_text policy number line.text start
+
+-- the place of a byte of the walk; nothing where the walk has no such line
+abbrev pub place_text_on_walk_line : LoadedPolicy → ℕ → ℕ → List ℕ
+place_text_on_walk_line policy number start = place_text_on_optional_line policy number start (slice_get policy.walk.lines number)
+
 abbrev pub allowed_or_denied_words : Bool → List ℕ
 allowed_or_denied_words true = codes ": allowed by: "
 allowed_or_denied_words false = codes ": denied by: "

@@ -3,9 +3,9 @@
 ghost use Rattle.std.specs.Prelude.{◌≡◌, ◌++◌, slice_get, Some, OnOk};
 ghost use Rattle.sudoers_tree.specs.Line.{line_of_view};
 ghost use Rattle.sudoers_tree.specs.Walk.{spot_of_walk_line};
-ghost use Rattle.sudoers_list.specs.Reason.{file_row_column_text};
+ghost use Rattle.sudoers_list.specs.Reason.{file_row_column_text, place_text_on_walk_line};
 
-use crate::deciding_rule::NumberedLine;
+use crate::deciding_rule::{NumberedLine, walk_line_at};
 use std::alloc::{AllocError, Global};
 use sudoers_text::append_decimal_number;
 use sudoers_tree::{Policy, WalkLineSpot, column_behind, lf_count};
@@ -49,4 +49,25 @@ pub fn append_byte_place(
     append_decimal_number(alloc, out, spot.row + lf_count(before))?;
     out.extend_from_slice(b":")?;
     append_decimal_number(alloc, out, column_behind(before))
+}
+
+/// Appends the place of a byte of the walk: of the byte `start`, from 0, of the line with the number `number`, from 0. The place is a
+/// file, a physical line there and a column. Appends nothing if the walk has no such line.
+///
+/// # Errors
+///
+/// Memory ran out.
+pub fn append_place_on_walk_line(
+    alloc: Global,
+    out: &mut Vec<u8>,
+    policy: &Policy,
+    number: usize,
+    start: usize,
+) -> Result<(), AllocError>
+    ensures { OnOk result (out.new.items ≡ out.old.items ++ place_text_on_walk_line policy.now number start) }
+{
+    match walk_line_at(policy, number) {
+        Some(line) => append_byte_place(alloc, out, policy, &NumberedLine { number, line }, start),
+        None => Ok(()),
+    }
 }

@@ -33,7 +33,7 @@ pub struct DecidingRule<'a> {
 }
 
 /// Returns what stands on the line with the number `number` of the walk, from 0.
-fn walk_line_at<'a>(policy: &'a Policy, number: usize) -> Option<Line<'a>>
+pub fn walk_line_at<'a>(policy: &'a Policy, number: usize) -> Option<Line<'a>>
     ensures { option_map line_of_view result ≡ slice_get policy.now.walk.lines number }
 {
     let lines = policy.lines();

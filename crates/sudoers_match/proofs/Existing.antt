@@ -15,7 +15,7 @@ filter_map_element_is_of_some_element {X} {Y} f (x ∷ xs) y h = by (filter_map_
     by more (Some z) e (inl s) = (x, inl refl, e ∙ ap Some s)
     by more (Some z) e (inr h) = let w = more h in (w.0, inr w.1, w.2)
 
-node_with_user_spec_is_spec_node : (n : Node) (s : UserSpec) → user_spec_in_node n ≡ Some s → n ≡ node.Spec s.users s.groups
+pub node_with_user_spec_is_spec_node : (n : Node) (s : UserSpec) → user_spec_in_node n ≡ Some s → n ≡ node.Spec s.users s.groups
 node_with_user_spec_is_spec_node (node.Spec users groups) s e =
     let same : record { users = users; groups = groups } ≡ s = cc in
     ap (λ (x : UserSpec). node.Spec x.users x.groups) same

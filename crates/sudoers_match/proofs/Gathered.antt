@@ -24,7 +24,7 @@ rest_after_first_is_from_successor (z ∷ xs) (suc n) x ys e = rest_after_first_
 pub rest_after_first_is_from_next : {X : Type 0} (xs : List X) (n : ℕ) (x : X) (ys : List X) → drop n xs ≡ x ∷ ys → drop (n + 1) xs ≡ ys
 rest_after_first_is_from_next xs n x ys e = ap (λ m. drop m xs) (add-one n) ∙ rest_after_first_is_from_successor xs n x ys e
 
-mapped_list_has_mapped_element_at_index : {X Y : Type 0} (f : X → Y) (xs : List X) (i : ℕ) (x : X) → slice_get xs i ≡ Some x → slice_get (map f xs) i ≡ Some (f x)
+pub mapped_list_has_mapped_element_at_index : {X Y : Type 0} (f : X → Y) (xs : List X) (i : ℕ) (x : X) → slice_get xs i ≡ Some x → slice_get (map f xs) i ≡ Some (f x)
 mapped_list_has_mapped_element_at_index f [] i x e = absurd cc
 mapped_list_has_mapped_element_at_index f (y ∷ xs) zero x e = let same : y ≡ x = cc in ap (λ z. Some (f z)) same
 mapped_list_has_mapped_element_at_index f (y ∷ xs) (suc i) x e = mapped_list_has_mapped_element_at_index f xs i x e

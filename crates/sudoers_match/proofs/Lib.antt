@@ -9,6 +9,7 @@ pub mod Tagged
 pub mod Valued
 pub mod Rowed
 pub mod Founds
+pub mod ForCommands
 pub mod Existing
 pub mod Runases
 pub mod Alike

@@ -2,6 +2,7 @@
 use Rattle.sudoers_match.proofs.Common.{AreMatchingHostGroupPlacesOfSpec, HostGroupPlace, IsConcatenationOfParts, Line, List, None, Option, Some, Tables, UserSpec, Who, [], ap, append-nil, append_assoc, cons_option, drop, drop_all}
 use Rattle.sudoers_match.proofs.Common.{drop_more, get_or, host_groups_of_view, length, line_of_row, map, members_of_view, node_in_tables, node_of_view, option_map, parameters_of_view, refl, runas_defaults_in_node}
 use Rattle.sudoers_match.proofs.Common.{scope_of_view, slice_get, specs_with_line_numbers, subst, sym, user_spec_in_node, user_specs_of_lines, ℕ, ◌++◌, ◌+◌, ◌<◌, ◌∙◌, ◌∷◌, ◌≡◌, ◌≤◌}
+use Rattle.sudoers_match.proofs.Common.{runas_defaults_in_params, setting_with_scope}
 use Rattle.sudoers_grammar.specs.Node as node
 use Rattle.sudoers_line_rows.specs.declared.row_lists.RowsOfTable.{RowsOfTable}
 use Rattle.sudoers_line_rows.specs.declared.rows.MemberRow.{MemberRow}
@@ -21,7 +22,7 @@ view_other_than_spec_has_none (view.Include dir path) other = refl
 view_other_than_spec_has_none (view.Defaults scope params) other = refl
 view_other_than_spec_has_none (view.Alias kind defs) other = refl
 
-view_other_than_defaults_has_none : (n : NodeView) → ((scope : Option ScopeView) (params : RowsOfTable ParamRow) → n ≡ view.Defaults scope params → ⊥) → runas_defaults_in_node (node_of_view n) ≡ []
+pub view_other_than_defaults_has_none : (n : NodeView) → ((scope : Option ScopeView) (params : RowsOfTable ParamRow) → n ≡ view.Defaults scope params → ⊥) → runas_defaults_in_node (node_of_view n) ≡ []
 view_other_than_defaults_has_none (view.Defaults scope params) other = absurd (other scope params refl)
 view_other_than_defaults_has_none view.Blank other = refl
 view_other_than_defaults_has_none view.Comment other = refl
@@ -105,3 +106,8 @@ places_after_all_lines_are_complete t rows who policy lines shown same i s place
     (subst (λ ls. IsConcatenationOfParts (AreMatchingHostGroupPlacesOfSpec lines who) 0 (user_specs_of_lines ls) places) shown
     (subst (IsConcatenationOfParts (AreMatchingHostGroupPlacesOfSpec lines who) 0 (user_specs_of_lines (map (line_of_row t) rows))) (append-nil places)
     (so_far [] (subst (λ xs. IsConcatenationOfParts (AreMatchingHostGroupPlacesOfSpec lines who) s (user_specs_of_lines (map (line_of_row t) xs)) []) (sym (drop_all i rows end)) refl))))
+
+pub defaults_view_without_setting_has_none : (n : NodeView) (scope : Option ScopeView) (params : RowsOfTable ParamRow) → n ≡ view.Defaults scope params
+    → runas_defaults_in_params (parameters_of_view params) ≡ [] → runas_defaults_in_node (node_of_view n) ≡ []
+defaults_view_without_setting_has_none n scope params it none =
+    ap (λ m. runas_defaults_in_node (node_of_view m)) it ∙ ap (map (setting_with_scope (option_map scope_of_view scope))) none

@@ -12,19 +12,26 @@ use Rattle.sudoers_match.specs.declared.answer_of_row.SpecGroupCommandNumbers.{S
 use Rattle.sudoers_match.proofs.Gathered.{list_from_index_is_element_and_rest, rest_after_first_is_from_next}
 use Rattle.sudoers_match.proofs.Lasts.{all_append, last_then, option_map_distributes_over_option_or}
 
-abbrev hit_if_true : Bool → MemberHit → Option MemberHit
+abbrev pub hit_if_true : Bool → MemberHit → Option MemberHit
 hit_if_true t h = if t then Some h else None
 
 hit_if_true_implies_truth_and_hit : (t : Bool) (made h : MemberHit) → hit_if_true t made ≡ Some h → (t ≡ true) × (made ≡ h)
 hit_if_true_implies_truth_and_hit true made h e = (refl, let same : made ≡ h = cc in same)
 hit_if_true_implies_truth_and_hit false made h e = absurd cc
 
-no_hit_if_true_implies_false : (t : Bool) (made : MemberHit) → hit_if_true t made ≡ None → t ≡ false
+pub no_hit_if_true_implies_false : (t : Bool) (made : MemberHit) → hit_if_true t made ≡ None → t ≡ false
 no_hit_if_true_implies_false true made e = let clash : Some made ≡ None = e in cc
 no_hit_if_true_implies_false false made e = refl
 
-abbrev hit_of_signed_atom_made : SignedAtom → MemberHit
+abbrev pub hit_of_signed_atom_made : SignedAtom → MemberHit
 hit_of_signed_atom_made s = record { allow = s.allow; by_all = is_all_atom s.atom }
+
+module _ {X : Type 0} (Part : ℕ → X → List PrivilegeRow → Type 0) where
+  pub joined_all : (Q : PrivilegeRow → Type 0) → ((i : ℕ) (x : X) (rows : List PrivilegeRow) → Part i x rows → AllByRecursion Q rows)
+      → (i : ℕ) (xs : List X) (rows : List PrivilegeRow) → IsConcatenationOfParts Part i xs rows → AllByRecursion Q rows
+  joined_all Q each i [] rows j = subst (AllByRecursion Q) (sym j) tt
+  joined_all Q each i (x ∷ xs) rows j =
+      subst (AllByRecursion Q) (sym j.2) (all_append Q j.0 j.1 (each i x j.0 j.3) (joined_all Q each (suc i) xs j.1 j.4))
 
 module _ (lines : List Line) (r : Request) where
   abbrev pub No : PrivilegeRow → Type 0
@@ -43,12 +50,6 @@ module _ (lines : List Line) (r : Request) where
   -- ---- things one after another
 
   module _ {X : Type 0} (Part : ℕ → X → List PrivilegeRow → Type 0) where
-    pub joined_all : (Q : PrivilegeRow → Type 0) → ((i : ℕ) (x : X) (rows : List PrivilegeRow) → Part i x rows → AllByRecursion Q rows)
-        → (i : ℕ) (xs : List X) (rows : List PrivilegeRow) → IsConcatenationOfParts Part i xs rows → AllByRecursion Q rows
-    joined_all Q each i [] rows j = subst (AllByRecursion Q) (sym j) tt
-    joined_all Q each i (x ∷ xs) rows j =
-        subst (AllByRecursion Q) (sym j.2) (all_append Q j.0 j.1 (each i x j.0 j.3) (joined_all Q each (suc i) xs j.1 j.4))
-
     module _ (all : List X) where
       pub so_far_none : IsAnswerOfRowsSoFar Part lines r all 0 all None
       so_far_none = record { holds = λ rows j. ([], rows, refl, answers_none [] tt, j) }

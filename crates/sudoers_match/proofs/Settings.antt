@@ -8,7 +8,7 @@ use Rattle.sudoers_grammar.specs.Node as node
 use Rattle.sudoers_match.proofs.Lasts.{last_then, last_one}
 
 module _ {X : Type 0} where
-  none_last : (xs : List X) → last_item_of xs ≡ None → xs ≡ []
+  pub none_last : (xs : List X) → last_item_of xs ≡ None → xs ≡ []
   none_last [] e = refl
   none_last (x ∷ xs) e = absurd (by (last_item_of xs) e)
     where
@@ -28,9 +28,17 @@ module _ {X : Type 0} where
           let w = more x (is ∙ ap Some same) in
           (y ∷ w.0, ap (λ zs. y ∷ zs) w.1)
 
-map_of_appended_is_appended_maps : {X Y : Type 0} (f : X → Y) (xs ys : List X) → map f (xs ++ ys) ≡ map f xs ++ map f ys
+pub map_of_appended_is_appended_maps : {X Y : Type 0} (f : X → Y) (xs ys : List X) → map f (xs ++ ys) ≡ map f xs ++ map f ys
 map_of_appended_is_appended_maps f [] ys = refl
 map_of_appended_is_appended_maps f (x ∷ xs) ys = ap (λ zs. f x ∷ zs) (map_of_appended_is_appended_maps f xs ys)
+
+pub defaults_of_one_more_line : (all : List Line) (i : ℕ) (line : Line) → slice_get all i ≡ Some line → runas_defaults_of_lines (take (i + 1) all) ≡ runas_defaults_of_lines (take i all) ++ runas_defaults_in_node line.node
+defaults_of_one_more_line all i line at =
+    let within = slice_get_within all i line at in
+    let same : get_or all i line ≡ line = let two : Some (get_or all i line) ≡ Some line = sym (slice_get-get_or all i line within) ∙ at in cc in
+    ap runas_defaults_of_lines (take_more all i line within ∙ ap (λ l. take i all ++ l ∷ []) same)
+    ∙ flat_map-append (λ (l : Line). runas_defaults_in_node l.node) (take i all) (line ∷ [])
+    ∙ ap (λ ds. runas_defaults_of_lines (take i all) ++ ds) (append-nil (runas_defaults_in_node line.node))
 
 module _ (lines : List Line) (who : Who) where
   abbrev Of : Option Scope × List ℕ → Type 0
@@ -57,19 +65,11 @@ module _ (lines : List Line) (who : Who) where
     none_so_far name e = record { last = None; is_last = tt; says = e }
 
     module _ (i : ℕ) (line : Line) (at : slice_get all i ≡ Some line) where
-      one_more : runas_defaults_of_lines (take (i + 1) all) ≡ runas_defaults_of_lines (take i all) ++ runas_defaults_in_node line.node
-      one_more =
-          let within = slice_get_within all i line at in
-          let same : get_or all i line ≡ line = let two : Some (get_or all i line) ≡ Some line = sym (slice_get-get_or all i line within) ∙ at in cc in
-          ap runas_defaults_of_lines (take_more all i line within ∙ ap (λ l. take i all ++ l ∷ []) same)
-          ∙ flat_map-append (λ (l : Line). runas_defaults_in_node l.node) (take i all) (line ∷ [])
-          ∙ ap (λ ds. runas_defaults_of_lines (take i all) ++ ds) (append-nil (runas_defaults_in_node line.node))
-
       line_more : (name new : List ℕ) (latest : Option (Option Scope × List ℕ)) → IsRunasDefaultOfLinesBefore lines who all i name → IsLastItemWith Of (runas_defaults_in_node line.node) latest
           → ((last : Option (Option Scope × List ℕ)) → name ≡ runas_name_or_root last → new ≡ runas_name_or_root (option_or latest last)) → IsRunasDefaultOfLinesBefore lines who all (i + 1) new
       line_more name new latest s l e = record {
         last = option_or latest s.last;
-        is_last = subst (λ ds. IsLastItemWith Of ds (option_or latest s.last)) (sym one_more) (last_then Of (runas_defaults_of_lines (take i all)) (runas_defaults_in_node line.node) s.last latest s.is_last l);
+        is_last = subst (λ ds. IsLastItemWith Of ds (option_or latest s.last)) (sym (defaults_of_one_more_line all i line at)) (last_then Of (runas_defaults_of_lines (take i all)) (runas_defaults_in_node line.node) s.last latest s.is_last l);
         says = e s.last s.says;
       }
 

@@ -11,6 +11,7 @@ pub mod Runas
 pub mod Rows
 pub mod Answer
 pub mod Found
+pub mod ForCommand
 pub mod Alike
 pub mod Beside
 pub mod internal

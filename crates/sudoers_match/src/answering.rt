@@ -10,7 +10,8 @@ ghost use Rattle.sudoers_check.specs.Chains.{HasCyclicAliasReachedFromSpecOrDefa
 ghost use Rattle.sudoers_match_list.specs.declared.verdict.AskFault.TheVariants.{Cycle, TooLong, NoMemory};
 ghost use Rattle.sudoers_match.specs.Allows.{ListAllows};
 ghost use Rattle.sudoers_match.specs.Default.{IsRunasDefault};
-ghost use Rattle.sudoers_match.specs.Answer.{IsAnswerOfRows, IsAnswerToRequest, answer_of_view, joined_arguments_limit, words_joined_with_spaces};
+ghost use Rattle.sudoers_match.specs.Answer.{IsAnswerOfRows, IsAnswerToRequest, answer_of_view, command_with_joined_arguments_of_request, joined_arguments_limit, words_joined_with_spaces};
+ghost use Rattle.sudoers_match.specs.ForCommand.{AreSpecsForCommand};
 ghost use Rattle.sudoers_match.specs.Found.{HasMemberAndSettingsFromLines, answer_without_member_and_settings};
 ghost use Rattle.sudoers_match.specs.Heads.{AccumulatedCommandSettings as HeadOf, empty_command_settings};
 ghost use Rattle.sudoers_match.specs.IsHead.{HoldsCommandSettings};
@@ -29,12 +30,13 @@ use crate::matching_host_groups::HostGroupPlace;
 use crate::request_verdicts::{RequestContext, RequestVerdictCache};
 use crate::request_words::{join_words, make_command_with_joined_arguments};
 use crate::runas_default_user::find_runas_default_for;
+use crate::specs_for_command::{SpecOnLine, list_specs_with_lines};
 use crate::time_bounds::is_within_time_bounds;
 use std::alloc::{AllocError, Global};
 use sudoers_line_rows::HostGroup;
 use sudoers_match_list::{AcyclicWalk, AskFault, CommandListKind, HostListKind, UserListKind};
 use sudoers_match_member::Request;
-use sudoers_tree::{HostGroupRow, Kind, MemberRow, Node, Policy, RowsOfTable};
+use sudoers_tree::{HostGroupRow, Kind, MemberRow, Policy, RowsOfTable};
 
 /// The greatest length of the arguments of a request, joined by single spaces.
 const ARGUMENT_LIMIT: usize = 65_536;
@@ -81,11 +83,35 @@ pub fn find_answer<'a>(
     ensures short { IfOk result (λ _. length (words_joined_with_spaces request.now.args) ≤ joined_arguments_limit) }
     ensures fault { IfErr result (λ fault. (fault ≡ NoMemory) ⊎ ((fault ≡ TooLong) × (joined_arguments_limit < length (words_joined_with_spaces request.now.args)))) }
 {
+    let specs = list_specs_with_lines(alloc, policy)?;
+    find_answer_in_specs(alloc, policy, specs.as_slice(), request, default)
+}
+
+/// Returns the row that [`find_answer`] returns for `request`. `specs` are the user specifications of `policy`, and which of them may answer
+/// the command of `request` on its host.
+///
+/// # Errors
+///
+/// `TooLong`: the arguments, joined by single spaces, are longer than 65,536 bytes. `NoMemory`: memory ran out.
+pub fn find_answer_in_specs<'a>(
+    alloc: Global,
+    policy: &AcyclicWalk<'a>,
+    specs: &[SpecOnLine<'a>],
+    request: &Request,
+    default: &'a [u8],
+) -> Result<Option<AnswerWithMemberAndSettings<'a>>, AskFault>
+    requires specs { AreSpecsForCommand policy.now request.now.who (command_with_joined_arguments_of_request request.now) specs.now }
+    requires default { IsRunasDefault policy.now request.now.who default.now }
+    ensures answer { IfOk result (λ found. IsAnswerToRequest policy.now request.now (option_map answer_without_member_and_settings found)) }
+    ensures found { IfOk result (λ found. IfSome found (HasMemberAndSettingsFromLines policy.now)) }
+    ensures short { IfOk result (λ _. length (words_joined_with_spaces request.now.args) ≤ joined_arguments_limit) }
+    ensures fault { IfErr result (λ fault. (fault ≡ NoMemory) ⊎ ((fault ≡ TooLong) × (joined_arguments_limit < length (words_joined_with_spaces request.now.args)))) }
+{
     let args = join_words(alloc, request.args.as_slice())?;
     if args.len() > ARGUMENT_LIMIT {
         return Err(AskFault::TooLong);
     }
-    Ok(find_answer_without_args_limit(alloc, policy, request, default)?)
+    Ok(find_row_in_specs(alloc, policy, specs, request, default)?)
 }
 
 /// Returns the row that [`find_answer`] returns for `request`, however long its arguments are.
@@ -103,6 +129,23 @@ pub fn find_answer_without_args_limit<'a>(
     ensures answer { IfOk result (λ found. IsAnswerToRequest policy.now request.now (option_map answer_without_member_and_settings found)) }
     ensures found { IfOk result (λ found. IfSome found (HasMemberAndSettingsFromLines policy.now)) }
 {
+    let specs = list_specs_with_lines(alloc, policy)?;
+    find_row_in_specs(alloc, policy, specs.as_slice(), request, default)
+}
+
+/// Returns the row that [`find_answer_in_specs`] returns, however long the arguments of `request` are.
+fn find_row_in_specs<'a>(
+    alloc: Global,
+    policy: &AcyclicWalk<'a>,
+    specs: &[SpecOnLine<'a>],
+    request: &Request,
+    default: &'a [u8],
+) -> Result<Option<AnswerWithMemberAndSettings<'a>>, AllocError>
+    requires specs { AreSpecsForCommand policy.now request.now.who (command_with_joined_arguments_of_request request.now) specs.now }
+    requires default { IsRunasDefault policy.now request.now.who default.now }
+    ensures answer { IfOk result (λ found. IsAnswerToRequest policy.now request.now (option_map answer_without_member_and_settings found)) }
+    ensures found { IfOk result (λ found. IfSome found (HasMemberAndSettingsFromLines policy.now)) }
+{
     let command = make_command_with_joined_arguments(alloc, request)?;
     let mut question = RequestVerdictCache::new(alloc, policy, request, default)?;
     let asked = RequestContext {
@@ -110,28 +153,28 @@ pub fn find_answer_without_args_limit<'a>(
         request,
         command: &command,
     };
-    find_last_fitting_row(&mut question, &asked)
+    find_last_fitting_row(&mut question, &asked, specs)
 }
 
-/// Returns the last row that fits.
+/// Returns the last row of `specs` that fits. They are the user specifications of the policy that is asked.
 fn find_last_fitting_row<'a>(
     question: &mut RequestVerdictCache<'a>,
     asked: &RequestContext<'a, '_>,
+    specs: &[SpecOnLine<'a>],
 ) -> Result<Option<AnswerWithMemberAndSettings<'a>>, AllocError>
-    requires { IsValidRequestCache asked.now.policy.now asked.now.request.now question.old }
+    requires question { IsValidRequestCache asked.now.policy.now asked.now.request.now question.old }
+    requires specs { AreSpecsForCommand asked.now.policy.now asked.now.request.now.who (command_with_joined_arguments_of_request asked.now.request.now) specs.now }
     ensures answer { IfOk result (λ found. IsAnswerToRequest asked.now.policy.now asked.now.request.now (option_map answer_without_member_and_settings found)) }
     ensures found { IfOk result (λ found. IfSome found (HasMemberAndSettingsFromLines asked.now.policy.now)) }
 {
     // laws
     asked.policy.is_acyclic();
     let mut latest = None;
-    let mut spec = 0;
-    let lines = asked.policy.lines();
-    for (line, row) in lines.rows.iter().enumerate() {
-        if let Node::Spec { users, groups } = lines.tables.node_of_row(&row.node) {
-            let found = find_last_fit_in_spec(question, asked, line, spec, &users, &groups)?;
+    for (number, spec) in specs.iter().enumerate() {
+        if spec.matters {
+            let (users, groups) = (&spec.users, &spec.groups);
+            let found = find_last_fit_in_spec(question, asked, spec.line, number, users, groups)?;
             latest = found.or(latest);
-            spec += 1;
         }
     }
     Ok(latest)

@@ -1,16 +1,16 @@
 //! As whom a command runs where nothing else is said.
 
-ghost use Rattle.std.specs.Prelude.{◌≡◌, ◌⊎◌, ℕ, List, IfOk, IfErr};
+ghost use Rattle.std.specs.Prelude.{◌≡◌, ◌⊎◌, [], false, ℕ, List, IfOk, IfErr};
 ghost use Rattle.std.specs.Option.{option_map};
 ghost use Rattle.std.specs.Borrow.{Bor};
 ghost use Rattle.sudoers_grammar.specs.declared.node.Kind.TheVariants.{User as OfUsers, Host as OfHosts};
-ghost use Rattle.sudoers_line_rows.specs.View.{parameter_of_view, parameters_of_view, scope_of_view};
+ghost use Rattle.sudoers_line_rows.specs.View.{node_of_view, parameter_of_view, parameters_of_view, scope_of_view};
 ghost use Rattle.sudoers_match_member.specs.Hits.{is_user_atom_match, is_host_atom_match};
 ghost use Rattle.sudoers_check.specs.Chains.{HasCyclicAliasReachedFromSpecOrDefaults};
 ghost use Rattle.sudoers_match_list.specs.declared.verdict.AskFault.TheVariants.{Cycle, NoMemory};
 ghost use Rattle.sudoers_match_list.specs.Search.{IsValidVerdictCache};
 ghost use Rattle.sudoers_match.specs.Last.{last_item_of};
-ghost use Rattle.sudoers_match.specs.Default.{IsRunasDefault, runas_default_in_param, runas_defaults_in_params};
+ghost use Rattle.sudoers_match.specs.Default.{IsRunasDefault, runas_default_in_param, runas_defaults_in_node, runas_defaults_in_params, runas_defaults_of_lines};
 ghost use Rattle.sudoers_match.specs.internal.Asked.{DecidesWhetherScopeApplies, IsLastRunasDefaultOfLine};
 ghost use Rattle.sudoers_match.specs.internal.Straight.{ScopeLeadsToNoCycle};
 
@@ -66,6 +66,29 @@ pub fn runas_default<'a>(alloc: Global, policy: &'a Policy, who: &Who) -> Result
 {
     let policy = AcyclicWalk::new(alloc, policy.walk())?;
     Ok(find_runas_default_for(alloc, &policy, who)?)
+}
+
+/// Returns whether a Defaults line of `policy` sets runas_default, for whomever.
+pub fn has_runas_default(policy: &AcyclicWalk<'_>) -> bool
+    ensures { result ≡ false → runas_defaults_of_lines policy.now ≡ [] }
+{
+    let lines = policy.lines();
+    for row in lines.rows {
+        if sets_runas_default(&lines.tables.node_of_row(&row.node)) {
+            return true;
+        }
+    }
+    false
+}
+
+/// Returns whether `node` is a Defaults line that sets runas_default.
+fn sets_runas_default(node: &Node<'_>) -> bool
+    ensures { result ≡ false → runas_defaults_in_node (node_of_view node.now) ≡ [] }
+{
+    match node {
+        Node::Defaults { params, .. } => find_last_runas_default_in_params(params).is_some(),
+        _ => false,
+    }
 }
 
 /// Returns the name of the user as whom a command runs for `who` where nothing else is said, as [`runas_default`] does.

@@ -3,7 +3,8 @@
 use crate::also_option::{
     ALSO, add_also_files, make_also_option, print_files_not_included, trouble_of_gather_fault,
 };
-use crate::explaining::make_error_status_option;
+use crate::explaining::add_error_options;
+use crate::explaining_edits::EditExplanation;
 use crate::file_trouble::FileTrouble;
 use crate::files::{STDIN, open_disk_files, open_named_file};
 use crate::files_within_byte_budget::FilesWithinByteBudget;
@@ -23,7 +24,7 @@ pub const EDIT: &str = "edit";
 
 /// The two forms of the command line.
 const USAGE: &str =
-    "sudoers_tool edit [--undo <N>] [--redo <N>] [--error-status <N>]\n       sudoers_tool edit [OPTIONS] --files <SCRIPT> <POLICY>";
+    "sudoers_tool edit [--undo <N>] [--redo <N>] [--explain | --plain] [--error-status <N>]\n       sudoers_tool edit [OPTIONS] --files <SCRIPT> <POLICY>";
 
 /// The option that says how many edits to take back.
 const UNDO: &str = "undo";
@@ -43,7 +44,7 @@ pub fn make_edit_subcommand<'a>(alloc: Global, top: Arg<'a>) -> Result<Command<'
         "After the script, take back up to N of its edits, the last first",
     );
     let redo = make_number_option(alloc, REDO).help("Then make up to N of these edits again");
-    Command::new(alloc, EDIT)
+    let command = Command::new(alloc, EDIT)
         .about(
             "Apply an edit script to a policy. Read SCRIPT, `%%`, POLICY on standard input; write UNDO, `%%`, POLICY. With --files, edit a policy with the files that it includes. UNDO fits that policy only. EDIT SCRIPTS of sudoers_tool(8) has the commands",
         )
@@ -52,9 +53,8 @@ pub fn make_edit_subcommand<'a>(alloc: Global, top: Arg<'a>) -> Result<Command<'
         .arg(redo)?
         .arg(make_files_option_naming_script(alloc)?)?
         .arg(make_also_option(alloc)?)?
-        .arg(top.requires_arg(SCRIPT)?)?
-        .arg(make_error_status_option(alloc))?
-        .arg(make_policy_argument(alloc)?)
+        .arg(top.requires_arg(SCRIPT)?)?;
+    add_error_options(alloc, command)?.arg(make_policy_argument(alloc)?)
 }
 
 /// Returns the option `name`, whose value is a number of edits.
@@ -110,25 +110,36 @@ fn has_empty_word(words: Option<&[&str]>) -> bool {
     }
 }
 
-/// Edits the files of the policy that `words` name, or the policy on standard input. Writes to standard output.
-pub fn edit_policy_or_stdin(rt: &HostRuntime, words: &ArgMatches<'_>) -> Result<u8, FileTrouble> {
+/// Edits the files of the policy that `words` name, or the policy on standard input. Writes to standard output. Gives `explanation` what it
+/// read, if it was not accepted.
+pub fn edit_policy_or_stdin(
+    rt: &HostRuntime,
+    words: &ArgMatches<'_>,
+    explanation: &mut EditExplanation,
+) -> Result<u8, FileTrouble> {
     let (undo, redo) = (
         number_of_option_or_zero(words, UNDO),
         number_of_option_or_zero(words, REDO),
     );
     let Some(script) = words.get_str(SCRIPT) else {
-        return Ok(apply_script_to_policy_both_from_stdin(rt, undo, redo)?);
+        return Ok(apply_script_to_policy_both_from_stdin(rt, undo, redo, explanation)?);
     };
     let script = read_script_file(rt, script)?;
     let files = gather_files_to_edit(rt, words, script.len())?;
-    let edited = make_edit_output_of_files(
+    let edited = match make_edit_output_of_files(
         rt.alloc(),
         script.as_slice(),
         EditInputShape::Bundle,
         files.as_slice(),
         undo,
         redo,
-    )?;
+    ) {
+        Ok(edited) => edited,
+        Err(fault) => {
+            explanation.explain_run(rt.alloc(), script.as_slice(), files.as_slice(), &fault);
+            return Err(FileTrouble::from(fault));
+        }
+    };
     print_files_not_included(
         rt,
         words,
@@ -155,15 +166,25 @@ fn policy_name_of_edit_words<'a>(words: &ArgMatches<'a>) -> &'a str {
 }
 
 /// Edits the policy that the standard input gives after its script, takes back up to `undo` edits and makes up to `redo` of these again.
-/// Writes to standard output.
+/// Writes to standard output. Gives `explanation` what it read, if that was not accepted.
 pub fn apply_script_to_policy_both_from_stdin(
     rt: &HostRuntime,
     undo: u32,
     redo: u32,
+    explanation: &mut EditExplanation,
 ) -> Result<u8, ToolFault> {
-    let mut reader = Counted::new(rt.stdin());
     let mut writer = Counted::new(open_standard_output(rt));
-    run_edit(rt.alloc(), &mut reader, undo, redo, &mut writer)
+    if !explanation.is_wanted() {
+        let mut reader = Counted::new(rt.stdin());
+        return run_edit(rt.alloc(), &mut reader, undo, redo, &mut writer);
+    }
+    let input = read_reader_within_input_limit(rt, rt.stdin())?;
+    let mut reader = Counted::new(input.as_slice());
+    let outcome = run_edit(rt.alloc(), &mut reader, undo, redo, &mut writer);
+    if let Err(fault) = &outcome {
+        explanation.explain_input(rt.alloc(), input.as_slice(), fault);
+    }
+    outcome
 }
 
 /// Returns the bytes of the script `script`.

@@ -1,6 +1,9 @@
 //! What is printed behind the error of a command, for people.
 
-use crate::files::{KeptDisk, words_of_error_kind};
+use crate::file_trouble::FileTrouble;
+use crate::files::{KeptDisk, STDIN, words_of_error_kind};
+use crate::json_output::is_json_asked;
+use crate::machine::{name_of_group_file, name_of_passwd_file};
 use crate::terminal::open_standard_error;
 use clap::{Arg, ArgAction, ArgMatches, Command};
 use std::alloc::{AllocError, Global};
@@ -30,7 +33,7 @@ fn make_explain_flag<'a>(alloc: Global) -> Arg<'a> {
         .long(EXPLAIN)
         .action(ArgAction::SetTrue)
         .help(
-            "After an error of the policy, print the line, what may stand there and what to do; the default on a terminal",
+            "After an error of the policy or the script, print the line, what may stand there and what to do; the default on a terminal",
         )
 }
 
@@ -43,7 +46,7 @@ fn make_plain_flag<'a>(alloc: Global) -> Arg<'a> {
 }
 
 /// Returns the option with the exit status of an error.
-pub fn make_error_status_option<'a>(alloc: Global) -> Arg<'a> {
+fn make_error_status_option<'a>(alloc: Global) -> Arg<'a> {
     Arg::new(alloc, ERROR_STATUS)
         .long(ERROR_STATUS)
         .value_name("N")
@@ -61,15 +64,25 @@ pub fn add_error_options<'a>(
     alloc: Global,
     command: Command<'a>,
 ) -> Result<Command<'a>, AllocError> {
-    command
-        .arg(make_explain_flag(alloc))?
-        .arg(make_plain_flag(alloc))?
-        .arg(make_error_status_option(alloc))
+    add_explaining_options(alloc, command)?.arg(make_error_status_option(alloc))
 }
 
-/// Returns whether errors are explained: where `words` ask for it, or where standard error is a terminal.
+/// Adds to `command` the options that say whether its errors are explained.
+pub fn add_explaining_options<'a>(
+    alloc: Global,
+    command: Command<'a>,
+) -> Result<Command<'a>, AllocError> {
+    command
+        .arg(make_explain_flag(alloc))?
+        .arg(make_plain_flag(alloc))
+}
+
+/// Returns whether errors are explained: where `words` ask for it, or where standard error is a terminal. The documents of `--json` have what
+/// an explanation says.
 pub fn are_errors_explained(rt: &HostRuntime, words: &ArgMatches<'_>) -> bool {
-    !words.get_flag(PLAIN) && (words.get_flag(EXPLAIN) || rt.stderr().is_terminal())
+    !words.get_flag(PLAIN)
+        && !is_json_asked(words)
+        && (words.get_flag(EXPLAIN) || rt.stderr().is_terminal())
 }
 
 /// Returns whether the files of a policy are read again after the command of `words`: to explain its error, or for all errors.
@@ -84,19 +97,23 @@ pub fn explain_outcome(
     words: &ArgMatches<'_>,
     root: &str,
     files: &mut KeptDisk,
-    outcome: &Result<u8, ToolFault>,
+    outcome: &Result<u8, FileTrouble>,
 ) -> Result<Vec<u8>, ToolFault> {
     if !are_errors_explained(rt, words) {
         return Ok(Vec::new(rt.alloc()));
     }
-    match outcome {
-        Ok(status) if *status == 0 || words.get_flag("quiet") || words.get_flag("all") => Ok(
-            Vec::new(rt.alloc()),
-        ),
-        Ok(_) | Err(ToolFault::Layer(LayerFault::Gather(_) | LayerFault::Load(_))) => {
+    let trouble = match outcome {
+        Ok(status) if *status == 0 || words.get_flag("quiet") || words.get_flag("all") => {
+            return Ok(Vec::new(rt.alloc()));
+        }
+        Ok(_) => return explain_policy(rt, words, root, files),
+        Err(trouble) => trouble,
+    };
+    match trouble.fault() {
+        ToolFault::Layer(LayerFault::Gather(_) | LayerFault::Load(_)) => {
             explain_policy(rt, words, root, files)
         }
-        Err(fault) => Ok(explain_fault_of_words(rt, words, fault)?),
+        fault => Ok(explain_fault_of_words(rt, words, trouble.file(), fault)?),
     }
 }
 
@@ -128,7 +145,7 @@ fn explain_policy(
 }
 
 /// Returns the lines that explain why the files of a policy cannot be gathered. The file `name` was asked for last.
-fn explain_gather_fault(
+pub fn explain_gather_fault(
     rt: &HostRuntime,
     words: &ArgMatches<'_>,
     name: &[u8],
@@ -147,7 +164,7 @@ fn explain_gather_fault(
 }
 
 /// Appends the line that says why the file `name` cannot be read: `reason`.
-fn append_reason_of_file(
+pub fn append_reason_of_file(
     alloc: Global,
     out: &mut Vec<u8>,
     name: &[u8],
@@ -159,40 +176,61 @@ fn append_reason_of_file(
     append_help(out, &[advice.as_slice()])
 }
 
-/// Returns the line with the advice for `fault`, which is no fault of the policy's files.
+/// Returns the line with the advice for `fault` of the file `file`, if it is of one. It is no fault of the policy's files.
 fn explain_fault_of_words(
     rt: &HostRuntime,
     words: &ArgMatches<'_>,
+    file: Option<&[u8]>,
     fault: &ToolFault,
 ) -> Result<Vec<u8>, AllocError> {
     let mut text = Vec::new(rt.alloc());
-    match fault {
-        ToolFault::Read => append_reason_of_people_files(rt, words, &mut text)?,
-        ToolFault::Layer(LayerFault::Who(WhoFault::NoUser)) => {
-            let mut advice = Vec::from_slice(rt.alloc(), get_word(words, "USER"))?;
-            append_second_user(words, &mut advice)?;
-            append_missing_row(&mut text, &mut advice, get_word(words, "PASSWD"))?;
+    match (file, fault) {
+        (Some(name), ToolFault::Read) => {
+            append_reason_of_file(rt.alloc(), &mut text, name, reason_of_file(rt, name))?
         }
-        ToolFault::Layer(LayerFault::Who(WhoFault::NoGroup)) => {
-            let mut advice = Vec::from_slice(rt.alloc(), get_word(words, "GROUP"))?;
-            append_missing_row(&mut text, &mut advice, get_word(words, "GROUPS"))?;
-        }
-        fault => {
-            if let Some(advice) = advice_of_fault(fault) {
-                append_help(&mut text, &[advice])?;
-            }
-        }
+        _ => append_advice_for_words(rt, words, fault, &mut text)?,
     }
     Ok(text)
 }
 
-/// Appends to `advice`, which begins with a user, whom else the question is about: the user as whom the command is to run.
+/// Appends to `text` the line with the advice for `fault` of the words `words`.
+fn append_advice_for_words(
+    rt: &HostRuntime,
+    words: &ArgMatches<'_>,
+    fault: &ToolFault,
+    text: &mut Vec<u8>,
+) -> Result<(), AllocError> {
+    match fault {
+        ToolFault::Read => append_reason_of_people_files(rt, words, text)?,
+        ToolFault::Layer(LayerFault::Who(WhoFault::NoUser)) => {
+            let mut advice = Vec::from_slice(rt.alloc(), get_word(words, "USER"))?;
+            append_second_user(words, &mut advice)?;
+            let file = name_of_passwd_file(rt.alloc(), words)?;
+            append_missing_row(text, &mut advice, file.as_bytes())?;
+        }
+        ToolFault::Layer(LayerFault::Who(WhoFault::NoGroup)) => {
+            let mut advice = Vec::from_slice(rt.alloc(), get_word(words, "GROUP"))?;
+            let file = name_of_group_file(rt.alloc(), words)?;
+            append_missing_row(text, &mut advice, file.as_bytes())?;
+        }
+        fault => {
+            if let Some(advice) = advice_of_fault(fault) {
+                append_help(text, &[advice])?;
+            }
+        }
+    }
+    Ok(())
+}
+
+/// Appends to `advice`, which begins with a user if the question names one, whom else it is about: the user as whom the command is to run.
 fn append_second_user(words: &ArgMatches<'_>, advice: &mut Vec<u8>) -> Result<(), AllocError> {
+    let between: &[u8] = if advice.is_empty() { b"" } else { b" or " };
     if let Some(target) = words.get_str("TARGET") {
-        advice.extend_from_slice(b" or ")?;
+        advice.extend_from_slice(between)?;
         advice.extend_from_slice(target.as_bytes())?;
     } else if words.get_strs("WORD").is_some() {
-        advice.extend_from_slice(b" or the user of runas_default (root without it)")?;
+        advice.extend_from_slice(between)?;
+        advice.extend_from_slice(b"the user of runas_default (root without it)")?;
     }
     Ok(())
 }
@@ -214,7 +252,7 @@ fn get_word<'a>(words: &ArgMatches<'a>, id: &str) -> &'a [u8] {
 }
 
 /// Returns the advice for `fault`; nothing if there is none.
-fn advice_of_fault(fault: &ToolFault) -> Option<&'static [u8]> {
+pub fn advice_of_fault(fault: &ToolFault) -> Option<&'static [u8]> {
     match fault {
         ToolFault::NoEnd => Some(b"the input does not end"),
         ToolFault::Layer(LayerFault::Who(WhoFault::BadAddress)) => Some(
@@ -272,12 +310,26 @@ fn append_reason_of_people_files(
     Ok(())
 }
 
+/// Returns the system's reason why the file `name` cannot be read.
+fn reason_of_file(rt: &HostRuntime, name: &[u8]) -> &'static str {
+    let Ok(name) = str::from_utf8(name) else {
+        return "its name is not UTF-8";
+    };
+    match fs::open(rt, name) {
+        Ok(_) => "it cannot be read",
+        Err(error) => words_of_error_kind(error.kind()),
+    }
+}
+
 /// Returns the system's reason why the file `name` cannot be read, below the folder that `words` name, if they name one.
-fn find_reason_of_file(
+pub fn find_reason_of_file(
     rt: &HostRuntime,
     words: &ArgMatches<'_>,
     name: &[u8],
 ) -> Result<&'static str, AllocError> {
+    if name == STDIN.as_bytes() {
+        return Ok("it cannot be read");
+    }
     let Ok(name) = str::from_utf8(name) else {
         return Ok("its name is not UTF-8");
     };

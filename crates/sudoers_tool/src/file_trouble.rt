@@ -23,6 +23,19 @@ impl FileTrouble {
         }
     }
 
+    /// Returns the error.
+    pub fn fault(&self) -> &ToolFault {
+        &self.fault
+    }
+
+    /// Returns the name of the file that the error is about, if its text does not have it.
+    pub fn file(&self) -> Option<&[u8]> {
+        match &self.file {
+            Some(name) => Some(name.as_slice()),
+            None => None,
+        }
+    }
+
     /// Returns the text of the error, with the name of the file before it.
     ///
     /// # Errors

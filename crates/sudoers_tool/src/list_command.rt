@@ -68,7 +68,7 @@ fn make_other_user_option<'a>(alloc: Global) -> Arg<'a> {
 }
 
 /// Returns the option with the interfaces of the host.
-fn make_interfaces_option<'a>(alloc: Global) -> Arg<'a> {
+pub fn make_interfaces_option<'a>(alloc: Global) -> Arg<'a> {
     Arg::new(alloc, "INTERFACES")
         .long("interfaces")
         .value_name("LIST")
@@ -78,14 +78,14 @@ fn make_interfaces_option<'a>(alloc: Global) -> Arg<'a> {
 }
 
 /// Returns the option with the user as whom a command is to run.
-fn make_target_option<'a>(alloc: Global) -> Arg<'a> {
+pub fn make_target_option<'a>(alloc: Global) -> Arg<'a> {
     Arg::new(alloc, "TARGET").short('u').long("user").help(
         "User as whom the command is to run; without it runas_default, or USER if -g is there",
     )
 }
 
 /// Returns the option with the group as which a command is to run.
-fn make_group_option<'a>(alloc: Global) -> Arg<'a> {
+pub fn make_group_option<'a>(alloc: Global) -> Arg<'a> {
     Arg::new(alloc, "GROUP")
         .short('g')
         .long("group")
@@ -102,7 +102,7 @@ fn make_why_flag<'a>(alloc: Global) -> Result<Arg<'a>, AllocError> {
 }
 
 /// Returns the argument with a command and its arguments. Each word after the command is an argument of it.
-fn make_command_argument<'a>(alloc: Global) -> Arg<'a> {
+pub fn make_command_argument<'a>(alloc: Global) -> Arg<'a> {
     Arg::new(alloc, "WORD")
         .num_args(0..)
         .trailing_var_arg(true)
@@ -131,10 +131,10 @@ impl ListQuestion {
         words: &ArgMatches<'_>,
     ) -> Result<ListQuestion, AllocError> {
         Ok(ListQuestion {
-            user: get_text_or_empty(alloc, words, "USER")?,
-            host: get_text_or_empty(alloc, words, "HOST")?,
-            moment: get_text_or_empty(alloc, words, "STAMP")?,
-            interfaces: get_text_or_empty(alloc, words, "INTERFACES")?,
+            user: make_text_or_empty(alloc, words, "USER")?,
+            host: make_text_or_empty(alloc, words, "HOST")?,
+            moment: make_text_or_empty(alloc, words, "STAMP")?,
+            interfaces: make_text_or_empty(alloc, words, "INTERFACES")?,
             target: text_of_option(alloc, words, "TARGET")?,
             group: text_of_option(alloc, words, "GROUP")?,
             command: command_words_of_matches(alloc, words)?,
@@ -159,7 +159,7 @@ impl ListQuestion {
 }
 
 /// Returns the text of an option, if it is there.
-fn text_of_option(
+pub fn text_of_option(
     alloc: Global,
     words: &ArgMatches<'_>,
     id: &str,
@@ -171,7 +171,7 @@ fn text_of_option(
 }
 
 /// Returns the text of an option, empty if it is not there.
-fn get_text_or_empty(
+pub fn make_text_or_empty(
     alloc: Global,
     words: &ArgMatches<'_>,
     id: &str,
@@ -183,7 +183,7 @@ fn get_text_or_empty(
 }
 
 /// Returns the bytes of a text, if it is there.
-fn optional_slice_of_optional_text(text: &Option<Items<u8>>) -> Option<&[u8]> {
+pub fn optional_slice_of_optional_text(text: &Option<Items<u8>>) -> Option<&[u8]> {
     match text {
         Some(text) => Some(text.as_slice()),
         None => None,
@@ -191,7 +191,7 @@ fn optional_slice_of_optional_text(text: &Option<Items<u8>>) -> Option<&[u8]> {
 }
 
 /// Returns the command and its arguments.
-fn command_words_of_matches(
+pub fn command_words_of_matches(
     alloc: Global,
     words: &ArgMatches<'_>,
 ) -> Result<Vec<Items<u8>>, AllocError> {

@@ -3,28 +3,42 @@
 
 mod all_errors;
 mod also_option;
+mod ask_command;
+mod ask_subcommands;
 mod convert_command;
 mod edit_command;
 mod explaining;
+mod explaining_edits;
 mod file_trouble;
 mod files;
 mod files_within_byte_budget;
+mod json_output;
 mod kept_files;
 mod list_command;
+mod machine;
 mod terminal;
 
 use crate::all_errors::{make_all_flag, print_all_errors};
+use crate::ask_command::run_ask_command;
+use crate::ask_subcommands::{
+    is_ask_command, make_what_subcommand, make_who_subcommand, make_why_subcommand,
+    policy_name_of_ask_words,
+};
 use crate::convert_command::{make_convert_subcommand, run_convert_command};
 use crate::edit_command::{
     EDIT, apply_script_to_policy_both_from_stdin, edit_policy_or_stdin, find_edit_usage_error,
     make_edit_subcommand,
 };
 use crate::explaining::{
-    add_error_options, are_files_read_again, error_status_of_words, explain_outcome,
-    print_explanation,
+    add_error_options, are_errors_explained, are_files_read_again, error_status_of_words,
+    explain_outcome, print_explanation,
 };
+use crate::explaining_edits::EditExplanation;
 use crate::file_trouble::FileTrouble;
 use crate::files::{KeptDisk, STDIN, find_trouble_with_folder, open_disk_files};
+use crate::json_output::{
+    is_json_asked, make_json_flag, print_error_document, run_check_as_json, run_show_as_json,
+};
 use crate::kept_files::KeptFiles;
 use crate::list_command::{make_list_subcommand, run_list_command};
 use crate::terminal::{open_standard_error, open_standard_output, print_error_line};
@@ -45,14 +59,17 @@ const BEFORE_WAITING: &[u8] =
 
 /// What help prints last.
 const EXIT_STATUS: &str =
-    "Exit status: 0 success; 1 an error, a policy that `check` does not pass, or a command that `list` does not allow; 2 a wrong command line. See sudoers_tool(8).";
+    "Exit status: 0 success; 1 an error, a policy that `check` does not pass, or a command that `list` does not allow; 2 a wrong command line; 3 an error of `who`, `what` or `why`. See sudoers_tool(8).";
+
+/// The exit status of an error of the commands that ask the policy of a machine.
+const ASK_ERROR_STATUS: u8 = 3;
 
 /// Returns the exit status: 0 for success, 1 for an error, a policy that `check` does not pass or a command that is not allowed, 2 for a
 /// wrong command line.
 fn main(rt: HostRuntime) -> ExitCode {
     match run_command_line(&rt) {
         Ok(code) => code,
-        Err(fault) => report_fault(&rt, &FileTrouble::from(fault), 1, &[]),
+        Err(fault) => ExitCode::from(report_fault(&rt, &FileTrouble::from(fault), 1, &[])),
     }
 }
 
@@ -101,13 +118,24 @@ fn find_usage_error(
         )?;
         return Ok(Some(message));
     }
-    if name != EDIT {
-        return Ok(None);
-    }
-    match find_edit_usage_error(words) {
+    let mistake = if name == EDIT {
+        find_edit_usage_error(words)
+    } else {
+        find_usage_error_of_files(words)
+    };
+    match mistake {
         Some(message) => Ok(Some(String::from_str(rt.alloc(), message)?)),
         None => Ok(None),
     }
+}
+
+/// Returns what is wrong with the policy files that `words` name: the standard input is one policy, and not two.
+fn find_usage_error_of_files(words: &ArgMatches<'_>) -> Option<&'static str> {
+    let files = words.get_strs("FILE")?;
+    if files.iter().filter(|file| **file == STDIN).count() > 1 {
+        return Some("standard input can be one policy only");
+    }
+    None
 }
 
 /// Returns the command line whose usage an error of `matches` shows.
@@ -123,53 +151,107 @@ fn make_command_for_usage<'a>(
 
 /// Runs the command of a command line that was understood, and prints its error.
 fn run_matched_command(rt: &HostRuntime, matches: &ArgMatches<'_>) -> ExitCode {
-    match matches.subcommand() {
-        Some((name, words)) if name != EDIT => {
-            run_named_command_and_print_error(rt, name, words)
+    let status = match matches.subcommand() {
+        Some((EDIT, words)) => run_edit_and_print_error(rt, words),
+        Some((name, words)) if is_ask_command(name) => {
+            let file = policy_name_of_ask_words(words);
+            run_named_command_and_print_error(rt, name, file, ASK_ERROR_STATUS, words)
         }
-        Some((_, words)) => print_error_of_outcome_and_get_exit_code(
-            rt,
-            edit_policy_or_stdin(rt, words),
-            error_status_of_words(words),
-            &[],
-        ),
-        None => {
-            print_hint_before_waiting(rt);
-            print_error_of_outcome_and_get_exit_code(
-                rt,
-                turn_fault_into_trouble_without_file_name(apply_script_to_policy_both_from_stdin(
-                    rt, 0, 0,
-                )),
-                1,
-                &[],
-            )
-        }
-    }
+        Some((name, words)) => run_named_command_on_each_policy(rt, name, words),
+        None => run_edit_of_stdin_and_print_error(rt),
+    };
+    ExitCode::from(status)
 }
 
-/// Runs the command `name`, which reads a policy file, and prints its error, with the lines that explain it.
+/// Runs the command `name` on each policy that `words` name, and prints its errors. Returns the highest exit status.
+fn run_named_command_on_each_policy(rt: &HostRuntime, name: &str, words: &ArgMatches<'_>) -> u8 {
+    let error_status = error_status_of_words(words);
+    let mut highest = 0;
+    if let Some(files) = words.get_strs("FILE") {
+        for file in files {
+            let status = run_named_command_and_print_error(rt, name, file, error_status, words);
+            highest = highest.max(status);
+        }
+    }
+    highest
+}
+
+/// Runs `edit`, and prints its error, with the lines that explain it.
+fn run_edit_and_print_error(rt: &HostRuntime, words: &ArgMatches<'_>) -> u8 {
+    let mut explanation = EditExplanation::new(rt.alloc(), are_errors_explained(rt, words));
+    let outcome = edit_policy_or_stdin(rt, words, &mut explanation);
+    explanation.explain_outcome(rt, Some(words), &outcome);
+    let error_status = error_status_of_words(words);
+    print_error_of_outcome_and_get_status(rt, outcome, error_status, explanation.lines())
+}
+
+/// Runs the program without a command: it edits the policy on standard input. Prints its error, with the lines that explain it on a terminal.
+fn run_edit_of_stdin_and_print_error(rt: &HostRuntime) -> u8 {
+    print_hint_before_waiting(rt);
+    let mut explanation = EditExplanation::new(rt.alloc(), rt.stderr().is_terminal());
+    let outcome = turn_fault_into_trouble_without_file_name(apply_script_to_policy_both_from_stdin(
+        rt,
+        0,
+        0,
+        &mut explanation,
+    ));
+    explanation.explain_outcome(rt, None, &outcome);
+    print_error_of_outcome_and_get_status(rt, outcome, 1, explanation.lines())
+}
+
+/// Runs the command `name`, which reads the policy `file`, and prints its error, of which the exit status is `error_status`, with the lines
+/// that explain it. Returns the exit status.
 fn run_named_command_and_print_error(
     rt: &HostRuntime,
     name: &str,
+    file: &str,
+    error_status: u8,
     words: &ArgMatches<'_>,
-) -> ExitCode {
-    let file = words.get_str("FILE").unwrap_or(STDIN);
-    let error_status = error_status_of_words(words);
+) -> u8 {
     let mut files = match open_disk_files(rt, words, file) {
         Ok(disk) => KeptFiles::new(rt.alloc(), disk, are_files_read_again(rt, words)),
         Err(fault) => return report_fault(rt, &FileTrouble::from(fault), error_status, &[]),
     };
-    let outcome = run_named_command_on_file(rt, name, file, words, &mut files);
+    let outcome = if is_ask_command(name) {
+        run_ask_command(rt, name, words, &mut files)
+    } else {
+        run_file_command(rt, name, file, words, &mut files)
+    };
     let explanation = match explain_outcome(rt, words, file, &mut files, &outcome) {
         Ok(text) => text,
         Err(_) => Vec::new(rt.alloc()),
     };
-    print_error_of_outcome_and_get_exit_code(
-        rt,
-        turn_fault_into_trouble_without_file_name(outcome),
-        error_status,
-        explanation.as_slice(),
-    )
+    print_error_of_outcome_and_get_status(rt, outcome, error_status, explanation.as_slice())
+}
+
+/// Returns whether `words` name several policies.
+fn has_several_policies(words: &ArgMatches<'_>) -> bool {
+    match words.get_strs("FILE") {
+        Some(files) => files.len() > 1,
+        None => false,
+    }
+}
+
+/// Runs the command `name`, which reads the policy `file` among `files`. Writes the document of its error if `words` ask for documents.
+fn run_file_command(
+    rt: &HostRuntime,
+    name: &str,
+    file: &str,
+    words: &ArgMatches<'_>,
+    files: &mut KeptDisk,
+) -> Result<u8, FileTrouble> {
+    match run_named_command_on_file(rt, name, file, words, files) {
+        Ok(status) => Ok(status),
+        Err(fault) => {
+            if is_json_asked(words) {
+                print_error_document(rt, name, file, words, files, &fault);
+            }
+            if has_several_policies(words) {
+                return Err(FileTrouble::from_fault_in_file(rt.alloc(), file.as_bytes(), fault));
+            }
+            Err(FileTrouble::from(fault))
+        }
+    }
 }
 
 /// Returns the outcome of a command whose errors are printed without the name of a file before them.
@@ -207,16 +289,16 @@ fn print_hint_before_waiting(rt: &HostRuntime) {
 
 /// Returns the exit status of a command that ended so, and prints its error, of which the exit status is `error_status`, and the lines
 /// `explanation`.
-fn print_error_of_outcome_and_get_exit_code(
+fn print_error_of_outcome_and_get_status(
     rt: &HostRuntime,
     outcome: Result<u8, FileTrouble>,
     error_status: u8,
     explanation: &[u8],
-) -> ExitCode {
+) -> u8 {
     match outcome {
         Ok(status) => {
             print_explanation(rt, explanation);
-            ExitCode::from(status)
+            status
         }
         Err(trouble) => report_fault(rt, &trouble, error_status, explanation),
     }
@@ -226,6 +308,7 @@ fn print_error_of_outcome_and_get_exit_code(
 fn make_show_subcommand<'a>(alloc: Global) -> Result<Command<'a>, AllocError> {
     Command::new(alloc, "show")
         .about("Print the logical lines of a policy and its alias definitions, with their numbers")
+        .arg(make_json_flag(alloc))?
         .arg(make_root_folder_option(alloc))?
         .arg(make_policy_file_or_stdin_argument(alloc))
 }
@@ -256,7 +339,10 @@ fn make_top_level_command<'a>(alloc: Global) -> Result<Command<'a>, AllocError> 
                 make_policy_file_or_stdin_argument(alloc),
             )?,
         )?)?
-        .subcommand(add_error_options(alloc, make_show_subcommand(alloc)?)?)
+        .subcommand(add_error_options(alloc, make_show_subcommand(alloc)?)?)?
+        .subcommand(make_what_subcommand(alloc, make_root_folder_option(alloc))?)?
+        .subcommand(make_who_subcommand(alloc, make_root_folder_option(alloc))?)?
+        .subcommand(make_why_subcommand(alloc, make_root_folder_option(alloc))?)
 }
 
 /// Returns the command line of `check`.
@@ -283,8 +369,16 @@ fn make_check_subcommand<'a>(alloc: Global) -> Result<Command<'a>, AllocError> {
         .arg(strict)?
         .arg(skipped)?
         .arg(make_all_flag(alloc))?
+        .arg(make_json_flag(alloc))?
         .arg(make_root_folder_option(alloc))?
-        .arg(make_policy_file_or_stdin_argument(alloc))
+        .arg(make_policy_files_argument(alloc))
+}
+
+/// Returns the argument that names policy files, each of a policy of its own.
+fn make_policy_files_argument<'a>(alloc: Global) -> Arg<'a> {
+    Arg::new(alloc, "FILE").required(true).num_args(1..).help(
+        "Policy files, each of a policy of its own, or `-` for standard input",
+    )
 }
 
 /// Returns the option with the folder below which absolute names are read.
@@ -330,6 +424,9 @@ fn run_show_command(
     words: &ArgMatches<'_>,
     files: &mut KeptDisk,
 ) -> Result<u8, ToolFault> {
+    if is_json_asked(words) {
+        return run_show_as_json(rt, file, files);
+    }
     let mut writer = Counted::new(open_standard_output(rt));
     let root = file.as_bytes();
     run_show(rt.alloc(), files, root, &mut writer)
@@ -342,6 +439,9 @@ fn run_check_command(
     words: &ArgMatches<'_>,
     files: &mut KeptDisk,
 ) -> Result<u8, ToolFault> {
+    if is_json_asked(words) {
+        return run_check_as_json(rt, file, words, files);
+    }
     if print_all_errors(rt, words, file, files)? {
         return Ok(1);
     }
@@ -361,11 +461,11 @@ fn report_fault(
     trouble: &FileTrouble,
     error_status: u8,
     explanation: &[u8],
-) -> ExitCode {
+) -> u8 {
     if let Ok(text) = trouble.text(rt.alloc())
         && print_error_line(rt, &[text.as_slice()]).is_ok()
     {
         print_explanation(rt, explanation);
     }
-    ExitCode::from(error_status)
+    error_status
 }

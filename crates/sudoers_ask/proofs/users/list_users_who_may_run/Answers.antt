@@ -1,0 +1,84 @@
+use Rattle.std.proofs.Common.{◌≡◌, ◌⊎◌, ◌++◌, ◌∷◌, [], ◌||◌, ◌+◌, ◌<◌, inl, inr, IfErr, List, Ok, Err, Some, ap, drop, get_or, length, option_map, rules, slice_get, subst, sym, take, ◌∙◌}
+use Rattle.std.proofs.lemmas.List.{take_more}
+use Rattle.std.proofs.lemmas.Option.{slice_get-get_or}
+use Rattle.sudoers_tree.specs.Line.{Line}
+use Rattle.sudoers_check.specs.Chains.{HasCyclicAliasReachedFromSpecOrDefaults}
+use Rattle.sudoers_match_list.specs.declared.verdict.AskFault.TheVariants.{Cycle}
+use Rattle.sudoers_match.specs.declared.specs_for_command.SpecOnLine.{SpecOnLine}
+use Rattle.sudoers_match.specs.Found.{answer_without_member_and_settings}
+use Rattle.sudoers_list_people.specs.declared.account_and_group_row_types.PasswdAccount.{PasswdAccount}
+use Rattle.sudoers_ask.specs.declared.question.QuestionFault.{QuestionFault}
+use Rattle.sudoers_ask.specs.declared.question.QuestionFault.TheVariants.{Ask}
+use Rattle.sudoers_ask.specs.Outcome.{AreSpecsForQuestion, IsMemoryFault, IsUserOutcome}
+use Rattle.sudoers_ask.specs.Users.{ArePartsOfUsers, IsFaultOfFirstUser, IsPartOfUser, UserPart}
+use Rattle.sudoers_ask.proofs.Parts.{answered_request_is_outcome, list_parts_at, one_more_allowed, one_more_related, one_more_text}
+use Rattle.sudoers_ask.proofs.users.list_users_who_may_run.Goals as goal
+
+pub ask_user-requires-clause-specs : goal.ask_user-requires-clause-specs
+ask_user-requires-clause-specs c =
+    subst (λ (specs : List SpecOnLine). AreSpecsForQuestion c.in_ok-acyclic.acyclic c.args.question.now specs) (sym c.as_slice.ensures.value) c.in_ok-specs.ensures
+
+pub returns-in_err-answer-clause-fault : goal.returns-in_err-answer-clause-fault
+returns-in_err-answer-clause-fault c =
+    let policy = c.args.policy.now in
+    let people = c.args.people.now in
+    let q = c.args.question.now in
+    let lines : List Line = policy.walk.lines in
+    let fault : QuestionFault = c.in_err-answer.field-0.0 in
+    let same : c.from_residual-in_err-answer.result ≡ Err fault = search rules in
+    let walked : c.in_ok-acyclic.acyclic ≡ lines = c.in_ok-acyclic.ensures.walk ∙ c.walk.ensures in
+    let items = c.accounts-account-items.result.now in
+    let accounts : List PasswdAccount = people.accounts in
+    let i = c.loop-account.account-index in
+    let item : PasswdAccount = c.account-item.result in
+    let at : slice_get accounts i ≡ Some item = ap (λ xs. slice_get xs i) (sym c.accounts-account-items.ensures) ∙ slice_get-get_or items i item c.loop-account-test.true ∙ ap Some (sym c.account-item.is) in
+    let so_far = c.loop-account.invariant in
+    subst (λ r. IfErr r (λ (f : QuestionFault). IsMemoryFault f ⊎ (((f ≡ Ask Cycle) × HasCyclicAliasReachedFromSpecOrDefaults lines) ⊎ IsFaultOfFirstUser policy people q c.args.denied f))) (sym same)
+    (elim c.in_err-answer.ensures.fault as (λ _. IsMemoryFault fault ⊎ (((fault ≡ Ask Cycle) × HasCyclicAliasReachedFromSpecOrDefaults lines) ⊎ IsFaultOfFirstUser policy people q c.args.denied fault)) [
+      | inl memory ↦ inl memory
+      | inr told ↦ inr (inr (record {
+        before = take i accounts;
+        account = item;
+        after = drop (i + 1) accounts;
+        stands = list_parts_at accounts i item at;
+        parts = so_far.0;
+        are_parts = so_far.1;
+        asked = subst (λ name. IsUserOutcome lines people q name (Err fault)) c.as_slice-name.ensures
+            (subst (λ (ls : List Line). IsUserOutcome ls people q c.as_slice-name.result.now (Err fault)) walked told);
+      }))
+    ])
+
+pub loop-account-preserved : goal.loop-account-preserved
+loop-account-preserved c =
+    let policy = c.args.policy.now in
+    let people = c.args.people.now in
+    let q = c.args.question.now in
+    let denied = c.args.denied in
+    let lines : List Line = policy.walk.lines in
+    let walked : c.in_ok-acyclic.acyclic ≡ lines = c.in_ok-acyclic.ensures.walk ∙ c.walk.ensures in
+    let items = c.accounts-account-items.result.now in
+    let accounts : List PasswdAccount = people.accounts in
+    let i = c.loop-account.account-index in
+    let item : PasswdAccount = c.account-item.result in
+    let within : i < length accounts = subst (λ (xs : List PasswdAccount). i < length xs) c.accounts-account-items.ensures c.loop-account-test.true in
+    let taken : take (i + 1) accounts ≡ take i accounts ++ item ∷ [] =
+    take_more accounts i item within ∙ ap (λ x. take i accounts ++ x ∷ []) (ap (λ xs. get_or xs i item) (sym c.accounts-account-items.ensures) ∙ sym c.account-item.is) in
+    let a = c.in_ok-answer.answer in
+    let answer = option_map answer_without_member_and_settings a.found in
+    let wrote = c.in_ok-append_user_part.ensures in
+    let name = c.as_slice-name.result.now in
+    let part : UserPart = record { text = wrote.0; allowed = c.is_allowed-is_any_allowed.result } in
+    let so_far = c.loop-account.invariant in
+    let is_part : IsPartOfUser policy people q denied item.name part = subst (λ n. IsPartOfUser policy people q denied n part) c.as_slice-name.ensures (record {
+      told = record { request = a.request; default = a.default.now; answer = answer };
+      asked = subst (λ (ls : List Line). IsUserOutcome ls people q name (Ok (record { request = a.request; default = a.default.now; answer = answer }))) walked
+          (answered_request_is_outcome c.in_ok-acyclic.acyclic people q name a.request a.default.now answer c.in_ok-answer.ensures.request c.in_ok-answer.ensures.short c.in_ok-answer.ensures.answer);
+      text = wrote.2;
+      allowed = c.is_allowed-is_any_allowed.ensures;
+    }) in (
+      so_far.0 ++ part ∷ [],
+      subst (λ (xs : List PasswdAccount). ArePartsOfUsers policy people q denied xs (so_far.0 ++ part ∷ [])) (sym taken)
+          (one_more_related (λ (account : PasswdAccount) p. IsPartOfUser policy people q denied account.name p) (take i accounts) so_far.0 item part so_far.1 is_part),
+      wrote.1 ∙ ap (λ text. text ++ wrote.0) so_far.2 ∙ sym (one_more_text so_far.0 part),
+      ap (λ b. b || part.allowed) so_far.3 ∙ sym (one_more_allowed so_far.0 part),
+    )

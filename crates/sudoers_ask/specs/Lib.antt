@@ -1,0 +1,3 @@
+pub mod Outcome
+pub mod Users
+pub mod Why

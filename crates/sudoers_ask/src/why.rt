@@ -1,0 +1,73 @@
+//! Why a user may run a command, or may not.
+
+ghost use Rattle.std.specs.Prelude.{◌≡◌, ◌⊎◌, Ok, Err, IfOk, IfErr};
+ghost use Rattle.sudoers_check.specs.Chains.{HasCyclicAliasReachedFromSpecOrDefaults};
+ghost use Rattle.sudoers_match_list.specs.declared.verdict.AskFault.TheVariants.{Cycle};
+ghost use Rattle.sudoers_ask.specs.declared.question.QuestionFault.TheVariants.{Ask};
+ghost use Rattle.sudoers_ask.specs.Outcome.{IsMemoryFault, IsUserOutcome};
+ghost use Rattle.sudoers_ask.specs.Why.{IsWhyText};
+
+use crate::question::{CommandQuestion, QuestionFault};
+use crate::undecided_lines::append_undecided_lines;
+use crate::user_answer::ask_user;
+use std::alloc::Global;
+use sudoers_list::explain_found_answer;
+use sudoers_list_people::People;
+use sudoers_match::list_specs_with_lines;
+use sudoers_match_list::AcyclicWalk;
+use sudoers_tree::Policy;
+
+/// The reason of an answer, as a text, and whether the command is allowed.
+#[derive(Drop)]
+pub struct WhyText {
+    pub text: Vec<u8>,
+    pub is_allowed: bool,
+    /// The members that were not decided and could have changed the answer, a line for each.
+    pub undecided: Vec<u8>,
+}
+
+/// Returns why `policy` lets the user with the name `user` run the command of `question`, or why it does not, as
+/// [`explain_found_answer`] writes it.
+///
+/// # Errors
+///
+/// `Ask(Cycle)`: a reachable alias is cyclic. Then those of [`ask_user`].
+pub fn explain_user_answer(
+    alloc: Global,
+    policy: &Policy,
+    people: &People,
+    user: &[u8],
+    question: &CommandQuestion<'_>,
+) -> Result<WhyText, QuestionFault>
+    ensures why { IfOk result (λ why. IsWhyText policy.now people.now question.now user.now why.text.items why.is_allowed) }
+    ensures straight { IfOk result (λ _. HasCyclicAliasReachedFromSpecOrDefaults policy.now.walk.lines → ⊥) }
+    ensures fault { IfErr result (λ fault. IsMemoryFault fault ⊎ (((fault ≡ Ask Cycle) × HasCyclicAliasReachedFromSpecOrDefaults policy.now.walk.lines)
+        ⊎ IsUserOutcome policy.now.walk.lines people.now question.now user.now (Err fault))) }
+{
+    let acyclic = AcyclicWalk::new(alloc, policy.walk())?;
+    let specs = list_specs_with_lines(alloc, &acyclic)?;
+    let answer = ask_user(
+        alloc,
+        &acyclic,
+        specs.as_slice(),
+        true,
+        people,
+        user,
+        question,
+    )?;
+    let text = explain_found_answer(
+        alloc,
+        policy,
+        &acyclic,
+        &answer.request,
+        answer.default,
+        answer.found,
+    )?;
+    let mut undecided = Vec::new(alloc);
+    append_undecided_lines(alloc, &mut undecided, policy, &acyclic, &answer, b"")?;
+    Ok(WhyText {
+        undecided,
+        text,
+        is_allowed: answer.is_allowed(),
+    })
+}

@@ -1,0 +1,23 @@
+//! What is wrong with an edit script or one of its edits, for people: the line, what the policy has there, and what to do.
+#![tactic(auto)]
+
+mod bad_splices;
+mod commands;
+mod edit_hints;
+mod edited_files;
+mod input_mistakes;
+mod line_refusals;
+mod lists;
+mod name_refusals;
+mod nearest;
+mod refusals;
+mod script_faults;
+mod script_mistakes;
+mod script_rows;
+mod splice_mistakes;
+mod spliced_lines;
+
+pub use edit_hints::{EditHint, words_of_edit_hint};
+pub use input_mistakes::{explain_bad_bundle, explain_missing_mark, split_edit_input};
+pub use refusals::explain_refused_edit;
+pub use script_faults::explain_script_fault;

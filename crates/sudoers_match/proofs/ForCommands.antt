@@ -1,0 +1,231 @@
+-- User specifications that cannot answer a command.
+use Rattle.sudoers_match.proofs.Common.{AllByRecursion, AreRowsPerFlatAtomOfCommand, AreRowsPerFlatAtomOfHostGroup, AreRowsPerFlatAtomOfSpec, CmdSpec, Cmnd, Host, HostGroup, IsAnswerOfRows, IsConcatenationOfParts, IsFlatListOf}
+use Rattle.sudoers_match.proofs.Common.{IsLastHitOfList, Line, List, ListAllows, ListHasElement, Member, MemberHit, None, Option, PrivilegeRow, Request, RowFitsRequest, AccumulatedCommandSettings, SignedAtom, Some, UserSpec, Who, []}
+use Rattle.sudoers_match.proofs.Common.{ap, command_with_joined_arguments_of_request, commands_with_settings, cons_option, empty_command_settings, false, hit_of_signed_atom, if◌then◌else◌, inl, inr, is_command_atom_match, is_host_atom_match, is_request_command_hit, last_hit_of_list}
+use Rattle.sudoers_match.proofs.Common.{later_hit_if_any, map, option_map, privilege_row_of, refl, settings_after_command, slice_get, specs_with_line_numbers, subst, suc, sym, true, user_spec_in_node, user_specs_of_lines, zero, ℕ, ◌+◌, ◌∙◌, ◌∷◌, ◌≡◌}
+use Rattle.std.proofs.Common.{below_more, get_or, is_some, length, take, ◌++◌, ◌<◌}
+use Rattle.std.proofs.lemmas.Bool.{false≢true}
+use Rattle.sudoers_match_member.specs.declared.people_and_commands.CommandLine.{CommandLine}
+use Rattle.sudoers_match_list.proofs.Unique.{one_flat}
+use Rattle.std.specs.Prelude.{◌&&◌, Bool}
+use Rattle.sudoers_grammar.specs.declared.node.Atom.{Atom}
+use Rattle.sudoers_grammar.specs.declared.node.Atom.TheVariants as atom
+use Rattle.sudoers_match_member.specs.declared.wildcards.GlobMode.TheVariants as mode
+use Rattle.sudoers_match_member.specs.Folded.{bytes_case_folded_if_wanted}
+use Rattle.sudoers_match_member.specs.Hits.{has_dot, is_host_name_match}
+use Rattle.sudoers_match_member.specs.Network.{is_any_interface_hit}
+use Rattle.sudoers_match_member.specs.Wildcard.{is_pattern_match}
+use Rattle.sudoers_match_list.specs.Flat.{has_no_digests}
+use Rattle.sudoers_match.specs.declared.specs_for_command.SpecOnLine.{SpecOnLine}
+use Rattle.sudoers_match.specs.ForCommand.{AreSpecsForCommand, IsRowForCommand, MattersIfForCommand, numbered_spec_of_view}
+use Rattle.sudoers_match.proofs.Common.{HasCyclicAliasReachedFromSpecOrDefaults, Has_at, HostGroupsLeadToNoCycle, LeadsToNoCyclicAlias, User, take_more}
+use Rattle.sudoers_match.proofs.Existing.{node_with_user_spec_is_spec_node}
+use Rattle.sudoers_match.proofs.Gathered.{mapped_list_has_mapped_element_at_index}
+use Rattle.sudoers_match.proofs.Lasts.{all_append}
+use Rattle.sudoers_match.proofs.Reached.{groups_straight, users_straight}
+use Rattle.sudoers_match.proofs.Settings.{map_of_appended_is_appended_maps}
+use Rattle.sudoers_match.proofs.Rowed.{answers_none, hit_of_signed_atom_made, joined_all, no_hit_if_true_implies_false}
+
+later_none : (a b : Option MemberHit) → later_hit_if_any a b ≡ None → (a ≡ None) × (b ≡ None)
+later_none a None e = (e, refl)
+later_none a (Some h) e = let clash : Some h ≡ None = e in absurd cc
+
+module _ (lines : List Line) (who : Who) (command : CommandLine) where
+  abbrev pub Not : PrivilegeRow → Type 0
+  Not row = IsRowForCommand lines who command row → ⊥
+
+  module _ (i j : ℕ) (users hosts : List Member) where
+    flat_without_hit : (k : ℕ) (head : AccumulatedCommandSettings) (flat : List SignedAtom) → last_hit_of_list (is_command_atom_match command) flat ≡ None
+        → AllByRecursion Not (map (privilege_row_of i j users hosts k head) flat)
+    flat_without_hit k head [] e = tt
+    flat_without_hit k head (s ∷ flat) e =
+        let two = later_none (hit_of_signed_atom (is_command_atom_match command) s) (last_hit_of_list (is_command_atom_match command) flat) e in
+        ((λ f. false≢true (sym (no_hit_if_true_implies_false _ (hit_of_signed_atom_made s) two.0) ∙ f.matches)), flat_without_hit k head flat two.1)
+
+    command_without_hit : (k : ℕ) (head : AccumulatedCommandSettings) (m : Member) (rows : List PrivilegeRow) → IsLastHitOfList Cmnd lines (is_command_atom_match command) (m ∷ []) None
+        → AreRowsPerFlatAtomOfCommand lines i j users hosts k (head, m) rows → AllByRecursion Not rows
+    command_without_hit k head m rows l p =
+        subst (AllByRecursion Not) (sym p.2)
+        (flat_without_hit k head p.0 (ap (last_hit_of_list (is_command_atom_match command)) (one_flat Cmnd lines (m ∷ []) p.0 l.flat p.1 l.is_flat) ∙ l.is_last))
+
+    pub commands_without_hit : (cs : List CmdSpec) → ((n : ℕ) (c : CmdSpec) → slice_get cs n ≡ Some c → IsLastHitOfList Cmnd lines (is_command_atom_match command) (c.member ∷ []) None)
+        → (head : AccumulatedCommandSettings) (k : ℕ) (rows : List PrivilegeRow) → IsConcatenationOfParts (AreRowsPerFlatAtomOfCommand lines i j users hosts) k (commands_with_settings head cs) rows
+        → AllByRecursion Not rows
+    commands_without_hit [] none head k rows p = subst (AllByRecursion Not) (sym p) tt
+    commands_without_hit (c ∷ cs) none head k rows p =
+        subst (AllByRecursion Not) (sym p.2)
+        (all_append Not p.0 p.1 (command_without_hit k (settings_after_command head c) c.member p.0 (none 0 c refl) p.3)
+        (commands_without_hit cs (λ n d e. none (suc n) d e) (settings_after_command head c) (suc k) p.1 p.4))
+
+    other_host : (ListAllows Host lines (is_host_atom_match who) hosts → ⊥) → (k : ℕ) (head : AccumulatedCommandSettings) (flat : List SignedAtom)
+        → AllByRecursion Not (map (privilege_row_of i j users hosts k head) flat)
+    other_host n k head [] = tt
+    other_host n k head (s ∷ flat) = ((λ f. n f.allows), other_host n k head flat)
+
+  pub group_of_other_host : (i j : ℕ) (users : List Member) (g : HostGroup) (rows : List PrivilegeRow) → (ListAllows Host lines (is_host_atom_match who) g.hosts → ⊥)
+      → AreRowsPerFlatAtomOfHostGroup lines i users j g rows → AllByRecursion Not rows
+  group_of_other_host i j users g rows n p =
+      joined_all (AreRowsPerFlatAtomOfCommand lines i j users g.hosts) Not
+      (λ k c rs q. subst (AllByRecursion Not) (sym q.2) (other_host i j users g.hosts n k c.0 q.0)) 0 (commands_with_settings empty_command_settings g.commands) rows p
+
+  -- groups of none of which a row is for the command
+  pub groups_without_rows : (i : ℕ) (users : List Member) (gs : List HostGroup)
+      → ((n : ℕ) (g : HostGroup) → slice_get gs n ≡ Some g → (j : ℕ) (rs : List PrivilegeRow) → AreRowsPerFlatAtomOfHostGroup lines i users j g rs → AllByRecursion Not rs)
+      → (j : ℕ) (rows : List PrivilegeRow) → IsConcatenationOfParts (AreRowsPerFlatAtomOfHostGroup lines i users) j gs rows → AllByRecursion Not rows
+  groups_without_rows i users [] none j rows p = subst (AllByRecursion Not) (sym p) tt
+  groups_without_rows i users (g ∷ gs) none j rows p =
+      subst (AllByRecursion Not) (sym p.2)
+      (all_append Not p.0 p.1 (none 0 g refl j p.0 p.3) (groups_without_rows i users gs (λ n h e. none (suc n) h e) (suc j) p.1 p.4))
+
+-- no row of one that does not matter answers the request
+pub idle_answers_none : (lines : List Line) (r : Request) (rows : List PrivilegeRow)
+    → AllByRecursion (λ row. IsRowForCommand lines r.who (command_with_joined_arguments_of_request r) row → ⊥) rows → IsAnswerOfRows lines r rows None
+idle_answers_none lines r rows none = answers_none lines r rows (by rows none)
+  where
+    by : (rs : List PrivilegeRow) → AllByRecursion (λ row. IsRowForCommand lines r.who (command_with_joined_arguments_of_request r) row → ⊥) rs
+        → AllByRecursion (λ row. RowFitsRequest lines r row → ⊥) rs
+    by [] all = tt
+    by (row ∷ rs) all = ((λ f. all.0 (record { allows = f.host; matches = f.command })), by rs all.1)
+
+-- ---- user specifications with the numbers of their lines
+
+abbrev pub second : ℕ × UserSpec → UserSpec
+second p = p.1
+
+pub numbered_specs_are_specs : (n : ℕ) (lines : List Line) → map second (specs_with_line_numbers n lines) ≡ user_specs_of_lines lines
+numbered_specs_are_specs n [] = refl
+numbered_specs_are_specs n (line ∷ lines) = by (numbered_specs_are_specs (n + 1) lines) (user_spec_in_node line.node)
+  where
+    by : map second (specs_with_line_numbers (n + 1) lines) ≡ user_specs_of_lines lines → (o : Option UserSpec)
+        → map second (cons_option (option_map (λ (s : UserSpec). (n, s)) o) (specs_with_line_numbers (n + 1) lines)) ≡ cons_option o (user_specs_of_lines lines)
+    by rest None = rest
+    by rest (Some s) = ap (λ ss. s ∷ ss) rest
+
+pub numbered_spec_is_on_line : (n : ℕ) (lines : List Line) (x : ℕ × UserSpec) → ListHasElement (specs_with_line_numbers n lines) x
+    → (line : Line) × ListHasElement lines line × (user_spec_in_node line.node ≡ Some x.1)
+numbered_spec_is_on_line n [] x h = absurd h
+numbered_spec_is_on_line n (line ∷ lines) x h = by (numbered_spec_is_on_line (n + 1) lines x) (user_spec_in_node line.node) refl h
+  where
+    later : ((l : Line) × ListHasElement lines l × (user_spec_in_node l.node ≡ Some x.1)) → (l : Line) × ListHasElement (line ∷ lines) l × (user_spec_in_node l.node ≡ Some x.1)
+    later w = (w.0, inr w.1, w.2)
+
+    by : (ListHasElement (specs_with_line_numbers (n + 1) lines) x → (l : Line) × ListHasElement lines l × (user_spec_in_node l.node ≡ Some x.1))
+        → (o : Option UserSpec) → user_spec_in_node line.node ≡ o → ListHasElement (cons_option (option_map (λ (s : UserSpec). (n, s)) o) (specs_with_line_numbers (n + 1) lines)) x
+        → (l : Line) × ListHasElement (line ∷ lines) l × (user_spec_in_node l.node ≡ Some x.1)
+    by rest None is h = later (rest h)
+    by rest (Some s) is (inl e) = (line, inl refl, is ∙ ap (λ (p : ℕ × UserSpec). Some p.1) e)
+    by rest (Some s) is (inr h) = later (rest h)
+
+-- what holds of all holds of the one at this place
+pub all_at : {X : Type 0} (P : X → Type 0) (xs : List X) (i : ℕ) (x : X) → AllByRecursion P xs → slice_get xs i ≡ Some x → P x
+all_at P [] i x all e = absurd cc
+all_at P (y ∷ ys) zero x all e = let same : y ≡ x = cc in subst P same all.0
+all_at P (y ∷ ys) (suc i) x all e = all_at P ys i x all.1 e
+
+-- ---- hosts with the same names and interfaces
+
+module _ (lines : List Line) (who other : Who) (long : other.long_host ≡ who.long_host) (short : other.short_host ≡ who.short_host) (interfaces : other.interfaces ≡ who.interfaces) where
+  name_of_host : (b : Bool) → (if b then other.long_host else other.short_host) ≡ (if b then who.long_host else who.short_host)
+  name_of_host true = long
+  name_of_host false = short
+
+  same_name_test : (pattern : List ℕ) → is_host_name_match other pattern ≡ is_host_name_match who pattern
+  same_name_test pattern = ap (λ name. is_pattern_match mode.Args (bytes_case_folded_if_wanted true pattern) (bytes_case_folded_if_wanted true name)) (name_of_host (has_dot pattern))
+
+  same_host_test : (a : Atom) → is_host_atom_match other a ≡ is_host_atom_match who a
+  same_host_test atom.All = refl
+  same_host_test (atom.Alias name) = same_name_test name
+  same_host_test (atom.Host pattern) = same_name_test pattern
+  same_host_test (atom.Address address) = ap (is_any_interface_hit address None) interfaces
+  same_host_test (atom.Network address mask) = ap (is_any_interface_hit address (Some mask)) interfaces
+  same_host_test (atom.Name name) = refl
+  same_host_test (atom.Id n) = refl
+  same_host_test (atom.Group name) = refl
+  same_host_test (atom.GroupId n) = refl
+  same_host_test (atom.NonUnix name) = refl
+  same_host_test (atom.Netgroup name) = refl
+  same_host_test atom.Listing = refl
+  same_host_test (atom.Path path args) = refl
+  same_host_test (atom.Sudoedit args) = refl
+
+  same_last_hit : (flat : List SignedAtom) → last_hit_of_list (is_host_atom_match who) flat ≡ last_hit_of_list (is_host_atom_match other) flat
+  same_last_hit [] = refl
+  same_last_hit (s ∷ flat) =
+      ap (λ h. later_hit_if_any (hit_of_signed_atom (is_host_atom_match who) s) h) (same_last_hit flat)
+      ∙ ap (λ t. later_hit_if_any (if t && has_no_digests s.digests then Some (hit_of_signed_atom_made s) else None) (last_hit_of_list (is_host_atom_match other) flat)) (sym (same_host_test s.atom))
+
+  host_allowed : (hosts : List Member) → ListAllows Host lines (is_host_atom_match other) hosts → ListAllows Host lines (is_host_atom_match who) hosts
+  host_allowed hosts v = record {
+    hit = v.hit;
+    is_latest = record { flat = v.is_latest.flat; is_flat = v.is_latest.is_flat; is_last = same_last_hit v.is_latest.flat ∙ v.is_latest.is_last };
+    says = v.says;
+  }
+
+  -- The same user specifications matter for both.
+  pub specs_serve_same_host : (command : CommandLine) (specs : List SpecOnLine) → AreSpecsForCommand lines who command specs → AreSpecsForCommand lines other command specs
+  specs_serve_same_host command specs are = record { all = are.all; matter = each specs are.matter }
+    where
+      rows_other : (rows : List PrivilegeRow) → AllByRecursion (Not lines who command) rows → AllByRecursion (Not lines other command) rows
+      rows_other [] all = tt
+      rows_other (row ∷ rows) all = ((λ f. all.0 (record { allows = host_allowed row.hosts f.allows; matches = f.matches })), rows_other rows all.1)
+
+      each : (ss : List SpecOnLine) → AllByRecursion (MattersIfForCommand lines who command) ss → AllByRecursion (MattersIfForCommand lines other command) ss
+      each [] all = tt
+      each (s ∷ ss) all = ((λ idle i rows p. rows_other rows (all.0 idle i rows p)), each ss all.1)
+
+-- Where each user specification matters, they serve each command.
+pub specs_that_all_matter : (lines : List Line) (who : Who) (command : CommandLine) (specs : List SpecOnLine) → map numbered_spec_of_view specs ≡ specs_with_line_numbers 0 lines
+    → AllByRecursion (λ (s : SpecOnLine). s.matters ≡ true) specs → AreSpecsForCommand lines who command specs
+specs_that_all_matter lines who command specs all matter = record { all = all; matter = each specs matter }
+  where
+    each : (ss : List SpecOnLine) → AllByRecursion (λ (s : SpecOnLine). s.matters ≡ true) ss → AllByRecursion (MattersIfForCommand lines who command) ss
+    each [] m = tt
+    each (s ∷ ss) m = ((λ idle i rows p. absurd (false≢true (sym idle ∙ m.0))), each ss m.1)
+
+-- ---- places below another
+
+pub none_if_not_some : {X : Type 0} (o : Option X) → is_some o ≡ false → o ≡ None
+none_if_not_some None e = refl
+none_if_not_some (Some x) e = absurd cc
+
+-- what holds of those before a place and of the one there
+pub one_below_more : {X : Type 0} (P : X → Type 0) (xs : List X) (k : ℕ) (x : X) → slice_get xs k ≡ Some x → ((n : ℕ) → n < k → (y : X) → slice_get xs n ≡ Some y → P y) → P x
+    → (n : ℕ) → n < k + 1 → (y : X) → slice_get xs n ≡ Some y → P y
+one_below_more P xs k x at before here =
+    below_more _ _ before (λ y e. let two : Some x ≡ Some y = sym at ∙ e in let one : x ≡ y = cc in subst P one here)
+
+-- ---- lists of which each item has its counterpart in another
+
+module _ {X Y : Type 0} (f : X → Y) (xs all : List X) (i : ℕ) (d x : X) (within : i < length all) where
+  pub mapped_one_more : f x ≡ f (get_or all i d) → map f xs ≡ map f (take i all) → map f (xs ++ x ∷ []) ≡ map f (take (i + 1) all)
+  mapped_one_more e so_far =
+      map_of_appended_is_appended_maps f xs (x ∷ [])
+      ∙ ap (λ ys. ys ++ f x ∷ []) so_far
+      ∙ ap (λ y. map f (take i all) ++ y ∷ []) e
+      ∙ sym (map_of_appended_is_appended_maps f (take i all) (get_or all i d ∷ []))
+      ∙ ap (map f) (sym (take_more all i d within))
+
+-- the host groups of a user specification lead to no cyclic alias
+pub groups_of_numbered_spec_straight : (lines : List Line) → (HasCyclicAliasReachedFromSpecOrDefaults lines → ⊥) → (x : ℕ × UserSpec) → ListHasElement (specs_with_line_numbers 0 lines) x
+    → HostGroupsLeadToNoCycle lines x.1.groups
+groups_of_numbered_spec_straight lines straight x h =
+    let w = numbered_spec_is_on_line 0 lines x h in
+    groups_straight lines straight w.0 w.1 x.1.users x.1.groups (node_with_user_spec_is_spec_node w.0.node x.1 w.2)
+
+pub users_of_numbered_spec_straight : (lines : List Line) → (HasCyclicAliasReachedFromSpecOrDefaults lines → ⊥) → (x : ℕ × UserSpec) → ListHasElement (specs_with_line_numbers 0 lines) x
+    → LeadsToNoCyclicAlias User lines x.1.users
+users_of_numbered_spec_straight lines straight x h =
+    let w = numbered_spec_is_on_line 0 lines x h in
+    users_straight lines straight w.0 w.1 x.1.users x.1.groups (node_with_user_spec_is_spec_node w.0.node x.1 w.2)
+
+-- one of the user specifications is at its place among those of the lines
+module _ (lines : List Line) (specs : List SpecOnLine) (all : map numbered_spec_of_view specs ≡ specs_with_line_numbers 0 lines) (i : ℕ) (s : SpecOnLine) (at : slice_get specs i ≡ Some s) where
+  pub numbered_at : slice_get (specs_with_line_numbers 0 lines) i ≡ Some (numbered_spec_of_view s)
+  numbered_at = ap (λ xs. slice_get xs i) (sym all) ∙ mapped_list_has_mapped_element_at_index numbered_spec_of_view specs i s at
+
+  pub is_numbered : ListHasElement (specs_with_line_numbers 0 lines) (numbered_spec_of_view s)
+  is_numbered = Has_at (specs_with_line_numbers 0 lines) i (numbered_spec_of_view s) numbered_at
+
+pub map_of_map : {X Y Z : Type 0} (f : X → Y) (g : Y → Z) (xs : List X) → map (λ x. g (f x)) xs ≡ map g (map f xs)
+map_of_map f g [] = refl
+map_of_map f g (x ∷ xs) = ap (λ ys. g (f x) ∷ ys) (map_of_map f g xs)

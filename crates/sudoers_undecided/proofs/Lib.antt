@@ -1,0 +1,9 @@
+mod ListsByTests
+mod TurningAtoms
+mod Sways
+mod Places
+mod ListingsByTests
+mod Decided
+mod DefaultsByTests
+mod RowPartsByTests
+mod AnswersByTests

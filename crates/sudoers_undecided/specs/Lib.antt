@@ -1,0 +1,9 @@
+pub mod MatchTests
+pub mod MemberQuestions
+pub mod TurningMembers
+pub mod TurningAtoms
+pub mod ListSway
+pub mod PlacedAtoms
+pub mod UndecidedListing
+pub mod RowParts
+pub mod UndecidedAnswer
