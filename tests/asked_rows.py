@@ -250,6 +250,7 @@ ERRORS = (
 CLOSED_FILES = (
     ("closed_policy", {"main": Closed("bob ALL = ALL\n")}, f"who {M} /bin/a", "Failed", "main: permission denied"),
     ("closed_passwd", {**RULE, "passwd": Closed("root:x:0:0:::\n")}, f"who {M} /bin/a", "passwd: Read", "passwd: permission denied"),
+    ("closed_image", {"main": "bob ALL = ALL\n", "image": Closed(None)}, f"who --root image --policy - {PEOPLE} /bin/a", "image/bin: Read", "image/bin: permission denied"),
     ("closed_hostname", below(IMAGE, hostname=Closed("h\n")), "why --root image bob /bin/a", "image/etc/hostname: Read", "image/etc/hostname: permission denied"),
 )
 
@@ -306,6 +307,7 @@ TERMINALS = (
     ("names_of_users", HOSTILE, f"who {M} /bin/a"),
     ("names_of_commands", HOSTILE, f"what {M} bob"),
     ("a_reason", HOSTILE, f"why {M} bob /bin/b\x1b[2J"),
+    ("a_rule_that_misses_the_host", {**HOSTILE, "main": "ALL i = /bin/b\x1b[2J\n"}, f"why {M} bob /bin/b\x1b[2J"),
     ("an_error_of_a_line", {"main": "bob ALL\n"}, f"who {M} /bin/a"),
     ("an_error_of_a_line_alone", {"main": "bob ALL\n"}, f"who --plain {M} /bin/a"),
     ("an_error_of_a_file", RULE, f"who --policy main --passwd no\x1b[2Jne --group-file group {HOST} /bin/a"),
@@ -320,7 +322,9 @@ GROWTHS = (
     (f"what --explain {M} -e bob", GROWN),
     (f"why --explain {M} bob /bin/a", GROWN),
     (f"why --explain {M} eve /bin/a", GROWN),
-    ("who --explain --root image /bin/a", below(IMAGE)),
+    (f"why --explain --same /bin=/usr/bin --usr-merge {M} bob /usr/bin/b", {"main": "bob, +x i = /bin/b\nbob ALL = !/usr/bin/b x, (ann) /bin/\n"}),
+    (f"who --explain --usr-merge {M} --denied /bin/a", GROWN),
+    ("who --explain --root image /bin/a", {**below(IMAGE), "image/bin": Link("usr/bin")}),
     ("who --explain --root image /bin/a", below(IMAGE, hostname="")),
     ("who --explain --root image /bin/a", below(IMAGE, passwd=None)),
 )
@@ -333,6 +337,7 @@ IMAGES = (
     ("another_host", IMAGE, "who --host h2 /bin/a", "no user may run it\n", 1),
     ("another_policy", {**IMAGE, "etc/other": "root ALL = ALL\n"}, "who --policy /etc/other /bin/a", "root: /etc/other:1:12: allowed by: (root) SETENV: ALL\n", 0),
     ("included_files", {**IMAGE, "etc/sudoers": "@includedir /etc/sudoers.d\n", "etc/sudoers.d/a": "bob h1 = /bin/a\n"}, "why bob /bin/a", "/etc/sudoers.d/a:1:10: allowed by: (root) /bin/a\n", 0),
+    ("links_of_an_image", {**IMAGE, "bin": Link("usr/bin")}, "who /usr/bin/a", f"same folders: /bin=/usr/bin\n{OF_BOB_IN_IMAGE}", 0),
     ("a_hostname_after_comments", {**IMAGE, "etc/hostname": "# the name\n\n \th1.example \r\nh2\n"}, "who /bin/a", OF_BOB_IN_IMAGE, 0),
     ("a_hostname_without_a_line_end", {**IMAGE, "etc/hostname": "h1"}, "who /bin/a", OF_BOB_IN_IMAGE, 0),
     ("a_group_of_an_image", {**IMAGE, "etc/sudoers": "%adm ALL = /bin/a\n", "etc/group": "adm:x:4:bob\n"}, "who /bin/a", "bob: /etc/sudoers:1:12: allowed by: (root) /bin/a\n", 0),

@@ -43,6 +43,7 @@ PART = "asking_machine"
 FILES = ("--passwd", "passwd", "--group-file", "group")
 NOBODY_MAY = b"no user may run it\n"
 UNDECIDED = b"not decided: "
+NEAR = b": matches but for the "
 ROW = re.compile(rb"(?m)^([^#+\n-][^:\n]*):")
 PLACE = re.compile(rb"    ([^\n]+?):([1-9]\d*):([1-9]\d*): (.+)")
 MEMBER = re.compile(rb"!?[^!,:\\\s]+")
@@ -54,6 +55,13 @@ def words_of(text):
     return tuple(word for word in text.split(" ") if word)
 
 
+def without_links(words):
+    """The words of a command, which leave the links of this machine aside unless they name a root."""
+    command, _, rest = words.partition(" ")
+    has_own = "--root" in rest or "--no-same" in rest
+    return f"{command} --no-same {rest}" if command in ("who", "why") and not has_own else words
+
+
 def names_of(folder):
     """The users of a passwd, in the order of the first rows of their names."""
     with open(os.path.join(folder, "passwd"), "rb") as file:
@@ -61,9 +69,9 @@ def names_of(folder):
 
 
 def decided(answer):
-    """The answer without the lines of what was not decided, which stand last."""
+    """The answer without the lines of rules that match but for one thing, and of what was not decided, which stand last."""
     lines = answer.stdout.splitlines(keepends=True)
-    while lines and lines[-1].startswith(UNDECIDED):
+    while lines and (lines[-1].startswith(UNDECIDED) or NEAR in lines[-1]):
         lines.pop()
     return Answer(b"".join(lines), answer.stderr, answer.status)
 
@@ -87,8 +95,9 @@ class Asking:
         return self.stand.run(["list", *FILES, *self.machine, "-U", os.fsdecode(user), *words], self.folder)
 
     def ask(self, command, *words):
-        """What a command of this module answers."""
-        return self.stand.run([command, "--policy", "main", *FILES, *self.machine, *words], self.folder)
+        """What a command of this module answers, where no folder has two names."""
+        aside = ["--no-same"] if command in ("who", "why") else []
+        return self.stand.run([command, *aside, "--policy", "main", *FILES, *self.machine, *words], self.folder)
 
     def reason(self, user, target, command):
         """What `list --why` answers of a user."""
@@ -180,7 +189,7 @@ def run_answers(stand):
     for name, tree, words, text, status in (*WHO, *WHAT):
         with Folder({**MACHINE, **tree}) as folder:
             text = text if isinstance(text, bytes) else text.encode()
-            stand.note(name, words, Wanted(text, status=status), folder)
+            stand.note(name, without_links(words), Wanted(text, status=status), folder)
 
 
 def run_errors(stand, rows):
@@ -220,7 +229,7 @@ def run_pathless(stand):
     """A command without its path has an advice where errors are explained, behind its answer."""
     with Folder({**MACHINE, "main": "bob ALL = ALL\nbob ALL = !/bin/a\n"}) as folder:
         for words, is_pathless in PATHLESS:
-            command, rest = words.split(" ", 1)
+            command, rest = without_links(words).split(" ", 1)
             plain = stand.run(f"{command} {rest}", folder)
             stand.tally.note(f"{PART}: {words}, plain", difference("standard error", b"", plain.stderr))
             wanted = Wanted(plain.stdout, HELP + ADVISED + b"\n" if is_pathless else b"", plain.status)
@@ -238,6 +247,7 @@ def run_streams(stand):
         with open(os.path.join(folder, "main"), "rb") as file:
             policy = file.read()
         for words in ("who POLICY /bin/a", "who POLICY --denied /bin/b", "what POLICY -e bob", "why POLICY bob /bin/a", "why POLICY ann /bin/a"):
+            words = without_links(words)
             named = stand.run(words.replace("POLICY", M), folder)
             streamed = words.replace("POLICY", f"--policy - {PEOPLE}")
             came = stand.run(streamed, folder, policy)

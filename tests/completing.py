@@ -29,6 +29,7 @@ COMMANDS = ("check", "convert", "edit", "help", "list", "show", "what", "who", "
 OPTIONS_OF_LIST = (
     *("-U", "--other-user", "-u", "--user", "-g", "--group", "--passwd", "--group-file"),
     *("--host", "--moment", "--interfaces", "--root", "--why", "-h", "--help", "--error-status", "--explain", "--plain"),
+    *("--same", "--usr-merge"),
 )
 OPTIONS_OF_CHECK = (
     *("-h", "--help", "-q", "-s", "--root", "--skipped", "--all", "--json"),
@@ -36,10 +37,11 @@ OPTIONS_OF_CHECK = (
 )
 OPTIONS_OF_SHOW = ("--error-status", "--explain", "-h", "--help", "--json", "--plain", "--root")
 OPTIONS_OF_MACHINE = (
-    *("--policy", "--passwd", "--group-file", "--host", "--moment", "--interfaces"),
+    *("--policy", "--passwd", "--group-file", "--host", "--moment", "--interfaces", "--json"),
     *("--root", "--explain", "--plain", "-h", "--help"),
 )
 OPTIONS_OF_TARGET = ("-u", "--user", "-g", "--group")
+OPTIONS_OF_FOLDERS = ("--same", "--usr-merge", "--no-same")
 ALL_FILES = (*FILES, FOLDER)
 FORMS = ("json", "sudoers")
 KEYS = ("group=", "host=", "user=")
@@ -147,6 +149,9 @@ ROWS = (
     (("list", "policy", "w"), ("web team",)),
     (("list", "policy", "--wh"), ("--why",)),
     (("list", "policy", "-U", "roo"), ("root",)),
+    (("list", "--same", "/bin=/usr/bin", "p"), ("policy",)),
+    (("list", "--same", "p"), ()),
+    (("list", "--usr-merge", "w"), ("web team",)),
     (("list", "policy", "--", "w"), ("web team",)),
     (("list", "policy", "/bin/ls", ""), ALL_FILES),
     (("list", "policy", "/bin/ls", "-l", "p"), ("policy",)),
@@ -185,14 +190,20 @@ ROWS = (
     (("wh",), ("what", "who", "why")),
     (("who",), ("who",)),
     (("who", ""), ALL_FILES),
-    (("who", "-"), (*OPTIONS_OF_MACHINE, *OPTIONS_OF_TARGET, "--denied")),
+    (("who", "-"), (*OPTIONS_OF_MACHINE, *OPTIONS_OF_TARGET, *OPTIONS_OF_FOLDERS, "--denied")),
     (("who", "--d"), ("--denied",)),
+    (("who", "--j"), ("--json",)),
+    (("what", "--json", "--j"), ("--json",)),
     (("who", "--p"), ("--passwd", "--plain", "--policy")),
     (("who", "--policy", "w"), ("web team",)),
     (("who", "--policy=p"), ("policy",)),
     (("who", "--passwd", ""), ALL_FILES),
     (("who", "--group-file=w"), ("web team",)),
     (("who", "--host", ""), ()),
+    (("who", "--s"), ("--same",)),
+    (("who", "--same", ""), ()),
+    (("who", "--same", "/bin=/usr/bin", "w"), ("web team",)),
+    (("who", "--no-same", "w"), ("web team",)),
     (("who", "--moment", "p"), ()),
     (("who", "--interfaces", ""), ()),
     (("who", "--root", ""), (FOLDER,)),
@@ -211,13 +222,17 @@ ROWS = (
     (("what", "--ex"), ("--expand-aliases", "--explain")),
     (("what", "root", "--pl"), ("--plain",)),
     (("what", "root", "p"), ()),
-    (("why", "-"), (*OPTIONS_OF_MACHINE, *OPTIONS_OF_TARGET)),
+    (("why", "-"), (*OPTIONS_OF_MACHINE, *OPTIONS_OF_TARGET, *OPTIONS_OF_FOLDERS)),
     (("why", "roo"), ("root",)),
     (("why", "-u", "roo"), ("root",)),
     (("why", "--group=roo"), ("root",)),
     (("why", "--root", "s"), (FOLDER,)),
     (("why", "root", ""), ALL_FILES),
-    (("why", "root", "--us"), ("--user",)),
+    (("why", "root", "--us"), ("--user", "--usr-merge")),
+    (("why", "--n"), ("--no-same",)),
+    (("why", "--same", "p"), ()),
+    (("why", "--same", "/bin=/usr/bin", "roo"), ("root",)),
+    (("why", "--usr-merge", "roo"), ("root",)),
     (("why", "root", "w"), ("web team",)),
     (("why", "root", "/bin/ls", "p"), ("policy",)),
     (("why", "root", "/bin/ls", "-"), ()),

@@ -31,6 +31,10 @@ RUNS = (
     ("missing_file_with_quiet", {}, "check -q main", "NoRoot", "main: no such file"),
     ("folder", {"main": EMPTY_FOLDER}, "check main", "Failed", "main: it is no regular file"),
     ("included_folder", {"main": "@include d\n", "d": EMPTY_FOLDER}, "show main", "Failed", "d: it is no regular file"),
+    (
+        *("name_in_a_folder_that_is_not_utf8", {"main": "@includedir d\n", "d/\udcffx": ""}, "check main", "Failed"),
+        "d: it is a folder, and a name in it is not UTF-8",
+    ),
     ("link_to_itself", {"main": Link("main")}, "convert -f json main", "Failed", "main: its links lead in a circle"),
     ("name_of_300_bytes", {}, f"show {'x' * 300}", "NoRoot", f"{'x' * 300}: its name is too long"),
     ("missing_file_below_a_root", {"r/a": ""}, "check --root r /etc/none", "NoRoot", "/etc/none: no such file"),
@@ -74,7 +78,30 @@ CLOSED = (
     ("closed_passwd", {**RULE, "passwd": Closed("root:x:0:0:::\n")}, f"{ASKED} bob main", "Read", "passwd: permission denied"),
 )
 
+
+
+def excerpts_of_definitions(*places):
+    """The explanation of a definition, by two places: a file, the number of a row, and the user whom the row has."""
+    rows = (f" --> {file}:{row}:12\n  |\n{row} | User_Alias A = {user}\n  |            ^ defined here\n" for file, row, user in places)
+    return "".join(rows) + "  = help: define each alias of a kind once\n"
+
+
+IN_TWO_FILES = {"main": "User_Alias A = x\n@include a\n", "a": "User_Alias A = y\nUser_Alias A = z\n"}
+
 LONG = (
+    (
+        *("definition_before_two_of_another_file", IN_TWO_FILES, "check main", "a: User_Alias A defined twice\n"),
+        excerpts_of_definitions(("main", 1, "x"), ("a", 1, "y")),
+    ),
+    (
+        *("each_definition_of_another_file", IN_TWO_FILES, "check --all main", "a: User_Alias A defined twice\n" * 2),
+        "".join(excerpts_of_definitions(("main", 1, "x"), again) for again in (("a", 1, "y"), ("a", 2, "z"))),
+    ),
+    (
+        *("each_of_three_definitions", {"main": "User_Alias A = x\nUser_Alias A = y\nUser_Alias A = z\n"}),
+        *("check --all main", "main: User_Alias A defined twice\n" * 2),
+        "".join(excerpts_of_definitions(("main", 1, "x"), again) for again in (("main", 2, "y"), ("main", 3, "z"))),
+    ),
     (
         "error_below_a_root",
         {"r/etc/sudoers": "@include x\n", "r/etc/x": "# x\nbob ALL\n"},

@@ -267,6 +267,8 @@ BY_PROGRAM = {
         "explain_edits::explain_script_fault",
     ),
     "json": (
+        "ask::find_user_facts",
+        "ask::list_user_facts",
         "report::JsonDocument::add_list",
         "report::JsonDocument::add_member",
         "report::JsonDocument::make_text",
@@ -285,6 +287,7 @@ BY_PROGRAM = {
     ),
     "asking_machine": (
         "ask::explain_user_answer",
+        "ask::list_rights",
         "ask::list_rights_with_places",
         "ask::list_users_who_may_run",
         "list::append_listed_command",

@@ -1,8 +1,9 @@
-"""Prints policies as JSON documents with `check --json` and `show --json`, and compares them with what is printed without.
+"""Prints policies as JSON documents with `--json`, and compares them with what is printed without.
 
 Each worked policy and each policy of tests/explained is checked and shown: the documents have to say the same errors,
-notes, lines and places, with the same exit status. docs/json.schema.json has to accept each document, if the library
-`jsonschema` is installed. The rows of json_rows.py have whole documents. Each growth of memory of some runs is refused.
+notes, lines and places, with the same exit status. json_asked.py asks them with `who`, `what` and `why`.
+docs/json.schema.json has to accept each document, if the library `jsonschema` is installed. The rows of json_rows.py have
+whole documents. Each growth of memory of some runs is refused.
 """
 
 import glob
@@ -11,6 +12,7 @@ import os
 import subprocess
 import tempfile
 
+import json_asked
 import json_compared as compared
 import worked_policies
 from all_errors import has_place
@@ -130,6 +132,7 @@ def run_policies(program, tally):
             problems = printed.problems_of_check(WORDS)
             if printed.count_lines() <= MOST_LINES:
                 wrong, is_read = printed.problems_of_show()
+                wrong += json_asked.problems_of_policy(ground, number, printed.files, printed.folder, printed.file, printed.stdin)
                 problems += wrong + ([] if is_read else printed.problems_of_check(ALL_WORDS))
                 read[is_read] += 1
             tally.note(f"{PART}: {where}", problems)
@@ -201,7 +204,7 @@ def run_full_device(stand):
 
 
 def run_other_commands(stand):
-    """Only `check` and `show` have the option."""
+    """The other commands do not have the option."""
     for words in ("convert -f json --json main", "list --json main", "edit --json", "--json"):
         with Folder({"main": ""}) as folder:
             came = stand.run(words, folder)
@@ -220,4 +223,5 @@ def run_all(program, tally):
     run_full_device(stand)
     run_other_commands(stand)
     run_growths(stand)
+    json_asked.run_all(stand)
     run_policies(program, tally)

@@ -36,22 +36,22 @@ FEWEST = 1500
 # A word that is a noun as often stands here with the word behind it.
 VERBS = tuple(
     """
-    add advance answer append apply ask bring bump carry change check choose close collect convert copy count cut
-    decide drop edit enter expand expect explain extend filter_policy find finish flatten flip fold follow forget
-    gather get go guard inherit insert join keep leave list load locate look make mark_all mark_cyclic mark_reached
-    mark_used match move note open parse pass plan print prune pull push put read redo rename renew replace
-    report_fault resolve rewrite run search select set settle show skip sort spend split store strip swap take tell
-    turn undo visit walk write
+    add advance answer append apply ask bring bump carry change check choose clear close collect convert copy count
+    cut decide drop edit enter expand expect explain extend filter_policy find finish flatten flip fold follow
+    forget gather get go guard include inherit insert join keep leave list load locate look make mark_all
+    mark_cyclic mark_reached mark_used match move note open parse pass plan print prune pull push put read redo
+    rename renew replace report_fault resolve restart rewrite run search select set settle show skip sort spend
+    split start store strip swap take tell turn undo visit walk write
     """.split()
 )
 SAYING = tuple(
     """
-    allows applies begins belongs brings comes continues ends fits follows has hits keeps leads leaves loses matches
+    allows applies begins belongs brings comes continues ends fits follows has hits includes keeps leads leaves loses matches
     names owns permits reads says sets speaks suits takes
     """.split()
 )
 WHOLE = ("new", "of", "from", "into", "len", "main")
-BEGINNINGS = ("from_", "into_", "as_", "to_", "is_", "has_", "may_", "can_", "are_")
+BEGINNINGS = ("from_", "into_", "as_", "to_", "without_", "is_", "has_", "may_", "can_", "are_", "does_")
 PREPOSITIONS = "of at in behind after before within below for as with without over by up_to"
 ENDINGS = tuple(f"_{word}" for word in f"{PREPOSITIONS} len count".split())
 

@@ -34,28 +34,28 @@ EXACT = (
     (
         "a_netgroup_that_could_deny",
         "ann ALL = ALL\n+ops ALL = !/bin/su\n",
-        "why --policy main PEOPLE --host h ann /bin/su",
+        "why --no-same --policy main PEOPLE --host h ann /bin/su",
         "main:1:11: allowed by: (root) SETENV: ALL\nnot decided: main:2:1: +ops: netgroups are not looked up\n",
         0,
     ),
     (
         "a_netgroup_behind_which_a_rule_decides",
         "+ops ALL = !/bin/su\nann ALL = ALL\n",
-        "why --policy main PEOPLE --host h ann /bin/su",
+        "why --no-same --policy main PEOPLE --host h ann /bin/su",
         "main:2:11: allowed by: (root) SETENV: ALL\n",
         0,
     ),
     (
         "a_denial_of_another_path",
         "ann ALL = ALL, !/bin/su\n",
-        "why --policy main PEOPLE --host h ann /usr/bin/su",
+        "why --no-same --policy main PEOPLE --host h ann /usr/bin/su",
         "main:1:11: allowed by: (root) SETENV: ALL\nnot decided: main:1:16: !/bin/su: both paths may be one file\n",
         0,
     ),
     (
         "who_names_the_user",
         "bob ALL = /bin/a\n%:staff ALL = sha224:00000000000000000000000000000000000000000000000000000000 /bin/a\n",
-        "who --policy main PEOPLE --host h /bin/a",
+        "who --no-same --policy main PEOPLE --host h /bin/a",
         "bob: main:1:11: allowed by: (root) /bin/a\n"
         + "".join(
             f"not decided: {name}: main:2:1: %:staff: non-Unix groups are not looked up\n"
@@ -69,7 +69,7 @@ EXACT = (
 
 def words_of(request):
     """The words that ask the request of a policy, without the user and the command."""
-    words = ["--policy", "main", *PEOPLE_WORDS, "--host", request.host, "--moment", MOMENT, "-u", request.target]
+    words = ["--no-same", "--policy", "main", *PEOPLE_WORDS, "--host", request.host, "--moment", MOMENT, "-u", request.target]
     words += ["--interfaces", request.interfaces] if request.interfaces else []
     return words + (["-g", request.group] if request.group else [])
 

@@ -64,6 +64,9 @@ WORDS = {"user": "User_Alias", "runas": "Runas_Alias", "host": "Host_Alias", "cm
 class Writer:
     """Writes a policy, and notes at which line and byte each member begins."""
 
+    forms = FORMS
+    negates = 0.3
+
     def __init__(self, chance):
         self.chance = chance
         self.lines = [""]
@@ -79,11 +82,11 @@ class Writer:
 
     def member(self, kind, names):
         """Writes a member that names no alias but these and ZZ, which is never defined."""
-        forms = [(form, [text for text in texts if form != "alias" or text in names + ("ZZ",)]) for _, form, texts in FORMS[kind]]
-        form, texts = self.chance.choices(forms, [often for often, _, _ in FORMS[kind]])[0]
+        forms = [(form, [text for text in texts if form != "alias" or text in names + ("ZZ",)]) for _, form, texts in self.forms[kind]]
+        form, texts = self.chance.choices(forms, [often for often, _, _ in self.forms[kind]])[0]
         text = self.chance.choice(texts)
         digest = kind == "cmnd" and form == "path" and self.chance.random() < 0.25
-        negated = not digest and self.chance.random() < 0.3
+        negated = not digest and self.chance.random() < self.negates
         start = len(self.lines[-1])
         self.write((DIGEST + " " if digest else "") + ("!" if negated else "") + text)
         return Member(form, text, negated, digest, len(self.lines) - 1, start, self.alias)

@@ -20,6 +20,7 @@ function __sudoers_tool_plain_words
             contains -- edit $plain; and contains -- $word --also --files --undo --redo; and set option $word
             contains -- "$plain[1]" list what who why; and contains -- $word --passwd --group-file --host --moment --interfaces --policy; and set option $word
             contains -- "$plain[1]" who why; and contains -- $word -u --user -g --group; and set option $word
+            contains -- "$plain[1]" list who why; and contains -- $word --same; and set option $word
         else
             set -a plain $word
             # What comes after the command that list, who or why asks about belongs to it.
@@ -128,6 +129,8 @@ complete -c sudoers_tool -n __sudoers_tool_option_of_list -l group-file -r -F -d
 complete -c sudoers_tool -n __sudoers_tool_option_of_list -l host -x -d 'Long name of the host'
 complete -c sudoers_tool -n __sudoers_tool_option_of_list -l moment -x -d 'Moment in UTC, as 20260101120000Z'
 complete -c sudoers_tool -n __sudoers_tool_option_of_list -l interfaces -x -d 'Addresses of the host, as 10.1.2.9/24'
+complete -c sudoers_tool -n __sudoers_tool_option_of_list -l same -x -d 'Two folders that are one, as /bin=/usr/bin'
+complete -c sudoers_tool -n __sudoers_tool_option_of_list -l usr-merge -d 'The folders of /usr are those of the root'
 complete -c sudoers_tool -n __sudoers_tool_option_of_list -l why -d 'Print the rule that decides'
 complete -c sudoers_tool -n '__fish_seen_subcommand_from check convert edit show' -l root -x -a '(__fish_complete_directories)' -d 'Folder that is the root for the policy and the files that it includes'
 complete -c sudoers_tool -n __sudoers_tool_option_of_list -l root -x -a '(__fish_complete_directories)' -d 'Folder that is the root for the policy and the files that it includes'
@@ -141,6 +144,9 @@ complete -c sudoers_tool -n '__sudoers_tool_argument_of check convert edit list 
 complete -c sudoers_tool -n '__sudoers_tool_option_of who why' -s u -l user -x -a '(__fish_complete_users)' -d 'User as whom it would run'
 complete -c sudoers_tool -n '__sudoers_tool_option_of who why' -s g -l group -x -a '(__fish_complete_groups)' -d 'Group as which it would run'
 complete -c sudoers_tool -n '__sudoers_tool_option_of who' -l denied -d 'Print also the users whom a rule denies'
+complete -c sudoers_tool -n '__sudoers_tool_option_of who why' -l same -x -d 'Two folders that are one, as /bin=/usr/bin'
+complete -c sudoers_tool -n '__sudoers_tool_option_of who why' -l usr-merge -d 'The folders of /usr are those of the root'
+complete -c sudoers_tool -n '__sudoers_tool_option_of who why' -l no-same -d 'Leave the links /bin and /sbin aside'
 complete -c sudoers_tool -n '__sudoers_tool_option_of what' -s e -l expand-aliases -d 'Replace aliases by their members'
 complete -c sudoers_tool -n '__sudoers_tool_option_of what who why' -l policy -r -F -d 'Policy file; without it /etc/sudoers'
 complete -c sudoers_tool -n '__sudoers_tool_option_of what who why' -l passwd -r -F -d 'File of users; without it /etc/passwd'
@@ -148,6 +154,7 @@ complete -c sudoers_tool -n '__sudoers_tool_option_of what who why' -l group-fil
 complete -c sudoers_tool -n '__sudoers_tool_option_of what who why' -l host -x -d 'Long name of the host; without it that in /etc/hostname'
 complete -c sudoers_tool -n '__sudoers_tool_option_of what who why' -l moment -x -d 'Moment in UTC, as 20260101120000Z; without it now'
 complete -c sudoers_tool -n '__sudoers_tool_option_of what who why' -l interfaces -x -d 'Addresses of the host, as 10.1.2.9/24'
+complete -c sudoers_tool -n '__sudoers_tool_option_of what who why' -l json -d 'Print one JSON document, also for an error'
 complete -c sudoers_tool -n '__sudoers_tool_option_of what who why' -l root -x -a '(__fish_complete_directories)' -d 'Folder that is the root for the policy and for the files of the machine'
 complete -c sudoers_tool -n '__sudoers_tool_option_of what who why' -l explain -d 'Explain an error, also where standard error is no terminal'
 complete -c sudoers_tool -n '__sudoers_tool_option_of what who why' -l plain -d 'Print an error alone, also on a terminal'

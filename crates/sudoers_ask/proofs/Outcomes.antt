@@ -1,5 +1,6 @@
 -- Questions that have no answer.
-use Rattle.std.proofs.Common.{◌≡◌, ◌⊎◌, ◌<◌, inl, inr, List, ℕ, length, Ok, Err, Result, ap, refl, subst, sym, ◌∙◌}
+use Rattle.std.proofs.Common.{◌≡◌, ◌⊎◌, ◌<◌, inl, inr, IfErr, List, ℕ, length, Ok, Err, Result, ap, refl, subst, sym, ◌∙◌}
+use Rattle.std.specs.Result.{IsErrAnd}
 use Rattle.sudoers_tree.specs.Line.{Line}
 use Rattle.sudoers_check.specs.Chains.{HasCyclicAliasReachedFromSpecOrDefaults}
 use Rattle.sudoers_match_member.specs.declared.people_and_commands.Who.{Who as WhoOf}
@@ -14,6 +15,7 @@ use Rattle.sudoers_list_people.specs.People.{People}
 use Rattle.sudoers_list_people.specs.Person.{who_or_who_fault}
 use Rattle.sudoers_list_people.specs.Asked.{request_or_who_fault}
 use Rattle.sudoers_ask.specs.declared.question.CommandQuestion.{CommandQuestion}
+use Rattle.sudoers_ask.specs.declared.question.QuestionFault.{QuestionFault}
 use Rattle.sudoers_ask.specs.declared.question.QuestionFault.TheVariants.{Ask, Who}
 use Rattle.sudoers_ask.specs.Outcome.{IsMemoryFault, IsOutcomeOfRequest, IsOutcomeOfWhoOrFault, IsUserOutcome, IsUserRequest, optional_name_of_view, target_name}
 
@@ -33,7 +35,7 @@ module _ (lines : List Line) (people : People) (q : CommandQuestion) (user : Lis
       (record {
         default = default;
         is_default = is_default;
-        asked = subst (λ (asked : Result Request WhoFault). IsOutcomeOfRequest lines default asked (Err (Who fault)))
+        asked = subst (λ (asked : Result Request WhoFault). IsOutcomeOfRequest lines q default asked (Err (Who fault)))
             (sym told ∙ ap (λ t. request_or_who_fault people asks t (optional_name_of_view q.group) q.words.now q.moment.now) named) refl;
       }))
 
@@ -46,7 +48,7 @@ module _ (lines : List Line) (people : People) (q : CommandQuestion) (user : Lis
       (record {
         default = default;
         is_default = u.is_default;
-        asked = subst (λ (asked : Result Request WhoFault). IsOutcomeOfRequest lines default asked (Err (Ask fault))) (sym u.asks) (ap Ask is.0, is.1);
+        asked = subst (λ (asked : Result Request WhoFault). IsOutcomeOfRequest lines q default asked (Err (Ask fault))) (sym u.asks) (ap Ask is.0, is.1);
       }))
 
 -- a policy of which a reachable alias is cyclic
@@ -55,3 +57,9 @@ pub cycle_refused : (P : Type 0) (lines walk : List Line) → walk ≡ lines →
     → IsMemoryFault (Ask fault) ⊎ (((Ask fault ≡ Ask Cycle) × HasCyclicAliasReachedFromSpecOrDefaults lines) ⊎ P)
 cycle_refused P lines walk same fault (inl e) = inl (inl (ap Ask e))
 cycle_refused P lines walk same fault (inr is) = inr (inl (ap Ask is.0, subst HasCyclicAliasReachedFromSpecOrDefaults same is.1))
+
+-- want of memory
+pub memory_refused : {X : Type 0} (P : QuestionFault → Type 0) (result : Result X QuestionFault) → IsErrAnd result (λ (fault : QuestionFault). fault ≡ Ask NoMemory)
+    → ((fault : QuestionFault) → IsMemoryFault fault → P fault) → IfErr result P
+memory_refused P (Ok x) is next = tt
+memory_refused P (Err fault) is next = next fault (inl is)

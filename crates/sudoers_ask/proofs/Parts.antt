@@ -6,12 +6,12 @@ use Rattle.sudoers_tree.specs.Line.{Line}
 use Rattle.sudoers_match_member.specs.declared.people_and_commands.Who.{Who}
 use Rattle.sudoers_match_member.specs.declared.request.Request.{Request}
 use Rattle.sudoers_match_list.specs.Alike.{IsPointwiseRelated}
-use Rattle.sudoers_match.specs.Answer.{Answer, IsAnswerToRequest, joined_arguments_limit, words_joined_with_spaces}
+use Rattle.sudoers_match.specs.Answer.{Answer, joined_arguments_limit, words_joined_with_spaces}
 use Rattle.sudoers_match.proofs.Gathered.{list_from_index_is_element_and_rest}
 use Rattle.sudoers_list_people.specs.declared.fault.WhoFault.{WhoFault}
 use Rattle.sudoers_list_people.specs.People.{People}
 use Rattle.sudoers_ask.specs.declared.question.CommandQuestion.{CommandQuestion}
-use Rattle.sudoers_ask.specs.Outcome.{AnsweredRequest, IsOutcomeOfRequest, IsOutcomeOfWhoOrFault, IsUserOutcome, IsUserRequest}
+use Rattle.sudoers_ask.specs.Outcome.{AnsweredRequest, IsAnswerToQuestion, IsOutcomeOfRequest, IsOutcomeOfWhoOrFault, IsUserOutcome, IsUserRequest}
 use Rattle.sudoers_ask.specs.Users.{UserPart}
 
 pub one_more_related : {X Y : Type 0} (R : X → Y → Type 0) (xs : List X) (ys : List Y) (x : X) (y : Y) → IsPointwiseRelated R xs ys → R x y → IsPointwiseRelated R (xs ++ x ∷ []) (ys ++ y ∷ [])
@@ -44,7 +44,7 @@ one_more_allowed (p ∷ parts) part =
 
 -- a request that is answered is the outcome of its user
 pub answered_request_is_outcome : (lines : List Line) (people : People) (q : CommandQuestion) (user : List ℕ) (r : Request) (default : List ℕ) (answer : Option Answer)
-    → IsUserRequest lines people q user r default → length (words_joined_with_spaces r.args) ≤ joined_arguments_limit → IsAnswerToRequest lines r answer
+    → IsUserRequest lines people q user r default → length (words_joined_with_spaces r.args) ≤ joined_arguments_limit → IsAnswerToQuestion lines q r answer
     → IsUserOutcome lines people q user (Ok (record { request = r; default = default; answer = answer }))
 answered_request_is_outcome lines people q user r default answer u short is =
     let told : AnsweredRequest = record { request = r; default = default; answer = answer } in
@@ -52,7 +52,7 @@ answered_request_is_outcome lines people q user r default answer u short is =
     (record {
       default = default;
       is_default = u.is_default;
-      asked = subst (λ (asked : Result Request WhoFault). IsOutcomeOfRequest lines default asked (Ok told)) (sym u.asks) (short, refl, refl, is);
+      asked = subst (λ (asked : Result Request WhoFault). IsOutcomeOfRequest lines q default asked (Ok told)) (sym u.asks) (short, refl, refl, is);
     })
 
 -- ---- results, and lists up to a place

@@ -1,14 +1,13 @@
 -- Requests of users, and what they have in common.
-use Rattle.std.proofs.Common.{◌≡◌, ◌⊎◌, ℕ, List, Option, Some, None, Result, Ok, Err, ap, refl, subst, sym, ◌∙◌}
+use Rattle.std.proofs.Common.{◌≡◌, ◌⊎◌, ℕ, List, Option, Some, None, Result, Ok, Err, refl, subst, sym, ◌∙◌}
 use Rattle.std.specs.Borrow.{Bor}
 use Rattle.sudoers_tree.specs.Line.{Line}
-use Rattle.sudoers_match_member.specs.declared.people_and_commands.CommandLine.{CommandLine}
 use Rattle.sudoers_match_member.specs.declared.people_and_commands.Group.{Group}
 use Rattle.sudoers_match_member.specs.declared.people_and_commands.Who.{Who}
 use Rattle.sudoers_match_member.specs.declared.network.Interface.{Interface}
 use Rattle.sudoers_match_member.specs.declared.request.Request.{Request}
 use Rattle.sudoers_match.specs.declared.specs_for_command.SpecOnLine.{SpecOnLine}
-use Rattle.sudoers_match.specs.Answer.{command_with_joined_arguments_of_request, words_joined_with_spaces}
+use Rattle.sudoers_match.specs.Spellings.{is_spelled_command_match}
 use Rattle.sudoers_match.specs.ForCommand.{AreSpecsForCommand}
 use Rattle.sudoers_match.proofs.ForCommands.{specs_serve_same_host}
 use Rattle.sudoers_list_people.specs.declared.account_and_group_row_types.PasswdAccount.{PasswdAccount}
@@ -17,6 +16,7 @@ use Rattle.sudoers_list_people.specs.People.{People}
 use Rattle.sudoers_list_people.specs.Person.{account_named, interfaces_of_text, short_name_of_host, who_from_account_and_interfaces, who_or_who_fault}
 use Rattle.sudoers_list_people.specs.Asked.{argument_words_after_first, command_of_words, group_requested_by_name, moment_of_stamp, request_from_lookup_results, request_or_who_fault}
 use Rattle.sudoers_ask.specs.declared.question.CommandQuestion.{CommandQuestion}
+use Rattle.sudoers_ask.specs.Same.{spelled_command_of_question}
 use Rattle.sudoers_ask.specs.Outcome.{AreSpecsForQuestion, IsRequestForQuestion, IsUserRequest}
 
 -- ---- the user and the host
@@ -90,11 +90,8 @@ same_interfaces o x y a b = let two : Some x ≡ Some y = sym a ∙ b in let sam
 
 -- The user specifications that serve one request of a question serve all.
 pub specs_of_request_serve_question : (lines : List Line) (q : CommandQuestion) (r : Request) (specs : List SpecOnLine) → IsRequestForQuestion q r
-    → AreSpecsForCommand lines r.who (command_with_joined_arguments_of_request r) specs → AreSpecsForQuestion lines q specs
+    → AreSpecsForCommand lines r.who (is_spelled_command_match (spelled_command_of_question q)) specs → AreSpecsForQuestion lines q specs
 specs_of_request_serve_question lines q r specs is are other of =
-    subst (λ (command : CommandLine). AreSpecsForCommand lines other.who command specs)
-    (ap (λ path. record { path = path; args = words_joined_with_spaces r.args }) (is.command ∙ sym of.command)
-    ∙ ap (λ args. record { path = other.command; args = words_joined_with_spaces args }) (is.args ∙ sym of.args))
-    (specs_serve_same_host lines r.who other.who (of.long ∙ sym is.long) (of.short ∙ sym is.short)
+    specs_serve_same_host lines r.who other.who (of.long ∙ sym is.long) (of.short ∙ sym is.short)
     (same_interfaces (interfaces_of_text q.interfaces.now) other.who.interfaces r.who.interfaces of.interfaces is.interfaces)
-    (command_with_joined_arguments_of_request r) specs are)
+    (is_spelled_command_match (spelled_command_of_question q)) specs are

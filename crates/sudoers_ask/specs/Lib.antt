@@ -1,3 +1,4 @@
+pub mod Same
 pub mod Outcome
 pub mod Users
 pub mod Why

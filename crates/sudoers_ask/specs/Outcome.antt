@@ -7,9 +7,10 @@ use Rattle.sudoers_match_member.specs.declared.people_and_commands.Who.{Who}
 use Rattle.sudoers_match_member.specs.declared.request.Request.{Request}
 use Rattle.sudoers_match_list.specs.declared.verdict.AskFault.TheVariants.{NoMemory, TooLong}
 use Rattle.sudoers_match.specs.declared.specs_for_command.SpecOnLine.{SpecOnLine}
-use Rattle.sudoers_match.specs.Answer.{Answer, IsAnswerToRequest, command_with_joined_arguments_of_request, joined_arguments_limit, words_joined_with_spaces}
+use Rattle.sudoers_match.specs.Answer.{Answer, IsAnswerByCommandTest, joined_arguments_limit, words_joined_with_spaces}
 use Rattle.sudoers_match.specs.ForCommand.{AreSpecsForCommand}
 use Rattle.sudoers_match.specs.Default.{IsRunasDefault}
+use Rattle.sudoers_match.specs.Spellings.{is_spelled_command_match}
 use Rattle.sudoers_list_people.specs.declared.fault.WhoFault.{WhoFault}
 use Rattle.sudoers_list_people.specs.declared.fault.WhoFault.TheVariants as who
 use Rattle.sudoers_list_people.specs.People.{People}
@@ -18,6 +19,7 @@ use Rattle.sudoers_list_people.specs.Asked.{argument_words_after_first, command_
 use Rattle.sudoers_ask.specs.declared.question.CommandQuestion.{CommandQuestion}
 use Rattle.sudoers_ask.specs.declared.question.QuestionFault.{QuestionFault}
 use Rattle.sudoers_ask.specs.declared.question.QuestionFault.TheVariants as question
+use Rattle.sudoers_ask.specs.Same.{spelled_command_of_question}
 
 -- a request, as whom a command runs for its user where nothing else is said, and the answer
 pub record AnsweredRequest : Type 0 where
@@ -38,20 +40,24 @@ target_name (Some target) group user default = target
 target_name None (Some group) user default = user
 target_name None None user default = default
 
--- The answer to the request is that of the last row that fits. If its arguments are too long, the outcome is `TooLong`.
-abbrev pub IsOutcomeOfAnswer : List Line → List ℕ → Request → UserOutcome → Type 0
-IsOutcomeOfAnswer lines default r (Ok told) =
-    (length (words_joined_with_spaces r.args) ≤ joined_arguments_limit) × (told.request ≡ r) × (told.default ≡ default) × IsAnswerToRequest lines r told.answer
-IsOutcomeOfAnswer lines default r (Err fault) = (fault ≡ question.Ask TooLong) × (joined_arguments_limit < length (words_joined_with_spaces r.args))
+-- Of all rows the last gives the answer that fits the request with one of the spellings of the command.
+abbrev pub IsAnswerToQuestion : List Line → CommandQuestion → Request → Option Answer → Type 0
+IsAnswerToQuestion lines q = IsAnswerByCommandTest lines (is_spelled_command_match (spelled_command_of_question q))
 
-abbrev pub IsOutcomeOfRequest : List Line → List ℕ → Result Request WhoFault → UserOutcome → Type 0
-IsOutcomeOfRequest lines default (Ok r) outcome = IsOutcomeOfAnswer lines default r outcome
-IsOutcomeOfRequest lines default (Err said) outcome = outcome ≡ Err (question.Who said)
+-- The answer to the request is that of the last row that fits. If its arguments are too long, the outcome is `TooLong`.
+abbrev pub IsOutcomeOfAnswer : List Line → CommandQuestion → List ℕ → Request → UserOutcome → Type 0
+IsOutcomeOfAnswer lines q default r (Ok told) =
+    (length (words_joined_with_spaces r.args) ≤ joined_arguments_limit) × (told.request ≡ r) × (told.default ≡ default) × IsAnswerToQuestion lines q r told.answer
+IsOutcomeOfAnswer lines q default r (Err fault) = (fault ≡ question.Ask TooLong) × (joined_arguments_limit < length (words_joined_with_spaces r.args))
+
+abbrev pub IsOutcomeOfRequest : List Line → CommandQuestion → List ℕ → Result Request WhoFault → UserOutcome → Type 0
+IsOutcomeOfRequest lines q default (Ok r) outcome = IsOutcomeOfAnswer lines q default r outcome
+IsOutcomeOfRequest lines q default (Err said) outcome = outcome ≡ Err (question.Who said)
 
 pub record IsOutcomeOfWho (lines : List Line) (people : People) (q : CommandQuestion) (user : List ℕ) (asks : Who) (outcome : UserOutcome) : Type 0 where
   pub default : List ℕ
   pub is_default : IsRunasDefault lines asks default
-  pub asked : IsOutcomeOfRequest lines default
+  pub asked : IsOutcomeOfRequest lines q default
       (request_or_who_fault people asks (target_name (optional_name_of_view q.target) (optional_name_of_view q.group) user default) (optional_name_of_view q.group) q.words.now q.moment.now)
       outcome
 
@@ -80,7 +86,7 @@ pub record IsRequestForQuestion (q : CommandQuestion) (r : Request) : Type 0 whe
 
 -- Whoever asks, each user specification matters that has a row for the command on the host.
 abbrev pub AreSpecsForQuestion : List Line → CommandQuestion → List SpecOnLine → Type 0
-AreSpecsForQuestion lines q specs = (r : Request) → IsRequestForQuestion q r → AreSpecsForCommand lines r.who (command_with_joined_arguments_of_request r) specs
+AreSpecsForQuestion lines q specs = (r : Request) → IsRequestForQuestion q r → AreSpecsForCommand lines r.who (is_spelled_command_match (spelled_command_of_question q)) specs
 
 -- The request is that of the user with this name, and this is as whom a command runs for him where nothing else is said.
 pub record IsUserRequest (lines : List Line) (people : People) (q : CommandQuestion) (user : List ℕ) (r : Request) (default : List ℕ) : Type 0 where

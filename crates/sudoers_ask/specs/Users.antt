@@ -2,18 +2,21 @@
 use Rattle.std.specs.Prelude.{◌≡◌, ◌⊎◌, ◌==◌, ◌||◌, ℕ, Bool, true, false, List, [], ◌∷◌, ◌++◌, codes, map, Option, Some, None, Ok, Err, MatchBool, if◌then◌else◌}
 use Rattle.std.specs.List.{flat_map, list_any}
 use Rattle.std.specs.Option.{option_map, is_some}
+use Rattle.sudoers_grammar.specs.declared.node.Atom.{Atom}
 use Rattle.sudoers_tree.specs.Load.{LoadedPolicy}
 use Rattle.sudoers_match_list.specs.Alike.{IsPointwiseRelated}
 use Rattle.sudoers_match_member.specs.declared.request.Request.{Request}
 use Rattle.sudoers_match.specs.Answer.{Answer}
 use Rattle.sudoers_match.specs.Found.{answer_without_member_and_settings}
+use Rattle.sudoers_match.specs.Spellings.{is_spelled_command_match}
 use Rattle.sudoers_list_people.specs.People.{People}
 use Rattle.sudoers_list_people.specs.declared.account_and_group_row_types.PasswdAccount.{PasswdAccount}
-use Rattle.sudoers_list.specs.Reason.{IsReasonText}
+use Rattle.sudoers_list.specs.Reason.{IsReasonTextByTest}
 use Rattle.sudoers_ask.specs.declared.question.CommandQuestion.{CommandQuestion}
 use Rattle.sudoers_ask.specs.declared.question.QuestionFault.{QuestionFault}
 use Rattle.sudoers_ask.specs.declared.user_answer.UserAnswer.{UserAnswer}
 use Rattle.sudoers_ask.specs.Outcome.{AnsweredRequest, IsUserOutcome}
+use Rattle.sudoers_ask.specs.Same.{spelled_command_of_question}
 
 -- what is held of an answered request
 abbrev pub answered_request_of_view : UserAnswer → AnsweredRequest
@@ -34,9 +37,9 @@ abbrev pub is_user_shown : Bool → Option Answer → Bool
 is_user_shown denied answer = is_answer_allowing answer || (if denied then is_some answer else false)
 
 -- The text is the reason of the answer, with the name of the user before each line.
-pub record IsReasonOfUser (policy : LoadedPolicy) (name : List ℕ) (request : Request) (answer : Option Answer) (text : List ℕ) : Type 0 where
+pub record IsReasonOfUserByTest (policy : LoadedPolicy) (test : Atom → Bool) (name : List ℕ) (request : Request) (answer : Option Answer) (text : List ℕ) : Type 0 where
   pub reason : List ℕ
-  pub is_reason : IsReasonText policy request answer reason
+  pub is_reason : IsReasonTextByTest policy test request answer reason
   pub says : text ≡ text_with_prefixed_lines true (name ++ codes ": ") reason
 
 -- what is written of a user, and whether he may run the command
@@ -48,7 +51,7 @@ pub record UserPart : Type 0 where
 pub record IsPartOfUser (policy : LoadedPolicy) (people : People) (q : CommandQuestion) (denied : Bool) (name : List ℕ) (part : UserPart) : Type 0 where
   pub told : AnsweredRequest
   pub asked : IsUserOutcome policy.walk.lines people q name (Ok told)
-  pub text : MatchBool (is_user_shown denied told.answer) (IsReasonOfUser policy name told.request told.answer part.text) (part.text ≡ [])
+  pub text : MatchBool (is_user_shown denied told.answer) (IsReasonOfUserByTest policy (is_spelled_command_match (spelled_command_of_question q)) name told.request told.answer part.text) (part.text ≡ [])
   pub allowed : part.allowed ≡ is_answer_allowing told.answer
 
 abbrev pub ArePartsOfUsers : LoadedPolicy → People → CommandQuestion → Bool → List PasswdAccount → List UserPart → Type 0

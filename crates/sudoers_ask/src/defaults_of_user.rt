@@ -6,11 +6,11 @@ ghost use Rattle.sudoers_match_member.specs.Hits.{is_user_atom_match, is_host_at
 ghost use Rattle.sudoers_match_list.specs.Search.{IsValidVerdictCache};
 
 use crate::list_allowing::is_list_allowing;
+use crate::placed_text::{PlacedText, WalkPlace, append_placed_lines};
 use crate::rights_fault::RightsFault;
 use std::alloc::{AllocError, Global};
 use sudoers_cvt_spell::append_defaults;
 use sudoers_line_rows::{Node, ParamRow, RowsOfTable, Scope};
-use sudoers_list::append_place_on_walk_line;
 use sudoers_match_list::{AcyclicWalk, AliasVerdictCache, AskFault, HostListKind, UserListKind};
 use sudoers_match_member::Who;
 use sudoers_tree::{Kind, Policy};
@@ -26,46 +26,58 @@ enum DefaultsReach {
     None,
 }
 
-/// Appends the Defaults lines of `policy` that hold of `who`, each with its place; then those that hold of some commands, or as some users.
+/// The Defaults lines that hold of a user: those of all his commands, and those of some commands, or as some users.
+#[derive(Drop)]
+pub struct DefaultsOfUser {
+    pub of_all: Vec<PlacedText>,
+    pub of_some: Vec<PlacedText>,
+}
+
+/// Returns the Defaults lines of the walk `acyclic` that hold of `who`.
 ///
 /// # Errors
 ///
 /// `Cycle`: a list leads to a cyclic alias. `NoMemory`: memory ran out.
-pub fn append_defaults_of_user<'a>(
+pub fn list_defaults_of_user<'a>(
+    alloc: Global,
+    acyclic: &AcyclicWalk<'a>,
+    who: &Who,
+) -> Result<DefaultsOfUser, RightsFault> {
+    Ok(DefaultsOfUser {
+        of_all: list_defaults_with_reach(alloc, acyclic, who, DefaultsReach::All)?,
+        of_some: list_defaults_with_reach(alloc, acyclic, who, DefaultsReach::Some)?,
+    })
+}
+
+/// Appends the Defaults lines `defaults` of `policy`, each with its place, in two lists.
+///
+/// # Errors
+///
+/// Memory ran out.
+pub fn append_defaults_of_user(
     alloc: Global,
     out: &mut Vec<u8>,
     policy: &Policy,
-    acyclic: &AcyclicWalk<'a>,
-    who: &Who,
-) -> Result<(), RightsFault> {
-    let of_all = list_defaults_with_reach(alloc, policy, acyclic, who, DefaultsReach::All)?;
-    append_section(out, b"Defaults:\n", of_all.as_slice())?;
-    let of_some = list_defaults_with_reach(alloc, policy, acyclic, who, DefaultsReach::Some)?;
-    append_section(
-        out,
-        b"Defaults for some commands or runas users:\n",
-        of_some.as_slice(),
-    )?;
+    defaults: &DefaultsOfUser,
+) -> Result<(), AllocError> {
+    if !defaults.of_all.is_empty() {
+        out.extend_from_slice(b"Defaults:\n")?;
+        append_placed_lines(alloc, out, policy, defaults.of_all.as_slice())?;
+    }
+    if !defaults.of_some.is_empty() {
+        out.extend_from_slice(b"Defaults for some commands or runas users:\n")?;
+        append_placed_lines(alloc, out, policy, defaults.of_some.as_slice())?;
+    }
     Ok(())
 }
 
-/// Appends `heading` and `text`, if there is a text.
-fn append_section(out: &mut Vec<u8>, heading: &[u8], text: &[u8]) -> Result<(), AllocError> {
-    if text.is_empty() {
-        return Ok(());
-    }
-    out.extend_from_slice(heading)?;
-    out.extend_from_slice(text)
-}
-
-/// Returns the Defaults lines of `policy` with the reach `wanted` for `who`, as a text.
+/// Returns the Defaults lines with the reach `wanted` for `who`.
 fn list_defaults_with_reach<'a>(
     alloc: Global,
-    policy: &Policy,
     acyclic: &AcyclicWalk<'a>,
     who: &Who,
     wanted: DefaultsReach,
-) -> Result<Vec<u8>, RightsFault> {
+) -> Result<Vec<PlacedText>, RightsFault> {
     let mut out = Vec::new(alloc);
     let mut users = acyclic.make_verdict_cache(alloc)?;
     let mut hosts = acyclic.make_verdict_cache(alloc)?;
@@ -74,27 +86,30 @@ fn list_defaults_with_reach<'a>(
         if let Node::Defaults { scope, params } = lines.tables.node_of_row(&row.node) {
             let reach = find_reach_of_scope(&mut users, &mut hosts, acyclic, who, &scope)?;
             if reach == wanted {
-                append_defaults_line(alloc, &mut out, policy, line, &scope, &params)?;
+                append_defaults_line(alloc, &mut out, line, &scope, &params)?;
             }
         }
     }
     Ok(out)
 }
 
-/// Appends a Defaults line, and before it the place of its line, which has the number `line`.
+/// Appends a Defaults line, which has the number `line`.
 fn append_defaults_line(
     alloc: Global,
-    out: &mut Vec<u8>,
-    policy: &Policy,
+    out: &mut Vec<PlacedText>,
     line: usize,
     scope: &Option<Scope<'_>>,
     params: &RowsOfTable<'_, ParamRow>,
 ) -> Result<(), AllocError> {
-    out.extend_from_slice(b"    ")?;
-    append_place_on_walk_line(alloc, out, policy, line, 0)?;
-    out.extend_from_slice(b": ")?;
-    append_defaults(alloc, out, scope, params)?;
-    out.extend_from_slice(b"\n")
+    let place = WalkPlace {
+        line,
+        start: 0,
+        stop: usize::MAX,
+    };
+    let mut text = Vec::new(alloc);
+    append_defaults(alloc, &mut text, scope, params)?;
+    out.push(PlacedText { place, text })?;
+    Ok(())
 }
 
 /// Returns of which runs of `who` a setting with this scope holds.

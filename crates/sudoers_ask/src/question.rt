@@ -6,11 +6,20 @@ use sudoers_list_people::WhoFault;
 use sudoers_match_list::AskFault;
 use thiserror::Error;
 
+/// Two names of one folder, without a `/` at the end.
+#[derive(Clone, Copy)]
+pub struct FolderPair<'a> {
+    pub first: &'a [u8],
+    pub second: &'a [u8],
+}
+
 /// A command that users ask for: as whom it is to run, where and when.
 #[derive(Clone, Copy)]
 pub struct CommandQuestion<'a> {
     /// The command and its arguments.
     pub words: &'a [Items<u8>],
+    /// Folders that are one: a path below a folder of a pair may be spelled below the other too.
+    pub same: &'a [FolderPair<'a>],
     /// The user as whom the command is to run, if one is named.
     pub target: Option<&'a [u8]>,
     /// The group as which it is to run, if one is named.

@@ -1,6 +1,10 @@
 //! What a user may run on a host, with the place of each command.
 
-use crate::defaults_of_user::append_defaults_of_user;
+use crate::defaults_of_user::{DefaultsOfUser, append_defaults_of_user, list_defaults_of_user};
+use crate::placed_text::{
+    PlacedText, WalkPlace, append_joined_text, append_placed_lines, make_placed_command,
+    place_of_member,
+};
 use crate::rights_fault::RightsFault;
 use std::alloc::{AllocError, Global};
 use sudoers_cvt_rules::print_command;
@@ -8,18 +12,13 @@ use sudoers_cvt_spell::append_printed_member_list;
 use sudoers_line_rows::{
     CommandRow, HostGroupRow, Member, MemberRow, Node, RowsOfTable, RunasSpec, Tables,
 };
-use sudoers_list::{
-    UserAndRunasDefaultNames, append_listed_command, append_place_on_walk_line, append_runas_name,
-};
+use sudoers_list::{UserAndRunasDefaultNames, append_runas_name};
 use sudoers_match::{
     CommandSettings, HostGroupPlace, find_places_of_matching_host_groups, find_runas_default_for,
 };
 use sudoers_match_list::{AcyclicWalk, ExpansionSource, flatten_member_list};
 use sudoers_match_member::Who;
 use sudoers_tree::{Kind, Policy};
-
-/// What stands before each line of a listing.
-const INDENT: &[u8] = b"    ";
 
 /// A user specification: the number of its line on the walk, from 0, and its host groups.
 #[derive(Drop)]
@@ -28,17 +27,9 @@ struct SpecOnLine<'a> {
     groups: RowsOfTable<'a, HostGroupRow>,
 }
 
-/// Where a command stands: the number of its line on the walk, and the byte of the line, both from 0.
-#[derive(Clone, Copy)]
-struct CommandPlace {
-    line: usize,
-    start: usize,
-}
-
 /// The policy of a listing, and what is the same on all its lines.
 #[derive(Drop)]
 struct Listing<'a, 'b, 'c> {
-    policy: &'a Policy,
     source: ExpansionSource<'a, 'b>,
     user: &'c [u8],
     default: &'a [u8],
@@ -51,36 +42,64 @@ pub struct RightsText {
     pub has_any: bool,
 }
 
-/// Returns what `who` may run by `policy`, as a text: a heading, a line for each command of the host groups whose users and hosts match,
-/// each with its place, and the Defaults lines that hold of him. With `expand` a command that names an alias has a line for each of its
-/// members, and aliases of runas users and groups are replaced too.
+/// What a user may run: his commands, the Defaults lines that hold of him, and whether he may run anything.
+#[derive(Drop)]
+pub struct Rights {
+    pub commands: Vec<PlacedText>,
+    pub defaults: DefaultsOfUser,
+    pub has_any: bool,
+}
+
+/// Returns what `who` may run by `policy`: each command of the host groups whose users and hosts match, and the Defaults lines that hold of
+/// him. With `expand` a command that names an alias is there as each of its members, and aliases of runas users and groups are replaced too.
 ///
 /// # Errors
 ///
 /// `Cycle`: a reachable alias is cyclic. `TooLarge`: a list has more than 65,536 members when its aliases are replaced. `NoMemory`: memory
 /// ran out.
+pub fn list_rights(
+    alloc: Global,
+    policy: &Policy,
+    who: &Who,
+    expand: bool,
+) -> Result<Rights, RightsFault> {
+    let acyclic = AcyclicWalk::new(alloc, policy.walk())?;
+    let default = find_runas_default_for(alloc, &acyclic, who)?;
+    let listing = Listing {
+        source: ExpansionSource::new(alloc, &acyclic, expand)?,
+        user: who.user.name.as_slice(),
+        default,
+    };
+    let places = find_places_of_matching_host_groups(alloc, &acyclic, who)?;
+    let mut commands = Vec::new(alloc);
+    listing.append_host_groups(alloc, &mut commands, places.as_slice())?;
+    Ok(Rights {
+        commands,
+        defaults: list_defaults_of_user(alloc, &acyclic, who)?,
+        has_any: !places.is_empty(),
+    })
+}
+
+/// Returns what `who` may run by `policy`, as [`list_rights`] lists it, as a text: a heading, a line for each command with its place, and the
+/// Defaults lines.
+///
+/// # Errors
+///
+/// Those of [`list_rights`].
 pub fn list_rights_with_places(
     alloc: Global,
     policy: &Policy,
     who: &Who,
     expand: bool,
 ) -> Result<RightsText, RightsFault> {
-    let acyclic = AcyclicWalk::new(alloc, policy.walk())?;
-    let default = find_runas_default_for(alloc, &acyclic, who)?;
-    let listing = Listing {
-        policy,
-        source: ExpansionSource::new(alloc, &acyclic, expand)?,
-        user: who.user.name.as_slice(),
-        default,
-    };
-    let places = find_places_of_matching_host_groups(alloc, &acyclic, who)?;
-    let mut out = Vec::new(alloc);
-    append_heading(alloc, &mut out, policy, who, places.is_empty())?;
-    listing.append_host_groups(alloc, &mut out, places.as_slice())?;
-    append_defaults_of_user(alloc, &mut out, policy, &acyclic, who)?;
+    let rights = list_rights(alloc, policy, who, expand)?;
+    let mut text = Vec::new(alloc);
+    append_heading(alloc, &mut text, policy, who, !rights.has_any)?;
+    append_placed_lines(alloc, &mut text, policy, rights.commands.as_slice())?;
+    append_defaults_of_user(alloc, &mut text, policy, &rights.defaults)?;
     Ok(RightsText {
-        text: out,
-        has_any: !places.is_empty(),
+        text,
+        has_any: rights.has_any,
     })
 }
 
@@ -118,11 +137,11 @@ fn list_specs<'a>(
 }
 
 impl<'a, 'b, 'c> Listing<'a, 'b, 'c> {
-    /// Appends the lines of the host groups at `places`.
+    /// Appends the commands of the host groups at `places`.
     fn append_host_groups(
         &self,
         alloc: Global,
-        out: &mut Vec<u8>,
+        out: &mut Vec<PlacedText>,
         places: &[HostGroupPlace],
     ) -> Result<(), RightsFault> {
         let specs = list_specs(alloc, self.source.policy)?;
@@ -137,11 +156,11 @@ impl<'a, 'b, 'c> Listing<'a, 'b, 'c> {
         Ok(())
     }
 
-    /// Appends the lines of `commands`, which stand on the line with the number `line`.
+    /// Appends the commands `commands`, which stand on the line with the number `line`.
     fn append_commands(
         &self,
         alloc: Global,
-        out: &mut Vec<u8>,
+        out: &mut Vec<PlacedText>,
         line: usize,
         commands: &RowsOfTable<'a, CommandRow>,
     ) -> Result<(), RightsFault> {
@@ -150,25 +169,22 @@ impl<'a, 'b, 'c> Listing<'a, 'b, 'c> {
         for row in commands.rows {
             head.apply_settings_of_command(&tables.command_of_row(row));
             let member = tables.member_of_row(&row.member);
-            let place = CommandPlace {
-                line,
-                start: member.start,
-            };
             if self.source.expand {
+                let place = place_of_member(line, &member);
                 self.append_expanded_command(alloc, out, place, &head, tables, &row.member)?;
             } else {
-                self.append_command(alloc, out, place, &head, &member)?;
+                self.append_command(alloc, out, line, &head, &member)?;
             }
         }
         Ok(())
     }
 
-    /// Appends a line for each command to which the member `member` leads, which stands at `place`. What stands before it is `head`.
+    /// Appends each command to which the member `member` leads, which stands at `place`. What stands before it is `head`.
     fn append_expanded_command(
         &self,
         alloc: Global,
-        out: &mut Vec<u8>,
-        place: CommandPlace,
+        out: &mut Vec<PlacedText>,
+        place: WalkPlace,
         head: &CommandSettings<'a>,
         tables: &'a Tables,
         member: &'a MemberRow,
@@ -186,13 +202,8 @@ impl<'a, 'b, 'c> Listing<'a, 'b, 'c> {
             tags: head.tags,
         };
         for row in flat.as_slice() {
-            out.extend_from_slice(INDENT)?;
-            append_place_on_walk_line(alloc, out, self.policy, place.line, place.start)?;
-            out.extend_from_slice(b": ")?;
-            out.extend_from_slice(runas.as_slice())?;
             let command = print_command(alloc, &bare, &tables.member_of_row(row))?;
-            out.extend_from_slice(command.as_slice())?;
-            out.extend_from_slice(b"\n")?;
+            append_joined_text(alloc, out, place, runas.as_slice(), command.as_slice())?;
         }
         Ok(())
     }
@@ -235,12 +246,12 @@ impl<'a, 'b, 'c> Listing<'a, 'b, 'c> {
         Ok(())
     }
 
-    /// Appends the line of the command `member`, which stands at `place`, and before which `head` holds.
+    /// Appends the command `member`, which stands on the line with the number `line`, and before which `head` holds.
     fn append_command(
         &self,
         alloc: Global,
-        out: &mut Vec<u8>,
-        place: CommandPlace,
+        out: &mut Vec<PlacedText>,
+        line: usize,
         head: &CommandSettings<'_>,
         member: &Member<'_>,
     ) -> Result<(), AllocError> {
@@ -248,11 +259,8 @@ impl<'a, 'b, 'c> Listing<'a, 'b, 'c> {
             user: self.user,
             default: self.default,
         };
-        out.extend_from_slice(INDENT)?;
-        append_place_on_walk_line(alloc, out, self.policy, place.line, place.start)?;
-        out.extend_from_slice(b": ")?;
-        append_listed_command(alloc, out, &names, head, member)?;
-        out.extend_from_slice(b"\n")
+        out.push(make_placed_command(alloc, line, &names, head, member)?)?;
+        Ok(())
     }
 }
 

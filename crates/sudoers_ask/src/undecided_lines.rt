@@ -1,15 +1,19 @@
 //! What was not decided in an answer, as text.
 
-ghost use Rattle.std.specs.Prelude.{◌≡◌};
 ghost use Rattle.sudoers_match.specs.Default.{IsRunasDefault};
 
 use crate::question::CommandQuestion;
-use crate::user_answer::UserAnswer;
+use crate::same::arguments_of_words;
+use crate::user_answer::{UserAnswer, make_user_request};
 use std::alloc::{AllocError, Global};
 use sudoers_cvt_spell::append_member;
+use sudoers_grammar::Items;
 use sudoers_line_rows::{AtomRow, MemberRow, Tables};
 use sudoers_list::append_place_on_walk_line;
-use sudoers_match_list::AcyclicWalk;
+use sudoers_list_people::People;
+use sudoers_match::{CommandSpellings, SpelledCommandListKind};
+use sudoers_match_list::{AcyclicWalk, MemberKind};
+use sudoers_match_member::CommandLine;
 use sudoers_tree::{Policy, base_name_of_path};
 use sudoers_undecided::{UndecidedMember, WhyUndecided, list_undecided_members};
 
@@ -76,25 +80,97 @@ fn has_base_of_command(path: &[u8], question: &CommandQuestion<'_>) -> bool {
     path != command && base_name_of_path(path) == base_name_of_path(command)
 }
 
-/// Appends to `out` a line for each member of `policy` that was not decided in `answer`, and could have changed it: `prefix`, its place, its
-/// text, and why it was not decided. `acyclic` is the walk of `policy`.
+/// What is asked for a user, and the command in each spelling.
+#[derive(Clone, Copy)]
+pub struct SpelledQuestion<'p, 'q, 'w, 'c> {
+    pub people: &'p People,
+    pub question: &'q CommandQuestion<'w>,
+    pub command: &'c CommandSpellings,
+}
+
+/// Returns the members of `policy` that were not decided in `answer`, which is that of the user `name` to `asked`, and could have changed
+/// it, by lines and by places in a line. Where the command has other spellings, the members of each are there.
 ///
 /// # Errors
 ///
 /// Memory ran out.
-pub fn append_undecided_lines<'a>(
+pub fn list_undecided_members_of_answer<'a>(
+    alloc: Global,
+    policy: &AcyclicWalk<'a>,
+    asked: &SpelledQuestion<'_, '_, '_, '_>,
+    name: &[u8],
+    answer: &UserAnswer<'a>,
+) -> Result<Vec<UndecidedMember<'a>>, AllocError>
+    requires { IsRunasDefault policy.now answer.now.request.who answer.now.default.now }
+{
+    let mut members = list_undecided_members(alloc, policy, &answer.request, answer.default)?;
+    if asked.command.others.as_slice().is_empty() {
+        return Ok(members);
+    }
+    for other in asked.command.others.as_slice() {
+        let more = list_undecided_members_of_spelling(alloc, policy, asked, name, other)?;
+        members.extend_from_slice(more.as_slice())?;
+    }
+    keep_members_without_match(alloc, asked.command, members)
+}
+
+/// Returns the undecided members where the user `name` asks for the spelling `other` of the command.
+fn list_undecided_members_of_spelling<'a>(
+    alloc: Global,
+    policy: &AcyclicWalk<'a>,
+    asked: &SpelledQuestion<'_, '_, '_, '_>,
+    name: &[u8],
+    other: &CommandLine,
+) -> Result<Vec<UndecidedMember<'a>>, AllocError> {
+    let mut words = Vec::new(alloc);
+    words.push(Items::from_slice(alloc, other.path.as_slice())?)?;
+    for word in arguments_of_words(asked.question.words) {
+        words.push(Items::from_slice(alloc, word.as_slice())?)?;
+    }
+    let question = CommandQuestion {
+        words: words.as_slice(),
+        ..*asked.question
+    };
+    // The words are those of a request that was made, so its one fault is want of memory.
+    let Ok(made) = make_user_request(alloc, policy, true, asked.people, name, &question) else {
+        return Err(AllocError);
+    };
+    list_undecided_members(alloc, policy, &made.request, made.default)
+}
+
+/// Returns those of `members` that match no spelling of `command`, by lines and by places in a line.
+fn keep_members_without_match<'a>(
+    alloc: Global,
+    command: &CommandSpellings,
+    members: Vec<UndecidedMember<'a>>,
+) -> Result<Vec<UndecidedMember<'a>>, AllocError> {
+    let mut kept = Vec::new(alloc);
+    for undecided in members.as_slice() {
+        if undecided.reason != WhyUndecided::OtherPath
+            || !SpelledCommandListKind::hits(&undecided.member.atom, command)
+        {
+            kept.push(*undecided)?;
+        }
+    }
+    kept.sort_by_key(|undecided| (undecided.line, undecided.member.start))?;
+    Ok(kept)
+}
+
+/// Appends to `out` a line for each of `undecided`: `prefix`, its place, its text, and why it was not decided. A member that stands there
+/// twice has one line.
+///
+/// # Errors
+///
+/// Memory ran out.
+pub fn append_undecided_lines(
     alloc: Global,
     out: &mut Vec<u8>,
-    policy: &'a Policy,
-    acyclic: &AcyclicWalk<'a>,
-    answer: &UserAnswer<'a>,
+    policy: &Policy,
+    undecided: &[UndecidedMember<'_>],
     prefix: &[u8],
-) -> Result<(), AllocError>
-    requires { IsRunasDefault acyclic.now answer.now.request.who answer.now.default.now }
-{
-    let undecided = list_undecided_members(alloc, acyclic, &answer.request, answer.default)?;
+) -> Result<(), AllocError> {
     let mut before: Option<UndecidedMember<'_>> = None;
-    for member in undecided.as_slice() {
+    for member in undecided {
         if !is_of_same_place(&before, member) {
             append_undecided_line(alloc, out, policy, member, prefix)?;
         }
@@ -104,7 +180,10 @@ pub fn append_undecided_lines<'a>(
 }
 
 /// Returns whether `before` is a member that stands where `member` stands.
-fn is_of_same_place(before: &Option<UndecidedMember<'_>>, member: &UndecidedMember<'_>) -> bool {
+pub fn is_of_same_place(
+    before: &Option<UndecidedMember<'_>>,
+    member: &UndecidedMember<'_>,
+) -> bool {
     match before {
         Some(before) => { before.line == member.line && before.member.start == member.member.start }
         None => false,
@@ -129,7 +208,7 @@ fn append_undecided_line(
     out.extend_from_slice(b"\n")
 }
 
-/// Appends to `out` the lines of [`append_undecided_lines`] for the user `name`, with his name before each, if `wanted`.
+/// Appends to `out` the lines of what was not decided in `answer`, with the name `name` of its user before each, if `wanted`.
 ///
 /// # Errors
 ///
@@ -137,8 +216,9 @@ fn append_undecided_line(
 pub fn append_undecided_lines_of_user<'a>(
     alloc: Global,
     out: &mut Vec<u8>,
-    policy: &'a Policy,
+    policy: &Policy,
     acyclic: &AcyclicWalk<'a>,
+    asked: &SpelledQuestion<'_, '_, '_, '_>,
     answer: &UserAnswer<'a>,
     name: &[u8],
     wanted: bool,
@@ -148,7 +228,8 @@ pub fn append_undecided_lines_of_user<'a>(
     if !wanted {
         return Ok(());
     }
+    let undecided = list_undecided_members_of_answer(alloc, acyclic, asked, name, answer)?;
     let mut prefix = Vec::from_slice(alloc, name)?;
     prefix.extend_from_slice(b": ")?;
-    append_undecided_lines(alloc, out, policy, acyclic, answer, prefix.as_slice())
+    append_undecided_lines(alloc, out, policy, undecided.as_slice(), prefix.as_slice())
 }

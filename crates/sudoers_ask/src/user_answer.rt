@@ -2,17 +2,18 @@
 
 ghost use Rattle.std.specs.Prelude.{◌≡◌, ◌⊎◌, ◌≤◌, [], false, length, Err, IfOk, IfErr, IfSome};
 ghost use Rattle.std.specs.Option.{option_map};
-ghost use Rattle.sudoers_match.specs.Answer.{IsAnswerToRequest, joined_arguments_limit, words_joined_with_spaces};
+ghost use Rattle.sudoers_match.specs.Answer.{joined_arguments_limit, words_joined_with_spaces};
 ghost use Rattle.sudoers_match.specs.Default.{IsRunasDefault, runas_defaults_of_lines};
 ghost use Rattle.sudoers_match.specs.Found.{HasMemberAndSettingsFromLines, answer_without_member_and_settings};
-ghost use Rattle.sudoers_ask.specs.Outcome.{AreSpecsForQuestion, IsMemoryFault, IsUserOutcome, IsUserRequest, optional_name_of_view, target_name};
+ghost use Rattle.sudoers_ask.specs.Outcome.{AreSpecsForQuestion, IsAnswerToQuestion, IsMemoryFault, IsUserOutcome, IsUserRequest, optional_name_of_view, target_name};
+ghost use Rattle.sudoers_ask.specs.Same.{spelled_command_of_question};
 ghost use Rattle.sudoers_ask.specs.Users.{is_answer_allowing};
 
 use crate::question::{CommandQuestion, QuestionFault};
 use std::alloc::{AllocError, Global};
 use sudoers_list_people::{People, request_for, who_for};
 use sudoers_match::{
-    AnswerWithMemberAndSettings, Request, SpecOnLine, Who, find_answer_in_specs,
+    AnswerWithMemberAndSettings, CommandSpellings, Request, SpecOnLine, Who, find_answer_in_specs,
     find_runas_default_for,
 };
 use sudoers_match_list::AcyclicWalk;
@@ -112,8 +113,9 @@ pub fn make_user_request<'a>(
     Ok(UserRequest { request, default })
 }
 
-/// Returns the request of the user with the name `user`, and its answer. `specs` are the user specifications of `policy`, and `people` the
-/// users and groups. If `has_default`, a Defaults line of `policy` may set runas_default.
+/// Returns the request of the user with the name `user`, and its answer. `specs` are the user specifications of `policy`, `command` is the
+/// command of `question` in each spelling, and `people` are the users and groups. If `has_default`, a Defaults line of `policy` may set
+/// runas_default.
 ///
 /// # Errors
 ///
@@ -126,18 +128,20 @@ pub fn ask_user<'a>(
     people: &People,
     user: &[u8],
     question: &CommandQuestion<'_>,
+    command: &CommandSpellings,
 ) -> Result<UserAnswer<'a>, QuestionFault>
+    requires command { command.now ≡ spelled_command_of_question question.now }
     requires default { has_default ≡ false → runas_defaults_of_lines policy.now ≡ [] }
     requires specs { AreSpecsForQuestion policy.now question.now specs.now }
     ensures request { IfOk result (λ answer. IsUserRequest policy.now people.now question.now user.now answer.request answer.default.now) }
     ensures short { IfOk result (λ answer. length (words_joined_with_spaces answer.request.args) ≤ joined_arguments_limit) }
-    ensures answer { IfOk result (λ answer. IsAnswerToRequest policy.now answer.request (option_map answer_without_member_and_settings answer.found)) }
+    ensures answer { IfOk result (λ answer. IsAnswerToQuestion policy.now question.now answer.request (option_map answer_without_member_and_settings answer.found)) }
     ensures found { IfOk result (λ answer. IfSome answer.found (HasMemberAndSettingsFromLines policy.now)) }
     ensures fault { IfErr result (λ fault. IsMemoryFault fault ⊎ IsUserOutcome policy.now people.now question.now user.now (Err fault)) }
 {
     let asked = make_user_request(alloc, policy, has_default, people, user, question)?;
     let UserRequest { request, default } = asked;
-    let found = find_answer_in_specs(alloc, policy, specs, &request, default)?;
+    let found = find_answer_in_specs(alloc, policy, specs, &request, command, default)?;
     Ok(UserAnswer {
         request,
         default,

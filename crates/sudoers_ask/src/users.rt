@@ -4,23 +4,26 @@ ghost use Rattle.std.specs.Prelude.{◌≡◌, ◌⊎◌, ◌++◌, [], ℕ, Lis
 ghost use Rattle.std.specs.Option.{option_map};
 ghost use Rattle.sudoers_check.specs.Chains.{HasCyclicAliasReachedFromSpecOrDefaults};
 ghost use Rattle.sudoers_match_list.specs.declared.verdict.AskFault.TheVariants.{Cycle};
-ghost use Rattle.sudoers_match.specs.Answer.{IsAnswerToRequest, command_with_joined_arguments_of_request};
+ghost use Rattle.sudoers_match.specs.Answer.{IsAnswerByCommandTest};
 ghost use Rattle.sudoers_match.specs.Default.{IsRunasDefault, runas_defaults_of_lines};
-ghost use Rattle.sudoers_match.specs.ForCommand.{AreSpecsForCommand};
 ghost use Rattle.sudoers_match.specs.Found.{HasMemberAndSettingsFromLines, answer_without_member_and_settings};
 ghost use Rattle.sudoers_ask.specs.declared.question.QuestionFault.TheVariants.{Ask};
 ghost use Rattle.sudoers_ask.specs.Outcome.{AreSpecsForQuestion, IsMemoryFault};
-ghost use Rattle.sudoers_ask.specs.Users.{IsFaultOfFirstUser, IsReasonOfUser, IsTextOfUsers, is_user_shown, text_with_prefixed_lines};
+ghost use Rattle.sudoers_match.specs.Spellings.{is_spelled_command_match};
+ghost use Rattle.sudoers_ask.specs.Same.{spelled_command_of_question};
+ghost use Rattle.sudoers_ask.specs.Users.{IsFaultOfFirstUser, IsReasonOfUserByTest, IsTextOfUsers, is_user_shown, text_with_prefixed_lines};
 
 use crate::question::{CommandQuestion, QuestionFault};
-use crate::undecided_lines::{append_undecided_lines_of_user, may_have_undecided_members};
+use crate::same::make_spelled_command;
+use crate::undecided_lines::{
+    SpelledQuestion, append_undecided_lines_of_user, may_have_undecided_members,
+};
 use crate::user_answer::{UserAnswer, ask_user, make_user_request};
 use std::alloc::{AllocError, Global};
-use sudoers_list::explain_found_answer;
+use sudoers_list::explain_spelled_answer;
 use sudoers_list_people::People;
 use sudoers_match::{
-    Request, SpecOnLine, find_specs_for_command, has_runas_default, list_specs_with_lines,
-    make_command_with_joined_arguments,
+    CommandSpellings, SpecOnLine, find_specs_for_command, has_runas_default, list_specs_with_lines,
 };
 use sudoers_match_list::AcyclicWalk;
 use sudoers_tree::Policy;
@@ -35,7 +38,7 @@ pub struct UsersText {
 }
 
 /// Returns the users of passwd, in the order of its rows, whom `policy` lets run the command of `question`: each with the rule that
-/// allows it, and with its place, as [`explain_found_answer`] writes it. With `denied` the users whom a rule denies are there too.
+/// allows it, and with its place, as [`explain_spelled_answer`] writes it. With `denied` the users whom a rule denies are there too.
 ///
 /// # Errors
 ///
@@ -58,7 +61,13 @@ pub fn list_users_who_may_run(
     let mut undecided = Vec::new(alloc);
     let mut is_any_allowed = false;
     let is_open = may_have_undecided_members(policy, question);
-    let specs = find_specs_for_question(alloc, &acyclic, has_default, people, question)?;
+    let command = make_spelled_command(alloc, question)?;
+    let specs = find_specs_for_question(alloc, &acyclic, has_default, people, question, &command)?;
+    let asked = SpelledQuestion {
+        people,
+        question,
+        command: &command,
+    };
     for account in people.accounts() {
         let name = account.name.as_slice();
         let answer = ask_user(
@@ -69,13 +78,17 @@ pub fn list_users_who_may_run(
             people,
             name,
             question,
+            &command,
         )?;
-        append_user_part(alloc, &mut text, policy, &acyclic, name, &answer, denied)?;
+        append_user_part(
+            alloc, &mut text, policy, &acyclic, name, &answer, &command, denied,
+        )?;
         append_undecided_lines_of_user(
             alloc,
             &mut undecided,
             policy,
             &acyclic,
+            &asked,
             &answer,
             name,
             is_open,
@@ -89,16 +102,18 @@ pub fn list_users_who_may_run(
     })
 }
 
-/// Returns the user specifications of `policy`, and which of them may answer the command of `question`, whoever asks. If `has_default`, a
-/// Defaults line may set runas_default.
-fn find_specs_for_question<'a>(
+/// Returns the user specifications of `policy`, and which of them may answer the command of `question`, whoever asks. `command` is this
+/// command in each spelling. If `has_default`, a Defaults line may set runas_default.
+pub fn find_specs_for_question<'a>(
     alloc: Global,
     policy: &AcyclicWalk<'a>,
     has_default: bool,
     people: &People,
     question: &CommandQuestion<'_>,
+    command: &CommandSpellings,
 ) -> Result<Vec<SpecOnLine<'a>>, AllocError>
-    requires { has_default ≡ false → runas_defaults_of_lines policy.now ≡ [] }
+    requires command { command.now ≡ spelled_command_of_question question.now }
+    requires default { has_default ≡ false → runas_defaults_of_lines policy.now ≡ [] }
     ensures { IfOk result (λ specs. AreSpecsForQuestion policy.now question.now specs.items) }
 {
     // The requests of all users are for one host and one command, so that of the first serves. If it has a fault, the loop over the users
@@ -108,31 +123,19 @@ fn find_specs_for_question<'a>(
     };
     let user = first.name.as_slice();
     match make_user_request(alloc, policy, has_default, people, user, question) {
-        Ok(asked) => find_specs_for_request(alloc, policy, &asked.request),
+        Ok(asked) => find_specs_for_command(alloc, policy, &asked.request.who, command),
         Err(_) => list_specs_with_lines(alloc, policy),
     }
 }
 
-/// Returns the user specifications of `policy`, and which of them may answer the command of `request` on its host, whoever asks.
-fn find_specs_for_request<'a>(
-    alloc: Global,
-    policy: &AcyclicWalk<'a>,
-    request: &Request,
-) -> Result<Vec<SpecOnLine<'a>>, AllocError>
-    ensures { IfOk result (λ specs. AreSpecsForCommand policy.now request.now.who (command_with_joined_arguments_of_request request.now) specs.items) }
-{
-    let command = make_command_with_joined_arguments(alloc, request)?;
-    find_specs_for_command(alloc, policy, &request.who, &command)
-}
-
 /// Returns whether a user with this answer is shown: he is allowed, or `denied` and a rule decides.
-fn is_shown(answer: &UserAnswer<'_>, denied: bool) -> bool
+pub fn is_shown(answer: &UserAnswer<'_>, denied: bool) -> bool
     ensures { result ≡ is_user_shown denied (option_map answer_without_member_and_settings answer.now.found) }
 {
     answer.is_allowed() || (denied && answer.found.is_some())
 }
 
-/// Appends to `out` the lines of the user `name`, whose answer is `answer`, if he is shown.
+/// Appends to `out` the lines of the user `name`, whose answer for `command` is `answer`, if he is shown.
 fn append_user_part<'a>(
     alloc: Global,
     out: &mut Vec<u8>,
@@ -140,24 +143,26 @@ fn append_user_part<'a>(
     acyclic: &AcyclicWalk<'a>,
     name: &[u8],
     answer: &UserAnswer<'a>,
+    command: &CommandSpellings,
     denied: bool,
 ) -> Result<(), AllocError>
     requires same { acyclic.now ≡ policy.now.walk.lines }
     requires default { IsRunasDefault policy.now.walk.lines answer.now.request.who answer.now.default.now }
-    requires answer { IsAnswerToRequest policy.now.walk.lines answer.now.request (option_map answer_without_member_and_settings answer.now.found) }
+    requires answer { IsAnswerByCommandTest policy.now.walk.lines (is_spelled_command_match command.now) answer.now.request (option_map answer_without_member_and_settings answer.now.found) }
     requires found { IfSome answer.now.found (HasMemberAndSettingsFromLines policy.now.walk.lines) }
     ensures { OnOk result ((part : List ℕ) × (out.new.items ≡ out.old.items ++ part)
         × MatchBool (is_user_shown denied (option_map answer_without_member_and_settings answer.now.found))
-        (IsReasonOfUser policy.now name.now answer.now.request (option_map answer_without_member_and_settings answer.now.found) part) (part ≡ [])) }
+        (IsReasonOfUserByTest policy.now (is_spelled_command_match command.now) name.now answer.now.request (option_map answer_without_member_and_settings answer.now.found) part) (part ≡ [])) }
 {
     if !is_shown(answer, denied) {
         return Ok(());
     }
-    let reason = explain_found_answer(
+    let reason = explain_spelled_answer(
         alloc,
         policy,
         acyclic,
         &answer.request,
+        command,
         answer.default,
         answer.found,
     )?;

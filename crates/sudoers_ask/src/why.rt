@@ -7,11 +7,15 @@ ghost use Rattle.sudoers_ask.specs.declared.question.QuestionFault.TheVariants.{
 ghost use Rattle.sudoers_ask.specs.Outcome.{IsMemoryFault, IsUserOutcome};
 ghost use Rattle.sudoers_ask.specs.Why.{IsWhyText};
 
+use crate::near_lines::make_near_miss_lines;
 use crate::question::{CommandQuestion, QuestionFault};
-use crate::undecided_lines::append_undecided_lines;
+use crate::same::make_spelled_command;
+use crate::undecided_lines::{
+    SpelledQuestion, append_undecided_lines, list_undecided_members_of_answer,
+};
 use crate::user_answer::ask_user;
 use std::alloc::Global;
-use sudoers_list::explain_found_answer;
+use sudoers_list::explain_spelled_answer;
 use sudoers_list_people::People;
 use sudoers_match::list_specs_with_lines;
 use sudoers_match_list::AcyclicWalk;
@@ -22,12 +26,14 @@ use sudoers_tree::Policy;
 pub struct WhyText {
     pub text: Vec<u8>,
     pub is_allowed: bool,
+    /// Where no rule matches, those that match in all parts but one, a line for each.
+    pub near: Vec<u8>,
     /// The members that were not decided and could have changed the answer, a line for each.
     pub undecided: Vec<u8>,
 }
 
 /// Returns why `policy` lets the user with the name `user` run the command of `question`, or why it does not, as
-/// [`explain_found_answer`] writes it.
+/// [`explain_spelled_answer`] writes it.
 ///
 /// # Errors
 ///
@@ -46,6 +52,7 @@ pub fn explain_user_answer(
 {
     let acyclic = AcyclicWalk::new(alloc, policy.walk())?;
     let specs = list_specs_with_lines(alloc, &acyclic)?;
+    let command = make_spelled_command(alloc, question)?;
     let answer = ask_user(
         alloc,
         &acyclic,
@@ -54,18 +61,27 @@ pub fn explain_user_answer(
         people,
         user,
         question,
+        &command,
     )?;
-    let text = explain_found_answer(
+    let text = explain_spelled_answer(
         alloc,
         policy,
         &acyclic,
         &answer.request,
+        &command,
         answer.default,
         answer.found,
     )?;
+    let asked = SpelledQuestion {
+        people,
+        question,
+        command: &command,
+    };
+    let members = list_undecided_members_of_answer(alloc, &acyclic, &asked, user, &answer)?;
     let mut undecided = Vec::new(alloc);
-    append_undecided_lines(alloc, &mut undecided, policy, &acyclic, &answer, b"")?;
+    append_undecided_lines(alloc, &mut undecided, policy, members.as_slice(), b"")?;
     Ok(WhyText {
+        near: make_near_miss_lines(alloc, policy, &acyclic, &answer, &command)?,
         undecided,
         text,
         is_allowed: answer.is_allowed(),

@@ -3,10 +3,10 @@
 use crate::expected_pieces::ExpectedPiece;
 use std::alloc::{AllocError, Global};
 
-/// What the place is of, in words, and the pieces that are named beside these words.
+/// What the place is of, in words for each kind of it, and the pieces that are named beside these words.
 #[derive(Clone, Copy)]
 struct PlaceWords {
-    words: &'static [u8],
+    words: &'static [&'static [u8]],
     beside: &'static [ExpectedPiece],
 }
 
@@ -63,13 +63,13 @@ fn choose_place_words(pieces: &[ExpectedPiece]) -> Option<PlaceWords> {
     let has_path = pieces.contains(&ExpectedPiece::Path);
     if has_name && has_all(pieces, &[ExpectedPiece::Equal, ExpectedPiece::Path]) {
         return Some(PlaceWords {
-            words: b"a value",
+            words: &[b"a value"],
             beside: &[],
         });
     }
     if has_path && has_all(pieces, &[ExpectedPiece::Argument, ExpectedPiece::Open]) {
         return Some(PlaceWords {
-            words: b"an argument",
+            words: &[b"an argument"],
             beside: &BESIDE_ARGUMENT,
         });
     }
@@ -83,17 +83,17 @@ fn choose_place_words(pieces: &[ExpectedPiece]) -> Option<PlaceWords> {
 fn choose_words_of_named_place(pieces: &[ExpectedPiece]) -> PlaceWords {
     if pieces.contains(&ExpectedPiece::Number) {
         PlaceWords {
-            words: b"a user, `%group` or an alias in capitals",
+            words: &[b"a user", b"`%group`", b"an alias in capitals"],
             beside: &BESIDE_USER,
         }
     } else if pieces.contains(&ExpectedPiece::Group) {
         PlaceWords {
-            words: b"a host or an alias in capitals",
+            words: &[b"a host", b"an alias in capitals"],
             beside: &BESIDE_HOST,
         }
     } else {
         PlaceWords {
-            words: b"a parameter",
+            words: &[b"a parameter"],
             beside: &BESIDE_PARAMETER,
         }
     }
@@ -103,15 +103,15 @@ fn choose_words_of_named_place(pieces: &[ExpectedPiece]) -> PlaceWords {
 fn choose_words_of_command_place(has_alias: bool, has_path: bool) -> Option<PlaceWords> {
     match (has_alias, has_path) {
         (true, true) => Some(PlaceWords {
-            words: b"a command (a path from `/`, `ALL` or an alias in capitals)",
+            words: &[b"a command (a path from `/`, `ALL` or an alias in capitals)"],
             beside: &BESIDE_COMMAND,
         }),
         (false, true) => Some(PlaceWords {
-            words: b"a path from `/` or `ALL`",
+            words: &[b"a path from `/`", b"`ALL`"],
             beside: &BESIDE_PATH,
         }),
         (true, false) => Some(PlaceWords {
-            words: b"a name in capitals",
+            words: &[b"a name in capitals"],
             beside: &[],
         }),
         (false, false) => None,
@@ -162,7 +162,7 @@ fn list_words_of_pieces(
     let place = choose_place_words(pieces);
     let mut all = Vec::new(alloc);
     if let Some(place) = place {
-        all.push(place.words)?;
+        all.extend_from_slice(place.words)?;
     }
     for piece in pieces {
         if is_named_by_itself(*piece, pieces, place)

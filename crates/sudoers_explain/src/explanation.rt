@@ -1,13 +1,15 @@
 //! The lines that explain why files are no policy.
 
+use crate::all_faults::list_load_faults;
 use crate::excerpts::{PlaceInFile, append_help};
 use crate::expected_pieces::{ExpectedPiece, list_pieces_that_may_stand};
 use crate::expected_words::make_expected_words;
-use crate::hints::{Hint, words_of_hint};
+use crate::hints::{Hint, spelling_of_hint, words_of_hint};
 use crate::mistake::Mistake;
 use crate::named_places::{find_definitions, find_first_include};
+use crate::repeated_alias::{KnownFaults, RepeatedAlias};
 use std::alloc::{AllocError, Global};
-use sudoers_grammar::{Kind, Why, alias_keyword_of_kind};
+use sudoers_grammar::{Why, alias_keyword_of_kind};
 use sudoers_text::{Lines, TextFault, cut};
 use sudoers_tree::{LoadFault, NamedFile, ReadFault};
 
@@ -23,30 +25,76 @@ pub fn explain_load_fault(
     fault: &LoadFault,
 ) -> Result<Vec<u8>, AllocError> {
     let mut out = Vec::new(alloc);
-    match fault {
-        LoadFault::InFile { file, fault } => {
-            for found in files {
-                if found.name.as_slice() == file.as_slice() {
-                    append_explanation_in_file(alloc, &mut out, files, found, fault)?;
-                    break;
-                }
-            }
+    let faults = match fault {
+        LoadFault::InFile { fault, .. } if matches!(fault, ReadFault::Duplicate { .. }) => {
+            list_load_faults(alloc, files)?
         }
-        LoadFault::SameName { .. } => append_help(
-            &mut out,
-            &[b"give each file of the policy a name of its own"],
-        )?,
-        LoadFault::TooManyFiles => append_help(&mut out, &[b"a policy has at most 256 files"])?,
-        LoadFault::NoMemory => {}
+        _ => Vec::new(alloc),
+    };
+    let known = KnownFaults {
+        files,
+        faults: faults.as_slice(),
+        earlier: &[],
+    };
+    append_explanation(alloc, &mut out, known, fault)?;
+    Ok(out)
+}
+
+/// Returns the lines that explain the first `most` of the faults `faults`, which [`list_load_faults`] found in the files `files`, in their
+/// order.
+///
+/// # Errors
+///
+/// Memory ran out.
+pub fn explain_load_faults(
+    alloc: Global,
+    files: &[NamedFile],
+    faults: &[LoadFault],
+    most: usize,
+) -> Result<Vec<u8>, AllocError> {
+    let mut out = Vec::new(alloc);
+    for (number, fault) in faults.iter().take(most).enumerate() {
+        let (earlier, _) = faults.split_at(number.min(faults.len()));
+        let known = KnownFaults {
+            files,
+            faults,
+            earlier,
+        };
+        append_explanation(alloc, &mut out, known, fault)?;
     }
     Ok(out)
 }
 
-/// Appends the lines that explain the fault `fault` of `file`, one of the files `files`.
+/// Appends the lines that explain `fault` of the files of `known`.
+fn append_explanation(
+    alloc: Global,
+    out: &mut Vec<u8>,
+    known: KnownFaults<'_>,
+    fault: &LoadFault,
+) -> Result<(), AllocError> {
+    match fault {
+        LoadFault::InFile { file, fault } => match known
+            .files
+            .iter()
+            .find(|found| found.name.as_slice() == file.as_slice())
+        {
+            Some(found) => append_explanation_in_file(alloc, out, known, found, fault),
+            None => Ok(()),
+        },
+        LoadFault::SameName { .. } => append_help(
+            out,
+            &[b"give each file of the policy a name of its own"],
+        ),
+        LoadFault::TooManyFiles => append_help(out, &[b"a policy has at most 256 files"]),
+        LoadFault::NoMemory => Ok(()),
+    }
+}
+
+/// Appends the lines that explain the fault `fault` of `file`, one of the files of `known`.
 fn append_explanation_in_file(
     alloc: Global,
     out: &mut Vec<u8>,
-    files: &[NamedFile],
+    known: KnownFaults<'_>,
     file: &NamedFile,
     fault: &ReadFault,
 ) -> Result<(), AllocError> {
@@ -59,27 +107,20 @@ fn append_explanation_in_file(
             *why,
         ),
         ReadFault::Reserved { kind, name } => {
-            append_definitions(
-                alloc,
-                out,
-                &[],
-                file,
-                *kind,
-                name.as_slice(),
-                b"a reserved word",
-            )?;
+            for place in find_definitions(alloc, file, *kind, name.as_slice())?
+                .iter()
+                .take(2)
+            {
+                place.append_excerpt(alloc, out, b"a reserved word")?;
+            }
             append_help(out, &[b"choose another name for the alias"])
         }
         ReadFault::Duplicate { kind, name } => {
-            append_definitions(
-                alloc,
-                out,
-                files,
-                file,
-                *kind,
-                name.as_slice(),
-                b"defined here",
-            )?;
+            let alias = RepeatedAlias {
+                kind: *kind,
+                name: name.as_slice(),
+            };
+            alias.append_definitions(alloc, out, known, file)?;
             append_help(out, &[b"define each alias of a kind once"])
         }
         ReadFault::TooMany { kind } => append_help(
@@ -94,7 +135,7 @@ fn append_explanation_in_file(
             append_help(out, &[b"put the file there, or remove the line"])
         }
         ReadFault::Twice { line, name } => {
-            append_first_include(alloc, out, files, file, *line, name.as_slice())
+            append_first_include(alloc, out, known.files, file, *line, name.as_slice())
         }
         ReadFault::TooDeep { line } => {
             place_of_path(file, *line).append_excerpt(alloc, out, b"the 129th level")?;
@@ -169,34 +210,6 @@ fn place_of_path(file: &NamedFile, row: usize) -> PlaceInFile<'_> {
         }
     }
     start
-}
-
-/// Appends an excerpt for each definition of the alias `name` of the kind `kind` in `file`, and in the files `files`, but at most two.
-fn append_definitions(
-    alloc: Global,
-    out: &mut Vec<u8>,
-    files: &[NamedFile],
-    file: &NamedFile,
-    kind: Kind,
-    name: &[u8],
-    label: &[u8],
-) -> Result<(), AllocError> {
-    let mut places = find_definitions(alloc, file, kind, name)?;
-    for other in files {
-        if places.len() >= 2 {
-            break;
-        }
-        if other.name.as_slice() == file.name.as_slice() {
-            continue;
-        }
-        for place in find_definitions(alloc, other, kind, name)?.as_slice() {
-            places.push(*place)?;
-        }
-    }
-    for place in places.iter().take(2) {
-        place.append_excerpt(alloc, out, label)?;
-    }
-    Ok(())
 }
 
 /// Appends the lines for a file `name` that the line of the row `row` of `file` includes, although a line of the files `files` did before.
@@ -286,17 +299,12 @@ fn make_label(alloc: Global, mistake: &Mistake<'_>) -> Result<Vec<u8>, AllocErro
 
 /// Appends the line with the advice of `hint`, if there is one.
 fn append_hint(out: &mut Vec<u8>, hint: Option<Hint>) -> Result<(), AllocError> {
-    match hint {
-        Some(Hint::Keyword(keyword)) => append_help(
-            out,
-            &[
-                words_of_hint(Hint::Keyword(keyword)).as_bytes(),
-                b" `",
-                keyword.as_bytes(),
-                b"`",
-            ],
-        ),
-        Some(hint) => append_help(out, &[words_of_hint(hint).as_bytes()]),
-        None => Ok(()),
+    let Some(hint) = hint else {
+        return Ok(());
+    };
+    let words = words_of_hint(hint).as_bytes();
+    match spelling_of_hint(hint) {
+        Some(spelling) => append_help(out, &[words, b" `", spelling.as_bytes(), b"`"]),
+        None => append_help(out, &[words]),
     }
 }

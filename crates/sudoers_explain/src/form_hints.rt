@@ -2,7 +2,8 @@
 
 use crate::expected_pieces::ExpectedPiece;
 use crate::hints::Hint;
-use crate::mistake::{Mistake, is_rest_empty, is_space_or_tab, strip_leading_blanks};
+use crate::mistake::{Mistake, is_rest_empty, is_space_or_tab, last_mark_of, strip_leading_blanks};
+use sudoers_text::is_reserved;
 
 /// Returns how many `:` stand in `text`.
 fn colon_count(text: &[u8]) -> usize {
@@ -18,6 +19,12 @@ impl Mistake<'_> {
         if self.pieces.len() == 1 && self.may_be(ExpectedPiece::Colon) {
             return Some(Hint::TagColon);
         }
+        if self.may_be(ExpectedPiece::Digest) && !self.may_be(ExpectedPiece::Path) {
+            return Some(Hint::CommaBehindDigest);
+        }
+        if self.is_beside_stray_comma() {
+            return Some(Hint::StrayComma);
+        }
         if self.is_place_of_command() {
             return self.hint_of_command();
         }
@@ -31,6 +38,18 @@ impl Mistake<'_> {
             return self.hint_of_alias_name();
         }
         self.hint_of_mark()
+    }
+
+    /// Returns whether a member of a list is missing at the place, beside a comma; but not a command at the end of the line.
+    fn is_beside_stray_comma(&self) -> bool {
+        let is_place_of_name = self.may_be(ExpectedPiece::Name);
+        let is_place_of_member = is_place_of_name || self.is_place_of_command();
+        let is_behind_comma = last_mark_of(self.before) == Some(b',');
+        match self.behind.first() {
+            Some(b',') => is_place_of_member && !self.may_be(ExpectedPiece::Comma),
+            Some(b')' | b':' | b'=') => is_place_of_member && is_behind_comma,
+            _ => is_place_of_name && is_behind_comma && is_rest_empty(self.behind),
+        }
     }
 
     /// Returns whether the place is in an address of IPv6, where a host may stand.
@@ -64,34 +83,33 @@ impl Mistake<'_> {
             .saturating_sub(size)
             .min(self.before.len());
         let (front, _) = self.before.split_at(front);
-        let mut last = b' ';
-        for byte in front {
-            if !is_space_or_tab(*byte) {
-                last = *byte;
-            }
-        }
-        last == b':' && !front.ends_with(b":")
+        last_mark_of(front) == Some(b':') && !front.ends_with(b":")
     }
 
     /// Returns the hint where a command may stand.
     fn hint_of_command(&self) -> Option<Hint> {
         if is_rest_empty(self.behind) {
-            return if self.last_mark_before() == Some(b',') {
+            return if last_mark_of(self.before) == Some(b',') {
                 Some(Hint::CommaAtEnd)
             } else {
                 None
             };
         }
         match self.behind.first() {
+            Some(b'"' | b'\'') if self.may_be_rule_of_default() => {
+                return Some(Hint::DefaultsOrRule);
+            }
             Some(b'"' | b'\'') => return Some(Hint::QuotedCommand),
+            Some(b'(') if self.is_alias_line() => return Some(Hint::OnlyInRules),
             Some(byte) if byte.is_ascii_alphanumeric() || b"._~-$`".contains(byte) => {}
             _ => return None,
         }
         match self.behind.get(self.word().len()) {
             Some(b')') if self.may_be(ExpectedPiece::Open) => Some(Hint::OpeningParenthesis),
-            _ if self.last_mark_before() == Some(b',') && self.has_option_among_arguments() => Some(
-                Hint::CommaInArguments,
-            ),
+            _ if last_mark_of(self.before) == Some(b',') && self.has_option_among_arguments() =>
+                Some(Hint::CommaInArguments),
+            _ if matches!(self.behind, [b'~' | b'$', ..]) => Some(Hint::ShellPath),
+            _ if self.may_be_rule_of_default() => Some(Hint::DefaultsOrRule),
             _ => Some(Hint::FullPath),
         }
     }
@@ -121,6 +139,27 @@ impl Mistake<'_> {
         {
             return Some(Hint::UserSpecification);
         }
+        if last_mark_of(self.before) != Some(b':') {
+            return None;
+        }
+        if is_host && let Some(hint) = self.hint_of_last_colon() {
+            return Some(hint);
+        }
+        match self.behind.first() {
+            Some(b')') => Some(Hint::GroupBehindColon),
+            _ if is_host && is_rest_empty(self.behind) => Some(Hint::HostsBehindColon),
+            _ => None,
+        }
+    }
+
+    /// Returns the hint for the last `:` before the place, if it was to end no commands: behind a misspelled tag, or among arguments.
+    fn hint_of_last_colon(&self) -> Option<Hint> {
+        if let Some((_, tag)) = self.find_misspelled_tag() {
+            return Some(Hint::Tag(tag));
+        }
+        if self.is_last_colon_in_arguments() {
+            return Some(Hint::ColonInArguments);
+        }
         None
     }
 
@@ -137,7 +176,7 @@ impl Mistake<'_> {
 
     /// Returns the hint where the name of an alias has to stand.
     fn hint_of_alias_name(&self) -> Option<Hint> {
-        if self.last_mark_before() == Some(b':') {
+        if last_mark_of(self.before) == Some(b':') {
             if is_rest_empty(self.behind) {
                 return Some(Hint::ColonAtEnd);
             }
@@ -154,7 +193,10 @@ impl Mistake<'_> {
             return Some(Hint::EqualBeforeValue);
         }
         if self.may_be(ExpectedPiece::Equal) && self.may_be(ExpectedPiece::Comma) {
-            return Some(self.hint_of_missing_equal());
+            return match self.hint_of_last_colon() {
+                Some(hint) => Some(hint),
+                None => Some(self.hint_of_missing_equal()),
+            };
         }
         if self.may_be(ExpectedPiece::Equal) {
             return Some(if self.is_alias_line() {
@@ -165,6 +207,12 @@ impl Mistake<'_> {
         }
         if !self.may_be(ExpectedPiece::Comma) || !self.may_be(ExpectedPiece::End) {
             return None;
+        }
+        if is_reserved(self.word())
+            && self.word() != b"ALL".as_slice()
+            && !self.is_defaults_line()
+        {
+            return Some(Hint::TagColon);
         }
         if self.is_alias_line() && !self.word().is_empty() {
             return Some(Hint::CommaBetweenMembers);
@@ -177,9 +225,6 @@ impl Mistake<'_> {
 
     /// Returns the hint where `=` has to stand after the hosts of a rule.
     fn hint_of_missing_equal(&self) -> Hint {
-        if self.is_last_colon_in_arguments() {
-            return Hint::ColonInArguments;
-        }
         let is_word_before_equal = match self.behind.split_at_checked(self.word().len()) {
             Some((word, rest)) => !word.is_empty() && strip_leading_blanks(rest).starts_with(b"="),
             None => false,

@@ -4,7 +4,6 @@ use crate::expected_pieces::ExpectedPiece;
 use crate::hints::Hint;
 use std::alloc::{AllocError, Global};
 use sudoers_grammar::Why;
-use sudoers_text::is_reserved;
 
 /// The first fault of a line: the bytes of the line before its place and from there on, its cause, and what may stand there.
 #[derive(Clone, Copy)]
@@ -45,6 +44,9 @@ const LINE_KEYWORDS: [&[u8]; 7] = [
 
 /// The bytes with which the keywords of include lines begin.
 const INCLUDE_KEYWORDS: [&[u8]; 2] = [b"@include", b"#include"];
+
+/// The bytes of a byte order mark.
+const BYTE_ORDER_MARK: &[u8] = b"\xef\xbb\xbf";
 
 /// The bytes with which comments of other languages begin.
 const COMMENT_MARKS: [&[u8]; 4] = [b"// ", b"/* ", b"; ", b"-- "];
@@ -90,6 +92,24 @@ fn is_blank_up_to_line_end(text: &[u8]) -> bool {
 /// Returns whether one of `prefixes` begins `text`.
 pub fn begins_with_any(text: &[u8], prefixes: &[&[u8]]) -> bool {
     prefixes.iter().any(|prefix| text.starts_with(prefix))
+}
+
+/// Returns the last byte of `text` that is no blank.
+pub fn last_mark_of(text: &[u8]) -> Option<u8> {
+    let mut last = None;
+    for byte in text {
+        if !is_space_or_tab(*byte) {
+            last = Some(*byte);
+        }
+    }
+    last
+}
+
+/// Returns whether a typographic quote stands in `text`.
+fn has_typographic_quote(text: &[u8]) -> bool {
+    text.split(|byte| *byte == 0xe2).any(
+        |rest| matches!(rest, [0x80, last, ..] if (0x98..=0x9f).contains(last)),
+    )
 }
 
 /// Returns whether the letters of `word` are `letters`, whatever their case, `_` and `-` aside.
@@ -148,17 +168,6 @@ impl<'a> Mistake<'a> {
         }
     }
 
-    /// Returns the last byte before the place of the mistake that is no blank.
-    pub fn last_mark_before(&self) -> Option<u8> {
-        let mut last = None;
-        for byte in self.before {
-            if !is_space_or_tab(*byte) {
-                last = Some(*byte);
-            }
-        }
-        last
-    }
-
     /// Returns whether the line begins with a keyword of alias lines.
     pub fn is_alias_line(&self) -> bool {
         self.first_word().ends_with(b"_Alias")
@@ -184,7 +193,8 @@ impl<'a> Mistake<'a> {
         };
         let is_glued = match (front.last(), rest.first(), self.behind.first()) {
             (Some(left), Some(right), _) => !is_space_or_tab(*left) && !is_space_or_tab(*right),
-            (Some(left), None, Some(right)) => !is_space_or_tab(*left) && !is_space_or_tab(*right),
+            (Some(left), None, Some(right)) => !is_space_or_tab(*left)
+                && !b" \t\r\n".contains(right),
             _ => false,
         };
         is_glued && front.contains(&b'=') && front.contains(&b'/')
@@ -219,10 +229,9 @@ impl<'a> Mistake<'a> {
         }
         let upper = make_upper_case(alloc, self.word())?;
         if self.is_place_of_command()
-            && is_reserved(upper.as_slice())
-            && upper.as_slice() != self.word()
+            && let Some(hint) = self.hint_of_reserved_word(upper.as_slice())
         {
-            return Ok(Some(Hint::Capitals));
+            return Ok(Some(hint));
         }
         Ok(self.hint_of_pieces())
     }
@@ -230,10 +239,15 @@ impl<'a> Mistake<'a> {
     /// Returns the number of the byte of the line at which people look for the mistake of `hint`, if that stands before the place.
     pub fn offset_of_hint(&self, hint: Hint) -> Option<usize> {
         match hint {
-            Hint::MergeMark | Hint::CommentMark | Hint::Keyword(_) => self
+            Hint::MergeMark | Hint::CommentMark | Hint::ByteOrderMark | Hint::Keyword(_) => self
                 .before
                 .iter()
                 .position(|byte| !is_space_or_tab(*byte)),
+            Hint::Tag(_) if !self.is_place_of_command() => {
+                let (start, _) = self.find_misspelled_tag()?;
+                Some(start)
+            }
+            Hint::CommaBehindDigest => find_offset_behind_last(self.before, b',').checked_sub(1),
             Hint::ColonInArguments => find_offset_behind_last(self.before, b':').checked_sub(1),
             Hint::Ipv6 => Some(find_offset_behind_last(self.before, b' ')),
             _ => None,
@@ -251,6 +265,14 @@ impl<'a> Mistake<'a> {
         if begins_with_any(strip_leading_blanks(self.before), &COMMENT_MARKS) {
             return Some(Hint::CommentMark);
         }
+        if let Some(rest) = self.before.strip_prefix(BYTE_ORDER_MARK)
+            && (rest.is_empty() || begins_with_any(rest, &LINE_KEYWORDS))
+        {
+            return Some(Hint::ByteOrderMark);
+        }
+        if self.may_be_rule_of_default() {
+            return None;
+        }
         for (keyword, letters) in &KEYWORDS {
             if has_letters(first, letters) && !begins_with_any(first, &LINE_KEYWORDS) {
                 return Some(Hint::Keyword(*keyword));
@@ -259,16 +281,28 @@ impl<'a> Mistake<'a> {
         None
     }
 
+    /// Returns whether the line may be a rule of a user `default` or `defaults`: `ALL` stands before the place, or a command may stand there.
+    pub fn may_be_rule_of_default(&self) -> bool {
+        let first = self.first_word();
+        let is_default = has_letters(first, b"default") || has_letters(first, b"defaults");
+        let has_all = self
+            .before
+            .split(|byte| ends_word(*byte))
+            .any(|word| word == b"ALL".as_slice());
+        is_default && !self.is_defaults_line() && (has_all || self.is_place_of_command())
+    }
+
     /// Returns the hint for the bytes at the place.
     fn hint_of_bytes(&self) -> Option<Hint> {
         match self.behind {
             [b'\\', rest @ ..] if is_blank_up_to_line_end(rest) => Some(Hint::BlankAfterBackslash),
             [b'\r', b'\n', ..] => None,
             [b'\r', ..] => Some(Hint::CarriageReturn),
-            [0xe2, 0x80, last, ..] if (0x98..=0x9f).contains(last) => Some(Hint::CurlyQuote),
+            [b';', rest @ ..] if is_rest_empty(rest) => Some(Hint::Semicolon),
             [b'=', ..] if self.before.contains(&b'=') && self.before.contains(&b'/') => Some(
                 Hint::EqualInArguments,
             ),
+            _ if has_typographic_quote(self.word()) => Some(Hint::CurlyQuote),
             _ => None,
         }
     }

@@ -10,14 +10,13 @@ use Rattle.sudoers_tree.specs.Load.{LoadedPolicy}
 use Rattle.sudoers_check.specs.Chain.{IsReachedByChainOfSteps, here, onward}
 use Rattle.sudoers_match_member.specs.declared.people_and_commands.Who.{Who}
 use Rattle.sudoers_match_member.specs.declared.request.Request.{Request}
-use Rattle.sudoers_match_member.specs.Hits.{is_command_atom_match}
 use Rattle.sudoers_match_list.specs.Flat.{alias_members_of_atom}
-use Rattle.sudoers_match.specs.Answer.{Answer, command_with_joined_arguments_of_request}
+use Rattle.sudoers_match.specs.Answer.{Answer}
 use Rattle.sudoers_match.specs.Default.{IsRunasDefault}
 use Rattle.sudoers_match.specs.Last.{IsLastItemWith}
 use Rattle.sudoers_match.proofs.Lasts.{last_one}
 use Rattle.sudoers_list.specs.Inner.{IsDecidingMemberOfAlias, InnerAliasMember, IsDecidingAliasMember, IsInnermostDecidingMember, DecidingMemberOfAliasNamesOtherAlias, MemberMatchesCommand}
-use Rattle.sudoers_list.specs.Reason.{IsAliasMemberOfRule, IsReasonText, IsReasonByDecidingRule, IsReasonOfAnswer, rule_text_with_alias_member}
+use Rattle.sudoers_list.specs.Reason.{IsAliasMemberOfRule, IsReasonTextByTest, IsReasonByDecidingRule, IsReasonOfAnswer, rule_text_with_alias_member}
 use Rattle.sudoers_list.specs.Rule.{DecidingRuleOnLine, deciding_rule}
 
 -- ---- chains whose steps lead to one thing
@@ -112,23 +111,23 @@ module _ (lines : List Line) (test : Atom → Bool) where
 
 -- ---- reasons
 
-alias_member_of_rule_is_unique : (lines : List Line) (r : Request) (o : Option DecidingRuleOnLine) (a b : Option InnerAliasMember) → IsAliasMemberOfRule lines r o a → IsAliasMemberOfRule lines r o b → a ≡ b
-alias_member_of_rule_is_unique lines r None a b p q = p ∙ sym q
-alias_member_of_rule_is_unique lines r (Some rule) a b p q = one_inner lines (is_command_atom_match (command_with_joined_arguments_of_request r)) rule.command.member a b p q
+alias_member_of_rule_is_unique : (lines : List Line) (test : Atom → Bool) (o : Option DecidingRuleOnLine) (a b : Option InnerAliasMember) → IsAliasMemberOfRule lines test o a → IsAliasMemberOfRule lines test o b → a ≡ b
+alias_member_of_rule_is_unique lines test None a b p q = p ∙ sym q
+alias_member_of_rule_is_unique lines test (Some rule) a b p q = one_inner lines test rule.command.member a b p q
 
-reason_by_deciding_rule_is_unique : (policy : LoadedPolicy) (r : Request) (d : List ℕ) (a : Answer) (t u : List ℕ) → IsReasonByDecidingRule policy r d a t → IsReasonByDecidingRule policy r d a u → t ≡ u
-reason_by_deciding_rule_is_unique policy r d a t u p q =
+reason_by_deciding_rule_is_unique : (policy : LoadedPolicy) (test : Atom → Bool) (r : Request) (d : List ℕ) (a : Answer) (t u : List ℕ) → IsReasonByDecidingRule policy test r d a t → IsReasonByDecidingRule policy test r d a u → t ≡ u
+reason_by_deciding_rule_is_unique policy test r d a t u p q =
     let rule = deciding_rule policy.walk.lines a in
     p.says
-    ∙ ap (λ inner. rule_text_with_alias_member policy r.who.user.name d a.allow inner rule) (alias_member_of_rule_is_unique policy.walk.lines r rule p.inner q.inner p.is_inner q.is_inner)
+    ∙ ap (λ inner. rule_text_with_alias_member policy r.who.user.name d a.allow inner rule) (alias_member_of_rule_is_unique policy.walk.lines test rule p.inner q.inner p.is_inner q.is_inner)
     ∙ sym q.says
 
-reason_of_answer_is_unique : (policy : LoadedPolicy) (r : Request) (d : List ℕ) (answer : Option Answer) (t u : List ℕ) → IsReasonOfAnswer policy r d answer t → IsReasonOfAnswer policy r d answer u → t ≡ u
-reason_of_answer_is_unique policy r d None t u p q = p ∙ sym q
-reason_of_answer_is_unique policy r d (Some a) t u p q = reason_by_deciding_rule_is_unique policy r d a t u p q
+reason_of_answer_is_unique : (policy : LoadedPolicy) (test : Atom → Bool) (r : Request) (d : List ℕ) (answer : Option Answer) (t u : List ℕ) → IsReasonOfAnswer policy test r d answer t → IsReasonOfAnswer policy test r d answer u → t ≡ u
+reason_of_answer_is_unique policy test r d None t u p q = p ∙ sym q
+reason_of_answer_is_unique policy test r d (Some a) t u p q = reason_by_deciding_rule_is_unique policy test r d a t u p q
 
 pub reason_text_is_unique : ((lines : List Line) (who : Who) (name other : List ℕ) → IsRunasDefault lines who name → IsRunasDefault lines who other → name ≡ other)
-    → (policy : LoadedPolicy) (r : Request) (answer : Option Answer) (t u : List ℕ) → IsReasonText policy r answer t → IsReasonText policy r answer u → t ≡ u
-reason_text_is_unique one_default policy r answer t u a b =
+    → (policy : LoadedPolicy) (test : Atom → Bool) (r : Request) (answer : Option Answer) (t u : List ℕ) → IsReasonTextByTest policy test r answer t → IsReasonTextByTest policy test r answer u → t ≡ u
+reason_text_is_unique one_default policy test r answer t u a b =
     let d : a.default ≡ b.default = one_default policy.walk.lines r.who a.default b.default a.is_default b.is_default in
-    reason_of_answer_is_unique policy r b.default answer t u (subst (λ x. IsReasonOfAnswer policy r x answer t) d a.tells) b.tells
+    reason_of_answer_is_unique policy test r b.default answer t u (subst (λ x. IsReasonOfAnswer policy test r x answer t) d a.tells) b.tells

@@ -1,5 +1,5 @@
 -- What stands at the place of an answer, and at that of a host group.
-use Rattle.std.proofs.Common.{◌≡◌, true, ◌⊎◌, inl, inr, ⊎_elim, ◌+◌, ℕ, zero, suc, List, [], ◌∷◌, ◌++◌, map, slice_get, Option, Some, None, option_and_then, refl, sym, ap, subst, ◌∙◌, arith}
+use Rattle.std.proofs.Common.{◌≡◌, Bool, true, ◌⊎◌, inl, inr, ⊎_elim, ◌+◌, ℕ, zero, suc, List, [], ◌∷◌, ◌++◌, map, slice_get, Option, Some, None, option_and_then, refl, sym, ap, subst, ◌∙◌, arith}
 use Rattle.std.proofs.lemmas.Option.{same_Some, slice_get-map}
 use Rattle.std.specs.List.{cons_option}
 use Rattle.std.specs.Option.{option_map}
@@ -12,9 +12,10 @@ use Rattle.sudoers_match_member.specs.declared.people_and_commands.Who.{Who}
 use Rattle.sudoers_match.specs.declared.matching_host_groups.HostGroupPlace.{HostGroupPlace}
 use Rattle.sudoers_match_member.specs.declared.request.Request.{Request}
 use Rattle.sudoers_grammar.specs.declared.node.Kind.TheVariants.{User, Host}
-use Rattle.sudoers_match_member.specs.Hits.{is_user_atom_match, is_host_atom_match, is_command_atom_match}
+use Rattle.sudoers_grammar.specs.declared.node.Atom.{Atom}
+use Rattle.sudoers_match_member.specs.Hits.{is_user_atom_match, is_host_atom_match}
 use Rattle.sudoers_match.specs.Allows.{ListAllows}
-use Rattle.sudoers_match.specs.Answer.{Answer, RowFitsRequest, IsAnswerToRequest, command_with_joined_arguments_of_request, is_request_command_hit, answer_of_fitting_row}
+use Rattle.sudoers_match.specs.Answer.{Answer, RowFitsRequestByTest, IsAnswerByCommandTest, is_command_hit_by_test, answer_of_fitting_row}
 use Rattle.sudoers_match.specs.declared.answer_of_row.AnswerWithMemberAndSettings.{AnswerWithMemberAndSettings}
 use Rattle.sudoers_match.specs.Found.{HasMemberAndSettingsFromLines, answer_without_member_and_settings, specs_with_line_numbers}
 use Rattle.sudoers_match.specs.Groups.{ArePlacesOfMatchingHostGroups, HoldsHostGroupPlaceIfHostsMatch, AreMatchingHostGroupPlacesOfSpec, host_group_place_from_spec_number}
@@ -191,7 +192,7 @@ answer_of_last_row_is_fitting_row P rows (Some row) a says is =
     (row, subst (λ l. ListHasElement l row) (sym is.2) (element_amid_list_is_in_list is.0 is.1 row), same, is.3)
 
 -- What stands at the place of an answer: a user specification whose users match, a host group of it whose hosts match, and a command.
-record HasMatchingPlaceOfAnswer (lines : List Line) (r : Request) (a : Answer) : Type 0 where
+record HasMatchingPlaceOfAnswer (lines : List Line) (test : Atom → Bool) (r : Request) (a : Answer) : Type 0 where
   pub spec : UserSpec
   pub group : HostGroup
   pub command : AccumulatedCommandSettings × Member
@@ -200,11 +201,11 @@ record HasMatchingPlaceOfAnswer (lines : List Line) (r : Request) (a : Answer) :
   pub this : slice_get (commands_with_settings empty_command_settings group.commands) a.command ≡ Some command
   pub user : ListAllows User lines (is_user_atom_match r.who.user) spec.users
   pub host : ListAllows Host lines (is_host_atom_match r.who) group.hosts
-  pub speaks : MemberMatchesCommand lines (is_command_atom_match (command_with_joined_arguments_of_request r)) command.1
+  pub speaks : MemberMatchesCommand lines test command.1
 
-answer_has_matching_place : (lines : List Line) (r : Request) (a : Answer) → IsAnswerToRequest lines r (Some a) → HasMatchingPlaceOfAnswer lines r a
-answer_has_matching_place lines r a is =
-    let last = answer_of_last_row_is_fitting_row (RowFitsRequest lines r) is.rows is.answers.last a is.answers.says is.answers.is_last in
+answer_has_matching_place : (lines : List Line) (test : Atom → Bool) (r : Request) (a : Answer) → IsAnswerByCommandTest lines test r (Some a) → HasMatchingPlaceOfAnswer lines test r a
+answer_has_matching_place lines test r a is =
+    let last = answer_of_last_row_is_fitting_row (RowFitsRequestByTest lines test r) is.rows is.answers.last a is.answers.says is.answers.is_last in
     let row = last.0 in
     let s = concatenated_element_is_in_part_from_zero (AreRowsPerFlatAtomOfSpec lines) (user_specs_of_lines lines) is.rows row is.are_rows last.1 in
     let g = concatenated_element_is_in_part_from_zero (AreRowsPerFlatAtomOfHostGroup lines s.number s.thing.users) s.thing.groups s.part row s.is_part s.has in
@@ -224,32 +225,32 @@ answer_has_matching_place lines r a is =
       user = subst (λ (x : PrivilegeRow). ListAllows User lines (is_user_atom_match r.who.user) x.users) (sym atom.1) last.3.user;
       host = subst (λ (x : PrivilegeRow). ListAllows Host lines (is_host_atom_match r.who) x.hosts) (sym atom.1) last.3.host;
       speaks =
-          list_with_matching_flat_atom_matches_command lines (is_command_atom_match (command_with_joined_arguments_of_request r)) (c.thing.1 ∷ []) flat.0 atom.0 flat.1 atom.2
-          (subst (λ (x : PrivilegeRow). is_request_command_hit r x.atom ≡ true) (sym atom.1) last.3.command);
+          list_with_matching_flat_atom_matches_command lines test (c.thing.1 ∷ []) flat.0 atom.0 flat.1 atom.2
+          (subst (λ (x : PrivilegeRow). is_command_hit_by_test test x.atom ≡ true) (sym atom.1) last.3.command);
     }
 
-pub answer_has_deciding_rule : (lines : List Line) (request : Request) (a : Answer) → IsAnswerToRequest lines request (Some a) → (rule : DecidingRuleOnLine) × (deciding_rule lines a ≡ Some rule)
-answer_has_deciding_rule lines request a is =
-    let w = answer_has_matching_place lines request a is in
+pub answer_has_deciding_rule : (lines : List Line) (test : Atom → Bool) (request : Request) (a : Answer) → IsAnswerByCommandTest lines test request (Some a) → (rule : DecidingRuleOnLine) × (deciding_rule lines a ≡ Some rule)
+answer_has_deciding_rule lines test request a is =
+    let w = answer_has_matching_place lines test request a is in
     let r = places_of_answer_have_deciding_rule lines a w.spec w.group w.command w.there w.here w.this in
     (r.0, r.1)
 
 -- The command of the rule that decides says something of the command that is asked for.
-pub deciding_rule_member_matches_command : (lines : List Line) (request : Request) (a : Answer) (rule : DecidingRuleOnLine) → IsAnswerToRequest lines request (Some a) → deciding_rule lines a ≡ Some rule
-    → MemberMatchesCommand lines (is_command_atom_match (command_with_joined_arguments_of_request request)) rule.command.member
-deciding_rule_member_matches_command lines request a rule is e =
-    let w = answer_has_matching_place lines request a is in
+pub deciding_rule_member_matches_command : (lines : List Line) (test : Atom → Bool) (request : Request) (a : Answer) (rule : DecidingRuleOnLine) → IsAnswerByCommandTest lines test request (Some a) → deciding_rule lines a ≡ Some rule
+    → MemberMatchesCommand lines test rule.command.member
+deciding_rule_member_matches_command lines test request a rule is e =
+    let w = answer_has_matching_place lines test request a is in
     let r = places_of_answer_have_deciding_rule lines a w.spec w.group w.command w.there w.here w.this in
     let same : r.0 ≡ rule = same_Some r.0 rule (sym r.1 ∙ e) in
-    subst (MemberMatchesCommand lines (is_command_atom_match (command_with_joined_arguments_of_request request))) (sym r.2 ∙ ap (λ (x : DecidingRuleOnLine). x.command.member) same) w.speaks
+    subst (MemberMatchesCommand lines test) (sym r.2 ∙ ap (λ (x : DecidingRuleOnLine). x.command.member) same) w.speaks
 
 -- A text names the rule, whose member decides or hides one that does.
-pub deciding_rule_text_is_reason : (policy : LoadedPolicy) (r : Request) (user d text : List ℕ) (a : Answer) (rule : DecidingRuleOnLine) (inner : Option InnerAliasMember) → user ≡ r.who.user.name
-    → deciding_rule policy.walk.lines a ≡ Some rule → IsDecidingAliasMember policy.walk.lines (is_command_atom_match (command_with_joined_arguments_of_request r)) rule.command.member inner
-    → text ≡ place_verdict_and_command_text policy user d a.allow rule ++ alias_member_reason_text policy inner → IsReasonByDecidingRule policy r d a text
-deciding_rule_text_is_reason policy r user d text a rule inner same e is t = record {
+pub deciding_rule_text_is_reason : (policy : LoadedPolicy) (test : Atom → Bool) (r : Request) (user d text : List ℕ) (a : Answer) (rule : DecidingRuleOnLine) (inner : Option InnerAliasMember) → user ≡ r.who.user.name
+    → deciding_rule policy.walk.lines a ≡ Some rule → IsDecidingAliasMember policy.walk.lines test rule.command.member inner
+    → text ≡ place_verdict_and_command_text policy user d a.allow rule ++ alias_member_reason_text policy inner → IsReasonByDecidingRule policy test r d a text
+deciding_rule_text_is_reason policy test r user d text a rule inner same e is t = record {
   inner = inner;
-  is_inner = subst (λ o. IsAliasMemberOfRule policy.walk.lines r o inner) (sym e) is;
+  is_inner = subst (λ o. IsAliasMemberOfRule policy.walk.lines test o inner) (sym e) is;
   says =
       t
       ∙ ap (λ u. place_verdict_and_command_text policy u d a.allow rule ++ alias_member_reason_text policy inner) same
@@ -299,9 +300,9 @@ group_of_matching_spec_is_in_places lines who i n s g part user here host (inl a
     part_from_zero_is_in_concatenation (HoldsHostGroupPlaceIfHostsMatch lines who i) n s.groups part g (host_group_place_from_spec_number i n) a.1 here (λ inner p. matching_host_group_is_in_places lines who i n g inner host p)
 group_of_matching_spec_is_in_places lines who i n s g part user here host (inr b) = absurd (b.0 user)
 
-pub group_of_answer_is_among_matching : (lines : List Line) (r : Request) (a : Answer) (places : List HostGroupPlace) → IsAnswerToRequest lines r (Some a)
+pub group_of_answer_is_among_matching : (lines : List Line) (test : Atom → Bool) (r : Request) (a : Answer) (places : List HostGroupPlace) → IsAnswerByCommandTest lines test r (Some a)
     → ArePlacesOfMatchingHostGroups lines r.who places → ListHasElement places (host_group_place_from_spec_number a.spec a.host_group)
-group_of_answer_is_among_matching lines r a places is are =
-    let w = answer_has_matching_place lines r a is in
+group_of_answer_is_among_matching lines test r a places is are =
+    let w = answer_has_matching_place lines test r a is in
     part_from_zero_is_in_concatenation (AreMatchingHostGroupPlacesOfSpec lines r.who) a.spec (user_specs_of_lines lines) places w.spec (host_group_place_from_spec_number a.spec a.host_group) are w.there
     (λ part p. group_of_matching_spec_is_in_places lines r.who a.spec a.host_group w.spec w.group part w.user w.here w.host p)

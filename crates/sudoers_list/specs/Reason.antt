@@ -2,6 +2,7 @@
 use Rattle.std.specs.Prelude.{◌≡◌, ℕ, ◌+◌, Bool, true, false, List, [], ◌++◌, codes, take, slice_get, Option, Some, None, option_and_then}
 use Rattle.std.specs.Fmt.{decimal}
 use Rattle.sudoers_text.specs.Fault.{lf_count}
+use Rattle.sudoers_grammar.specs.declared.node.Atom.{Atom}
 use Rattle.sudoers_grammar.specs.declared.node.Kind.TheVariants.{Cmnd}
 use Rattle.sudoers_tree.specs.declared.place.Place.{Place}
 use Rattle.sudoers_tree.specs.Line.{Line}
@@ -11,8 +12,7 @@ use Rattle.sudoers_tree.specs.Load.{LoadedPolicy}
 use Rattle.sudoers_tree.specs.Physical.{column_behind}
 use Rattle.sudoers_tree.specs.Walk.{spot_of_walk_line}
 use Rattle.sudoers_match_member.specs.declared.request.Request.{Request}
-use Rattle.sudoers_match_member.specs.Hits.{is_command_atom_match}
-use Rattle.sudoers_match.specs.Answer.{Answer, command_with_joined_arguments_of_request}
+use Rattle.sudoers_match.specs.Answer.{Answer, is_request_command_match}
 use Rattle.sudoers_match.specs.Default.{IsRunasDefault}
 use Rattle.sudoers_cvt_spell.specs.Commands.{printed_runas_options_tags_and_command}
 use Rattle.sudoers_cvt_spell.specs.Members.{printed_member}
@@ -77,23 +77,27 @@ abbrev pub rule_text_with_alias_member : LoadedPolicy → List ℕ → List ℕ 
 rule_text_with_alias_member policy user d allow inner None = no_rule_matches_text
 rule_text_with_alias_member policy user d allow inner (Some rule) = place_verdict_and_command_text policy user d allow rule ++ alias_member_reason_text policy inner
 
--- The member that decides of the rule stands in this alias, if it stands in one.
-abbrev pub IsAliasMemberOfRule : List Line → Request → Option DecidingRuleOnLine → Option InnerAliasMember → Type 0
-IsAliasMemberOfRule lines request None inner = inner ≡ None
-IsAliasMemberOfRule lines request (Some rule) inner = IsDecidingAliasMember lines (is_command_atom_match (command_with_joined_arguments_of_request request)) rule.command.member inner
+-- The member that decides of the rule, by this test of the command, stands in this alias, if it stands in one.
+abbrev pub IsAliasMemberOfRule : List Line → (Atom → Bool) → Option DecidingRuleOnLine → Option InnerAliasMember → Type 0
+IsAliasMemberOfRule lines test None inner = inner ≡ None
+IsAliasMemberOfRule lines test (Some rule) inner = IsDecidingAliasMember lines test rule.command.member inner
 
 -- The text names the rule that gives the answer. d: as whom a command runs where nothing else is said
-pub record IsReasonByDecidingRule (policy : LoadedPolicy) (request : Request) (d : List ℕ) (a : Answer) (text : List ℕ) : Type 0 where
+pub record IsReasonByDecidingRule (policy : LoadedPolicy) (test : Atom → Bool) (request : Request) (d : List ℕ) (a : Answer) (text : List ℕ) : Type 0 where
   pub inner : Option InnerAliasMember
-  pub is_inner : IsAliasMemberOfRule policy.walk.lines request (deciding_rule policy.walk.lines a) inner
+  pub is_inner : IsAliasMemberOfRule policy.walk.lines test (deciding_rule policy.walk.lines a) inner
   pub says : text ≡ rule_text_with_alias_member policy request.who.user.name d a.allow inner (deciding_rule policy.walk.lines a)
 
-abbrev pub IsReasonOfAnswer : LoadedPolicy → Request → List ℕ → Option Answer → List ℕ → Type 0
-IsReasonOfAnswer policy request d None text = text ≡ no_rule_matches_text
-IsReasonOfAnswer policy request d (Some a) text = IsReasonByDecidingRule policy request d a text
+abbrev pub IsReasonOfAnswer : LoadedPolicy → (Atom → Bool) → Request → List ℕ → Option Answer → List ℕ → Type 0
+IsReasonOfAnswer policy test request d None text = text ≡ no_rule_matches_text
+IsReasonOfAnswer policy test request d (Some a) text = IsReasonByDecidingRule policy test request d a text
 
--- The text tells why the request is so answered.
-pub record IsReasonText (policy : LoadedPolicy) (request : Request) (answer : Option Answer) (text : List ℕ) : Type 0 where
+-- The text tells why the request has this answer by this test of its command.
+pub record IsReasonTextByTest (policy : LoadedPolicy) (test : Atom → Bool) (request : Request) (answer : Option Answer) (text : List ℕ) : Type 0 where
   pub default : List ℕ
   pub is_default : IsRunasDefault policy.walk.lines request.who default
-  pub tells : IsReasonOfAnswer policy request default answer text
+  pub tells : IsReasonOfAnswer policy test request default answer text
+
+-- The text tells why the request is so answered.
+abbrev pub IsReasonText : LoadedPolicy → Request → Option Answer → List ℕ → Type 0
+IsReasonText policy request = IsReasonTextByTest policy (is_request_command_match request) request

@@ -5,13 +5,14 @@ ghost use Rattle.std.specs.Option.{option_map};
 ghost use Rattle.sudoers_tree.specs.Line.{line_of_view};
 ghost use Rattle.sudoers_check.specs.Chains.{HasCyclicAliasReachedFromSpecOrDefaults};
 ghost use Rattle.sudoers_match_list.specs.declared.verdict.AskFault.TheVariants.{Cycle, NoMemory};
-ghost use Rattle.sudoers_match.specs.Answer.{IsAnswerToRequest, answer_of_view};
+ghost use Rattle.sudoers_match.specs.Answer.{IsAnswerByCommandTest, IsAnswerToRequest, answer_of_view};
 ghost use Rattle.sudoers_match.specs.Default.{IsRunasDefault};
 ghost use Rattle.sudoers_match.specs.Found.{HasMemberAndSettingsFromLines, answer_without_member_and_settings};
 ghost use Rattle.sudoers_match.specs.Heads.{AccumulatedCommandSettings as HeadOf};
 ghost use Rattle.sudoers_match.specs.IsHead.{HoldsCommandSettings};
+ghost use Rattle.sudoers_match.specs.Spellings.{is_spelled_command_match};
 ghost use Rattle.sudoers_list.specs.internal.Inside.{alias_member_of_view, deciding_rule_of_held_and_settings};
-ghost use Rattle.sudoers_list.specs.Reason.{IsReasonText, IsReasonByDecidingRule, alias_member_reason_text, no_rule_matches_text, place_verdict_and_command_text, allowed_or_denied_words as words_of};
+ghost use Rattle.sudoers_list.specs.Reason.{IsReasonText, IsReasonTextByTest, IsReasonByDecidingRule, alias_member_reason_text, no_rule_matches_text, place_verdict_and_command_text, allowed_or_denied_words as words_of};
 
 use crate::byte_place::append_byte_place;
 use crate::deciding_member::{DecidingAliasMember, find_deciding_alias_member};
@@ -21,7 +22,8 @@ use std::alloc::{AllocError, Global};
 use sudoers_cvt_spell::append_member;
 use sudoers_grammar::Kind;
 use sudoers_match::{
-    Answer, AnswerWithMemberAndSettings, find_answer_without_args_limit, find_runas_default_for,
+    Answer, AnswerWithMemberAndSettings, CommandSpellings, find_answer_without_args_limit,
+    find_runas_default_for, make_sole_spelling,
 };
 use sudoers_match_list::{AcyclicWalk, AskFault};
 use sudoers_match_member::Request;
@@ -105,14 +107,15 @@ fn make_reason_text_of_found_answer<'a>(
     policy: &'a Policy,
     acyclic: &AcyclicWalk<'a>,
     request: &Request,
+    command: &CommandSpellings,
     names: &UserAndRunasDefaultNames<'_>,
     found: &AnswerWithMemberAndSettings<'a>,
 ) -> Result<Vec<u8>, AllocError>
     requires same { acyclic.now ≡ policy.now.walk.lines }
-    requires answer { IsAnswerToRequest policy.now.walk.lines request.now (Some (answer_without_member_and_settings found.now)) }
+    requires answer { IsAnswerByCommandTest policy.now.walk.lines (is_spelled_command_match command.now) request.now (Some (answer_without_member_and_settings found.now)) }
     requires found { HasMemberAndSettingsFromLines policy.now.walk.lines found.now }
     requires user { names.now.user.now ≡ request.now.who.user.name }
-    ensures { IfOk result (λ text. IsReasonByDecidingRule policy.now request.now names.now.default.now (answer_without_member_and_settings found.now) text.items) }
+    ensures { IfOk result (λ text. IsReasonByDecidingRule policy.now (is_spelled_command_match command.now) request.now names.now.default.now (answer_without_member_and_settings found.now) text.items) }
 {
     let rule = deciding_rule_of_found_answer(policy, found);
     let mut text = make_place_verdict_and_command_text(
@@ -125,12 +128,43 @@ fn make_reason_text_of_found_answer<'a>(
     if let Some(inner) = find_deciding_alias_member(
         alloc,
         acyclic,
-        request,
+        command,
         &rule.command.member,
     )? {
         append_alias_member_reason(alloc, &mut text, policy, &inner)?;
     }
     Ok(text)
+}
+
+/// The rule that gives an answer, and the member that decides if an alias hides it.
+#[derive(Clone, Copy)]
+pub struct AnswerReason<'a> {
+    pub rule: DecidingRule<'a>,
+    pub inner: Option<DecidingAliasMember<'a>>,
+}
+
+/// Returns the rule that gives the answer `found` to `request`, and the member that decides if an alias hides it. `command` is the command
+/// of `request` in each spelling, and `acyclic` the walk of `policy`.
+///
+/// # Errors
+///
+/// Memory ran out.
+pub fn find_answer_reason<'a>(
+    alloc: Global,
+    policy: &'a Policy,
+    acyclic: &AcyclicWalk<'a>,
+    request: &Request,
+    command: &CommandSpellings,
+    found: &AnswerWithMemberAndSettings<'a>,
+) -> Result<AnswerReason<'a>, AllocError>
+    requires same { acyclic.now ≡ policy.now.walk.lines }
+    requires answer { IsAnswerByCommandTest policy.now.walk.lines (is_spelled_command_match command.now) request.now (Some (answer_without_member_and_settings found.now)) }
+    requires found { HasMemberAndSettingsFromLines policy.now.walk.lines found.now }
+{
+    let rule = deciding_rule_of_found_answer(policy, found);
+    let member = rule.command.member;
+    let inner = find_deciding_alias_member(alloc, acyclic, command, &member)?;
+    Ok(AnswerReason { rule, inner })
 }
 
 /// Returns why `request` has this answer, as a text. Its line names the file of the rule that decides, the place of its command there,
@@ -180,13 +214,37 @@ pub fn explain_found_answer<'a>(
     requires found { IfSome found (HasMemberAndSettingsFromLines policy.now.walk.lines) }
     ensures { IfOk result (λ text. IsReasonText policy.now request.now (option_map answer_without_member_and_settings found.entry) text.items) }
 {
+    let command = make_sole_spelling(alloc, request)?;
+    explain_spelled_answer(alloc, policy, acyclic, request, &command, default, found)
+}
+
+/// Returns why `request` has its answer, as [`explain_found_answer`] does, where `command` is its command in each spelling.
+///
+/// # Errors
+///
+/// Memory ran out.
+pub fn explain_spelled_answer<'a>(
+    alloc: Global,
+    policy: &'a Policy,
+    acyclic: &AcyclicWalk<'a>,
+    request: &Request,
+    command: &CommandSpellings,
+    default: &[u8],
+    found: Option<AnswerWithMemberAndSettings<'a>>,
+) -> Result<Vec<u8>, AllocError>
+    requires same { acyclic.now ≡ policy.now.walk.lines }
+    requires default { IsRunasDefault policy.now.walk.lines request.now.who default.now }
+    requires answer { IsAnswerByCommandTest policy.now.walk.lines (is_spelled_command_match command.now) request.now (option_map answer_without_member_and_settings found) }
+    requires found { IfSome found (HasMemberAndSettingsFromLines policy.now.walk.lines) }
+    ensures { IfOk result (λ text. IsReasonTextByTest policy.now (is_spelled_command_match command.now) request.now (option_map answer_without_member_and_settings found.entry) text.items) }
+{
     let names = UserAndRunasDefaultNames {
         user: request.who.user.name.as_slice(),
         default,
     };
     match found {
         Some(found) => make_reason_text_of_found_answer(
-            alloc, policy, acyclic, request, &names, &found,
+            alloc, policy, acyclic, request, command, &names, &found,
         ),
         None => make_no_rule_text(alloc),
     }

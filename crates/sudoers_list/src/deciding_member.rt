@@ -7,11 +7,10 @@ ghost use Rattle.sudoers_grammar.specs.declared.node.Kind.TheVariants.{Cmnd as O
 ghost use Rattle.sudoers_line_rows.specs.Tables.{member_in_tables};
 ghost use Rattle.sudoers_line_rows.specs.View.{atom_of_view, member_of_view, members_of_view};
 ghost use Rattle.sudoers_tree.specs.Definition.{definitions_of_lines, members_of_alias_definition};
-ghost use Rattle.sudoers_match_member.specs.Hits.{is_command_atom_match};
 ghost use Rattle.sudoers_match_list.specs.Flat.{alias_members_of_atom};
 ghost use Rattle.sudoers_match_list.specs.Search.{IsValidVerdictCache};
-ghost use Rattle.sudoers_match.specs.Answer.{command_with_joined_arguments_of_request};
 ghost use Rattle.sudoers_match.specs.Last.{IsLastItemWith};
+ghost use Rattle.sudoers_match.specs.Spellings.{is_spelled_command_match};
 ghost use Rattle.sudoers_list.specs.internal.Going.{IsFlattenableCommandList, IsAliasGoneAfterExpansions};
 ghost use Rattle.sudoers_list.specs.Inner.{IsDecidingAliasMember, IsInnermostDecidingMember, ListMatchesCommand, MemberMatchesCommand};
 ghost use Rattle.sudoers_list.specs.internal.Inside.{alias_member_of_view};
@@ -19,9 +18,8 @@ ghost use Rattle.sudoers_list.specs.internal.Inside.{alias_member_of_view};
 use std::alloc::{AllocError, Global};
 use sudoers_grammar::Kind;
 use sudoers_line_rows::{BorrowedAtom, Member, MemberRow, RowsOfTable, Tables};
-use sudoers_match::make_command_with_joined_arguments;
-use sudoers_match_list::{AcyclicWalk, AliasVerdictCache, CommandListKind, LastHitOrCycle};
-use sudoers_match_member::{CommandLine, Request};
+use sudoers_match::{CommandSpellings, SpelledCommandListKind};
+use sudoers_match_list::{AcyclicWalk, AliasVerdictCache, LastHitOrCycle};
 
 /// A member of an alias.
 #[derive(Clone, Copy)]
@@ -55,12 +53,12 @@ fn is_member_matching_command<'a>(
     policy: &AcyclicWalk<'a>,
     tables: &'a Tables,
     row: &MemberRow,
-    command: &CommandLine,
+    command: &CommandSpellings,
 ) -> Result<bool, AllocError>
-    requires verdicts { IsValidVerdictCache OfCommands policy.now (is_command_atom_match command.now) verdicts.old }
+    requires verdicts { IsValidVerdictCache OfCommands policy.now (is_spelled_command_match command.now) verdicts.old }
     requires flat { IsFlattenableCommandList policy.now (member_in_tables tables.now row.now ∷ []) }
-    ensures kept { IfOk result (λ _. IsValidVerdictCache OfCommands policy.now (is_command_atom_match command.now) verdicts.new) }
-    ensures speaks { IfOk result (λ speaks. IsTrue speaks ↔ MemberMatchesCommand policy.now (is_command_atom_match command.now) (member_in_tables tables.now row.now)) }
+    ensures kept { IfOk result (λ _. IsValidVerdictCache OfCommands policy.now (is_spelled_command_match command.now) verdicts.new) }
+    ensures speaks { IfOk result (λ speaks. IsTrue speaks ↔ MemberMatchesCommand policy.now (is_spelled_command_match command.now) (member_in_tables tables.now row.now)) }
 {
     // laws
     policy.is_acyclic();
@@ -68,7 +66,7 @@ fn is_member_matching_command<'a>(
         tables,
         rows: std::slice::from_ref(row),
     };
-    match verdicts.find_last_hit::<CommandListKind>(
+    match verdicts.find_last_hit::<SpelledCommandListKind>(
         policy.definition_numbers(),
         Kind::Cmnd,
         &member,
@@ -84,12 +82,12 @@ fn find_last_matching_member<'a>(
     verdicts: &mut AliasVerdictCache<'a>,
     policy: &AcyclicWalk<'a>,
     members: &RowsOfTable<'a, MemberRow>,
-    command: &CommandLine,
+    command: &CommandSpellings,
 ) -> Result<Option<Member<'a>>, AllocError>
-    requires verdicts { IsValidVerdictCache OfCommands policy.now (is_command_atom_match command.now) verdicts.old }
+    requires verdicts { IsValidVerdictCache OfCommands policy.now (is_spelled_command_match command.now) verdicts.old }
     requires flat { IsFlattenableCommandList policy.now (members_of_view members.now) }
-    ensures kept { IfOk result (λ _. IsValidVerdictCache OfCommands policy.now (is_command_atom_match command.now) verdicts.new) }
-    ensures last { IfOk result (λ last. IsLastItemWith (MemberMatchesCommand policy.now (is_command_atom_match command.now)) (members_of_view members.now) (option_map member_of_view last)) }
+    ensures kept { IfOk result (λ _. IsValidVerdictCache OfCommands policy.now (is_spelled_command_match command.now) verdicts.new) }
+    ensures last { IfOk result (λ last. IsLastItemWith (MemberMatchesCommand policy.now (is_spelled_command_match command.now)) (members_of_view members.now) (option_map member_of_view last)) }
 {
     let mut last = None;
     let tables = members.tables;
@@ -107,13 +105,13 @@ fn find_innermost_member<'a>(
     verdicts: &mut AliasVerdictCache<'a>,
     policy: &AcyclicWalk<'a>,
     outer: &CommandAlias<'a>,
-    command: &CommandLine,
+    command: &CommandSpellings,
 ) -> Result<DecidingAliasMember<'a>, AllocError>
-    requires verdicts { IsValidVerdictCache OfCommands policy.now (is_command_atom_match command.now) verdicts.old }
+    requires verdicts { IsValidVerdictCache OfCommands policy.now (is_spelled_command_match command.now) verdicts.old }
     requires defined { members_of_alias_definition OfCommands outer.now.name.now policy.now ≡ Some (members_of_view outer.now.members) }
-    requires says { ListMatchesCommand policy.now (is_command_atom_match command.now) (members_of_view outer.now.members) }
+    requires says { ListMatchesCommand policy.now (is_spelled_command_match command.now) (members_of_view outer.now.members) }
     requires within { IsAliasGoneAfterExpansions policy.now (length (definitions_of_lines policy.now)) outer.now.name.now }
-    ensures { IfOk result (λ inner. IsInnermostDecidingMember policy.now (is_command_atom_match command.now) outer.now.name.now (alias_member_of_view inner)) }
+    ensures { IfOk result (λ inner. IsInnermostDecidingMember policy.now (is_spelled_command_match command.now) outer.now.name.now (alias_member_of_view inner)) }
 {
     let mut alias = *outer;
     let mut times = policy.definition_numbers().len();
@@ -134,7 +132,7 @@ fn find_innermost_member<'a>(
     unreachable!()
 }
 
-/// Returns the member that decides of the command of `request`, and the innermost alias in which it stands, if `member` names an alias.
+/// Returns the member that decides of `command`, and the innermost alias in which it stands, if `member` names an alias.
 ///
 /// # Errors
 ///
@@ -142,11 +140,11 @@ fn find_innermost_member<'a>(
 pub fn find_deciding_alias_member<'a>(
     alloc: Global,
     policy: &AcyclicWalk<'a>,
-    request: &Request,
+    command: &CommandSpellings,
     member: &Member<'a>,
 ) -> Result<Option<DecidingAliasMember<'a>>, AllocError>
-    requires { MemberMatchesCommand policy.now (is_command_atom_match (command_with_joined_arguments_of_request request.now)) (member_of_view member.now) }
-    ensures { IfOk result (λ inner. IsDecidingAliasMember policy.now (is_command_atom_match (command_with_joined_arguments_of_request request.now)) (member_of_view member.now) (option_map alias_member_of_view inner)) }
+    requires { MemberMatchesCommand policy.now (is_spelled_command_match command.now) (member_of_view member.now) }
+    ensures { IfOk result (λ inner. IsDecidingAliasMember policy.now (is_spelled_command_match command.now) (member_of_view member.now) (option_map alias_member_of_view inner)) }
 {
     // laws
     policy.is_acyclic();
@@ -154,6 +152,5 @@ pub fn find_deciding_alias_member<'a>(
         return Ok(None);
     };
     let mut verdicts = policy.make_verdict_cache(alloc)?;
-    let command = make_command_with_joined_arguments(alloc, request)?;
-    Ok(Some(find_innermost_member(&mut verdicts, policy, &outer, &command)?))
+    Ok(Some(find_innermost_member(&mut verdicts, policy, &outer, command)?))
 }

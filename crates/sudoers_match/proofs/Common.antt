@@ -22,7 +22,8 @@ pub use Rattle.sudoers_match.specs.Alike.{AreAllRunasDefaultsAlike, AreAnswersSa
 pub use Rattle.sudoers_match.specs.Alike.{AreTwoRowsAlikeButSpecNumbers, AreTwoRowsAlikeWithSpecNumbers, AreRunasDefaultsAlike, AreRunasMemberListsAlike, AreRunasSpecsAlike, AreScopeListsAlike, AreSpecUsersAndHostsAlike}
 pub use Rattle.sudoers_match.specs.Alike.{AreUserSpecsAlike, KeepsAtomMatches}
 pub use Rattle.sudoers_match.specs.Allows.{DecidesWhetherListAllows, ListAllows}
-pub use Rattle.sudoers_match.specs.Answer.{Answer, IsAnswerOfRows, IsAnswerToRequest, RowFitsRequest, answer_of_fitting_row, answer_of_view, command_with_joined_arguments_of_request, is_request_command_hit, tags_with_setenv_by_all}
+pub use Rattle.sudoers_match.specs.Answer.{Answer, IsAnswerByCommandTest, IsAnswerOfRows, IsAnswerOfRowsByTest, IsAnswerToRequest, RowFitsRequest, RowFitsRequestByTest, answer_of_fitting_row, answer_of_view, command_with_joined_arguments_of_request}
+pub use Rattle.sudoers_match.specs.Answer.{is_command_hit_by_test, is_request_command_hit, is_request_command_match, tags_with_setenv_by_all}
 pub use Rattle.sudoers_match.specs.Answer.{words_each_after_space, words_joined_with_spaces}
 pub use Rattle.sudoers_match.specs.Beside.{HasSameLinesAndReachableAliases, node_unless_alias_line, nodes_without_alias_lines}
 pub use Rattle.sudoers_match.specs.Default.{IsRunasDefault, IsScopeForUserOnHost, IsScopeListForUserOrHost, runas_default_in_param, runas_defaults_in_node, runas_defaults_in_params, runas_defaults_of_lines, runas_name_or_root}
@@ -41,8 +42,8 @@ pub use Rattle.sudoers_match.specs.Values.{OptionValues, final_values_of_options
 pub use Rattle.sudoers_match.specs.declared.matching_host_groups.HostGroupPlace.{HostGroupPlace}
 pub use Rattle.sudoers_match.specs.declared.command_settings.CommandSettings.{CommandSettings as HeadHeld}
 pub use Rattle.sudoers_match.specs.internal.Asked.{AddsAllParts, AddsPartsBeforeIndex, DecidesWhetherScopeApplies, IsLastRunasDefaultOfLine, IsRunasDefaultOfLinesBefore}
-pub use Rattle.sudoers_match.specs.internal.Question.{DecidesWhetherRunasGroupsAllow, DecidesWhetherRunasSpecAllows, IsAnswerOfCommandsSoFar, IsAnswerOfRowsSoFar, HasMemberAndSettingsFromGroupAtPlace, HasMemberAndSettingsFromSpecAtNumber}
-pub use Rattle.sudoers_match.specs.internal.Question.{IsKnownRunasDecision, IsValidGroupVerdictCache, IsValidRequestCache, answer_of_command_hit, answer_with_member_and_settings, spec_group_command_numbers_of_answer}
+pub use Rattle.sudoers_match.specs.internal.Question.{DecidesWhetherRunasGroupsAllow, DecidesWhetherRunasSpecAllows, HasNoFittingRowBehind, IsAnswerOfCommandsSoFar, IsAnswerOfRowsForContext, IsAnswerOfRowsSoFar, HasMemberAndSettingsFromGroupAtPlace, HasMemberAndSettingsFromSpecAtNumber}
+pub use Rattle.sudoers_match.specs.internal.Question.{IsKnownRunasDecision, IsValidGroupVerdictCache, IsValidCacheForContext, IsValidRequestCache, answer_of_command_hit, answer_with_member_and_settings, command_test_of_context, spec_group_command_numbers_of_answer}
 pub use Rattle.sudoers_match.specs.internal.Straight.{CommandLeadsToNoCycle, HostGroupLeadsToNoCycle, HostGroupsLeadToNoCycle, LeadsToNoCyclicAlias, RunasSpecLeadsToNoCycle, ScopeLeadsToNoCycle}
 pub use Rattle.sudoers_match_list.proofs.Alike.{KeepsAliasCounterparts, counterparts_alike}
 pub use Rattle.sudoers_match_list.specs.Alike.{AreBothUndefinedOrCounterparts, AreBothUndefinedOrHaveSameMembers, HaveSameFlatListAfterRewrite, IsMemberCounterpart, IsMemberWithAtomMapped, IsPointwiseRelated, signed_atom_with_atom_mapped, unchanged_atom}

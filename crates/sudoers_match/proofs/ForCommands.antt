@@ -1,11 +1,10 @@
 -- User specifications that cannot answer a command.
-use Rattle.sudoers_match.proofs.Common.{AllByRecursion, AreRowsPerFlatAtomOfCommand, AreRowsPerFlatAtomOfHostGroup, AreRowsPerFlatAtomOfSpec, CmdSpec, Cmnd, Host, HostGroup, IsAnswerOfRows, IsConcatenationOfParts, IsFlatListOf}
-use Rattle.sudoers_match.proofs.Common.{IsLastHitOfList, Line, List, ListAllows, ListHasElement, Member, MemberHit, None, Option, PrivilegeRow, Request, RowFitsRequest, AccumulatedCommandSettings, SignedAtom, Some, UserSpec, Who, []}
-use Rattle.sudoers_match.proofs.Common.{ap, command_with_joined_arguments_of_request, commands_with_settings, cons_option, empty_command_settings, false, hit_of_signed_atom, if◌then◌else◌, inl, inr, is_command_atom_match, is_host_atom_match, is_request_command_hit, last_hit_of_list}
+use Rattle.sudoers_match.proofs.Common.{AllByRecursion, AreRowsPerFlatAtomOfCommand, AreRowsPerFlatAtomOfHostGroup, CmdSpec, Cmnd, Host, HostGroup, IsAnswerOfRowsByTest, IsConcatenationOfParts}
+use Rattle.sudoers_match.proofs.Common.{IsLastHitOfList, Line, List, ListAllows, ListHasElement, Member, MemberHit, None, Option, PrivilegeRow, Request, RowFitsRequestByTest, AccumulatedCommandSettings, SignedAtom, Some, UserSpec, Who, []}
+use Rattle.sudoers_match.proofs.Common.{ap, commands_with_settings, cons_option, empty_command_settings, false, hit_of_signed_atom, if◌then◌else◌, inl, inr, is_host_atom_match, last_hit_of_list}
 use Rattle.sudoers_match.proofs.Common.{later_hit_if_any, map, option_map, privilege_row_of, refl, settings_after_command, slice_get, specs_with_line_numbers, subst, suc, sym, true, user_spec_in_node, user_specs_of_lines, zero, ℕ, ◌+◌, ◌∙◌, ◌∷◌, ◌≡◌}
 use Rattle.std.proofs.Common.{below_more, get_or, is_some, length, take, ◌++◌, ◌<◌}
 use Rattle.std.proofs.lemmas.Bool.{false≢true}
-use Rattle.sudoers_match_member.specs.declared.people_and_commands.CommandLine.{CommandLine}
 use Rattle.sudoers_match_list.proofs.Unique.{one_flat}
 use Rattle.std.specs.Prelude.{◌&&◌, Bool}
 use Rattle.sudoers_grammar.specs.declared.node.Atom.{Atom}
@@ -30,25 +29,25 @@ later_none : (a b : Option MemberHit) → later_hit_if_any a b ≡ None → (a �
 later_none a None e = (e, refl)
 later_none a (Some h) e = let clash : Some h ≡ None = e in absurd cc
 
-module _ (lines : List Line) (who : Who) (command : CommandLine) where
+module _ (lines : List Line) (who : Who) (test : Atom → Bool) where
   abbrev pub Not : PrivilegeRow → Type 0
-  Not row = IsRowForCommand lines who command row → ⊥
+  Not row = IsRowForCommand lines who test row → ⊥
 
   module _ (i j : ℕ) (users hosts : List Member) where
-    flat_without_hit : (k : ℕ) (head : AccumulatedCommandSettings) (flat : List SignedAtom) → last_hit_of_list (is_command_atom_match command) flat ≡ None
+    flat_without_hit : (k : ℕ) (head : AccumulatedCommandSettings) (flat : List SignedAtom) → last_hit_of_list test flat ≡ None
         → AllByRecursion Not (map (privilege_row_of i j users hosts k head) flat)
     flat_without_hit k head [] e = tt
     flat_without_hit k head (s ∷ flat) e =
-        let two = later_none (hit_of_signed_atom (is_command_atom_match command) s) (last_hit_of_list (is_command_atom_match command) flat) e in
+        let two = later_none (hit_of_signed_atom test s) (last_hit_of_list test flat) e in
         ((λ f. false≢true (sym (no_hit_if_true_implies_false _ (hit_of_signed_atom_made s) two.0) ∙ f.matches)), flat_without_hit k head flat two.1)
 
-    command_without_hit : (k : ℕ) (head : AccumulatedCommandSettings) (m : Member) (rows : List PrivilegeRow) → IsLastHitOfList Cmnd lines (is_command_atom_match command) (m ∷ []) None
+    command_without_hit : (k : ℕ) (head : AccumulatedCommandSettings) (m : Member) (rows : List PrivilegeRow) → IsLastHitOfList Cmnd lines test (m ∷ []) None
         → AreRowsPerFlatAtomOfCommand lines i j users hosts k (head, m) rows → AllByRecursion Not rows
     command_without_hit k head m rows l p =
         subst (AllByRecursion Not) (sym p.2)
-        (flat_without_hit k head p.0 (ap (last_hit_of_list (is_command_atom_match command)) (one_flat Cmnd lines (m ∷ []) p.0 l.flat p.1 l.is_flat) ∙ l.is_last))
+        (flat_without_hit k head p.0 (ap (last_hit_of_list test) (one_flat Cmnd lines (m ∷ []) p.0 l.flat p.1 l.is_flat) ∙ l.is_last))
 
-    pub commands_without_hit : (cs : List CmdSpec) → ((n : ℕ) (c : CmdSpec) → slice_get cs n ≡ Some c → IsLastHitOfList Cmnd lines (is_command_atom_match command) (c.member ∷ []) None)
+    pub commands_without_hit : (cs : List CmdSpec) → ((n : ℕ) (c : CmdSpec) → slice_get cs n ≡ Some c → IsLastHitOfList Cmnd lines test (c.member ∷ []) None)
         → (head : AccumulatedCommandSettings) (k : ℕ) (rows : List PrivilegeRow) → IsConcatenationOfParts (AreRowsPerFlatAtomOfCommand lines i j users hosts) k (commands_with_settings head cs) rows
         → AllByRecursion Not rows
     commands_without_hit [] none head k rows p = subst (AllByRecursion Not) (sym p) tt
@@ -78,12 +77,12 @@ module _ (lines : List Line) (who : Who) (command : CommandLine) where
       (all_append Not p.0 p.1 (none 0 g refl j p.0 p.3) (groups_without_rows i users gs (λ n h e. none (suc n) h e) (suc j) p.1 p.4))
 
 -- no row of one that does not matter answers the request
-pub idle_answers_none : (lines : List Line) (r : Request) (rows : List PrivilegeRow)
-    → AllByRecursion (λ row. IsRowForCommand lines r.who (command_with_joined_arguments_of_request r) row → ⊥) rows → IsAnswerOfRows lines r rows None
-idle_answers_none lines r rows none = answers_none lines r rows (by rows none)
+pub idle_answers_none : (lines : List Line) (test : Atom → Bool) (r : Request) (rows : List PrivilegeRow)
+    → AllByRecursion (λ row. IsRowForCommand lines r.who test row → ⊥) rows → IsAnswerOfRowsByTest lines test r rows None
+idle_answers_none lines test r rows none = answers_none lines test r rows (by rows none)
   where
-    by : (rs : List PrivilegeRow) → AllByRecursion (λ row. IsRowForCommand lines r.who (command_with_joined_arguments_of_request r) row → ⊥) rs
-        → AllByRecursion (λ row. RowFitsRequest lines r row → ⊥) rs
+    by : (rs : List PrivilegeRow) → AllByRecursion (λ row. IsRowForCommand lines r.who test row → ⊥) rs
+        → AllByRecursion (λ row. RowFitsRequestByTest lines test r row → ⊥) rs
     by [] all = tt
     by (row ∷ rs) all = ((λ f. all.0 (record { allows = f.host; matches = f.command })), by rs all.1)
 
@@ -162,23 +161,23 @@ module _ (lines : List Line) (who other : Who) (long : other.long_host ≡ who.l
   }
 
   -- The same user specifications matter for both.
-  pub specs_serve_same_host : (command : CommandLine) (specs : List SpecOnLine) → AreSpecsForCommand lines who command specs → AreSpecsForCommand lines other command specs
-  specs_serve_same_host command specs are = record { all = are.all; matter = each specs are.matter }
+  pub specs_serve_same_host : (test : Atom → Bool) (specs : List SpecOnLine) → AreSpecsForCommand lines who test specs → AreSpecsForCommand lines other test specs
+  specs_serve_same_host test specs are = record { all = are.all; matter = each specs are.matter }
     where
-      rows_other : (rows : List PrivilegeRow) → AllByRecursion (Not lines who command) rows → AllByRecursion (Not lines other command) rows
+      rows_other : (rows : List PrivilegeRow) → AllByRecursion (Not lines who test) rows → AllByRecursion (Not lines other test) rows
       rows_other [] all = tt
       rows_other (row ∷ rows) all = ((λ f. all.0 (record { allows = host_allowed row.hosts f.allows; matches = f.matches })), rows_other rows all.1)
 
-      each : (ss : List SpecOnLine) → AllByRecursion (MattersIfForCommand lines who command) ss → AllByRecursion (MattersIfForCommand lines other command) ss
+      each : (ss : List SpecOnLine) → AllByRecursion (MattersIfForCommand lines who test) ss → AllByRecursion (MattersIfForCommand lines other test) ss
       each [] all = tt
       each (s ∷ ss) all = ((λ idle i rows p. rows_other rows (all.0 idle i rows p)), each ss all.1)
 
 -- Where each user specification matters, they serve each command.
-pub specs_that_all_matter : (lines : List Line) (who : Who) (command : CommandLine) (specs : List SpecOnLine) → map numbered_spec_of_view specs ≡ specs_with_line_numbers 0 lines
-    → AllByRecursion (λ (s : SpecOnLine). s.matters ≡ true) specs → AreSpecsForCommand lines who command specs
-specs_that_all_matter lines who command specs all matter = record { all = all; matter = each specs matter }
+pub specs_that_all_matter : (lines : List Line) (who : Who) (test : Atom → Bool) (specs : List SpecOnLine) → map numbered_spec_of_view specs ≡ specs_with_line_numbers 0 lines
+    → AllByRecursion (λ (s : SpecOnLine). s.matters ≡ true) specs → AreSpecsForCommand lines who test specs
+specs_that_all_matter lines who test specs all matter = record { all = all; matter = each specs matter }
   where
-    each : (ss : List SpecOnLine) → AllByRecursion (λ (s : SpecOnLine). s.matters ≡ true) ss → AllByRecursion (MattersIfForCommand lines who command) ss
+    each : (ss : List SpecOnLine) → AllByRecursion (λ (s : SpecOnLine). s.matters ≡ true) ss → AllByRecursion (MattersIfForCommand lines who test) ss
     each [] m = tt
     each (s ∷ ss) m = ((λ idle i rows p. absurd (false≢true (sym idle ∙ m.0))), each ss m.1)
 

@@ -1,6 +1,7 @@
 mod Common
 pub mod Gathered
 pub mod Said
+pub mod Spelled
 pub mod Reached
 pub mod Passed
 pub mod Lasts

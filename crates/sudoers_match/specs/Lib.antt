@@ -10,6 +10,7 @@ pub mod Moment
 pub mod Runas
 pub mod Rows
 pub mod Answer
+pub mod Spellings
 pub mod Found
 pub mod ForCommand
 pub mod Alike

@@ -2,3 +2,4 @@
 pub mod Asked
 pub mod Question
 pub mod Straight
+pub mod Misses

@@ -5,13 +5,16 @@ mod allowing;
 mod answer_of_row;
 mod answering;
 mod command_settings;
+mod last_row;
 pub mod laws;
 mod matching_host_groups;
+mod near_misses;
 mod options;
 mod request_verdicts;
 mod request_words;
 mod runas_default_user;
 mod specs_for_command;
+mod spellings;
 mod tags;
 mod time_bounds;
 
@@ -19,10 +22,12 @@ pub use answer_of_row::{Answer, AnswerWithMemberAndSettings};
 pub use answering::{answer, find_answer, find_answer_in_specs, find_answer_without_args_limit};
 pub use command_settings::CommandSettings;
 pub use matching_host_groups::{HostGroupPlace, find_places_of_matching_host_groups, host_groups};
+pub use near_misses::{MissedPart, NearMiss, list_near_misses};
 pub use options::CommandOptions;
 pub use request_words::{join_words, make_command_with_joined_arguments};
 pub use runas_default_user::{find_runas_default_for, has_runas_default, runas_default};
 pub use specs_for_command::{SpecOnLine, find_specs_for_command, list_specs_with_lines};
+pub use spellings::{CommandSpellings, SpelledCommandListKind, make_sole_spelling};
 pub use sudoers_match_list::{
     AskFault, CommandListKind, HostListKind, LastHitOrCycle, MemberHit, MemberKind,
     RunasGroupListKind, UserListKind, Verdict, decide,

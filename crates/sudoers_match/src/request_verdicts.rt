@@ -1,26 +1,25 @@
 //! What is known of the aliases for one request.
 
-ghost use Rattle.std.specs.Prelude.{◌≡◌, IfOk};
+ghost use Rattle.std.specs.Prelude.{◌≡◌, Bool, IfOk};
+ghost use Rattle.sudoers_grammar.specs.declared.node.Atom.{Atom as AtomOf};
 ghost use Rattle.sudoers_grammar.specs.declared.node.Kind.TheVariants.{Runas as OfRunas};
 ghost use Rattle.sudoers_line_rows.specs.View.{members_of_view, runas_of_view};
 ghost use Rattle.std.specs.Option.{option_map};
 ghost use Rattle.sudoers_match_member.specs.Hits.{is_user_atom_match};
 ghost use Rattle.sudoers_match.specs.Allows.{DecidesWhetherListAllows};
-ghost use Rattle.sudoers_match.specs.Answer.{command_with_joined_arguments_of_request};
 ghost use Rattle.sudoers_match.specs.Default.{IsRunasDefault};
-ghost use Rattle.sudoers_match.specs.internal.Question.{IsValidRequestCache, DecidesWhetherRunasGroupsAllow, DecidesWhetherRunasSpecAllows};
+ghost use Rattle.sudoers_match.specs.internal.Question.{IsValidCacheForContext, IsValidRequestCache, DecidesWhetherRunasGroupsAllow, DecidesWhetherRunasSpecAllows};
 ghost use Rattle.sudoers_match.specs.Runas.{is_group_absent_or_among};
 ghost use Rattle.sudoers_match.specs.internal.Straight.{LeadsToNoCyclicAlias, RunasSpecLeadsToNoCycle};
 
 use crate::allowing::{find_last_hit_in_list, is_allowed_by_list};
+use crate::spellings::CommandSpellings;
 use std::alloc::{AllocError, Global};
 use sudoers_line_rows::RunasSpec;
 use sudoers_match_list::{
     AcyclicWalk, AliasVerdictCache, RunasGroupListKind, UserListKind, Verdict,
 };
-use sudoers_match_member::{
-    CommandLine, Group, Request, has_group_of_number, is_same_name_ignoring_case,
-};
+use sudoers_match_member::{Group, Request, has_group_of_number, is_same_name_ignoring_case};
 use sudoers_tree::{Kind, MemberRow, RowsOfTable};
 
 /// A request to a policy.
@@ -28,9 +27,8 @@ use sudoers_tree::{Kind, MemberRow, RowsOfTable};
 pub struct RequestContext<'a, 'b> {
     pub policy: &'b AcyclicWalk<'a>,
     pub request: &'b Request,
-    /// The command with its arguments, joined.
-    pub command: &'b CommandLine,
-    ghost command_is: { command.now ≡ command_with_joined_arguments_of_request request.now },
+    /// The command with its arguments, joined, in each of its spellings.
+    pub command: &'b CommandSpellings,
 }
 
 /// What is known for one request: the verdicts on its user, on its host, on the user and the group as whom the command is to run, and
@@ -61,7 +59,7 @@ impl<'a> RequestVerdictCache<'a> {
         default: &'a [u8],
     ) -> Result<RequestVerdictCache<'a>, AllocError>
         requires { IsRunasDefault policy.now request.now.who default.now }
-        ensures { IfOk result (λ question. IsValidRequestCache policy.now request.now question) }
+        ensures { IfOk result (λ question. (test : AtomOf → Bool) → IsValidRequestCache policy.now test request.now question) }
     {
         let own = is_requested_group_absent_or_among(
             request.target.groups.as_slice(),
@@ -93,9 +91,9 @@ impl<'a> RequestVerdictCache<'a> {
         asked: &RequestContext<'a, '_>,
         runas: &Option<RunasSpec<'_>>,
     ) -> Result<bool, AllocError>
-        requires question { IsValidRequestCache asked.now.policy.now asked.now.request.now self.old }
+        requires question { IsValidCacheForContext asked.now self.old }
         requires straight { RunasSpecLeadsToNoCycle asked.now.policy.now (option_map runas_of_view runas.now) }
-        ensures kept { IfOk result (λ _. IsValidRequestCache asked.now.policy.now asked.now.request.now self.new) }
+        ensures kept { IfOk result (λ _. IsValidCacheForContext asked.now self.new) }
         ensures permits { IfOk result (λ allowed. DecidesWhetherRunasSpecAllows asked.now.policy.now asked.now.request.now.who asked.now.request.now.target asked.now.request.now.target_group (option_map runas_of_view runas.now) allowed) }
     {
         let request = asked.request;
@@ -132,9 +130,9 @@ impl<'a> RequestVerdictCache<'a> {
         asked: &RequestContext<'a, '_>,
         users: &RowsOfTable<'_, MemberRow>,
     ) -> Result<bool, AllocError>
-        requires question { IsValidRequestCache asked.now.policy.now asked.now.request.now self.old }
+        requires question { IsValidCacheForContext asked.now self.old }
         requires straight { LeadsToNoCyclicAlias OfRunas asked.now.policy.now (members_of_view users.now) }
-        ensures kept { IfOk result (λ _. IsValidRequestCache asked.now.policy.now asked.now.request.now self.new) }
+        ensures kept { IfOk result (λ _. IsValidCacheForContext asked.now self.new) }
         ensures permits { IfOk result (λ allowed. DecidesWhetherListAllows OfRunas asked.now.policy.now (is_user_atom_match asked.now.request.now.target) (members_of_view users.now) allowed) }
     {
         is_allowed_by_list::<UserListKind>(
@@ -153,9 +151,9 @@ impl<'a> RequestVerdictCache<'a> {
         asked: &RequestContext<'a, '_>,
         groups: &RowsOfTable<'_, MemberRow>,
     ) -> Result<bool, AllocError>
-        requires question { IsValidRequestCache asked.now.policy.now asked.now.request.now self.old }
+        requires question { IsValidCacheForContext asked.now self.old }
         requires straight { LeadsToNoCyclicAlias OfRunas asked.now.policy.now (members_of_view groups.now) }
-        ensures kept { IfOk result (λ _. IsValidRequestCache asked.now.policy.now asked.now.request.now self.new) }
+        ensures kept { IfOk result (λ _. IsValidCacheForContext asked.now self.new) }
         ensures permits { IfOk result (λ allowed. DecidesWhetherRunasGroupsAllow asked.now.policy.now asked.now.request.now.target asked.now.request.now.target_group (members_of_view groups.now) allowed) }
     {
         let request = asked.request;

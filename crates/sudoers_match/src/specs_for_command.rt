@@ -5,20 +5,22 @@ ghost use Rattle.std.specs.List.{AllByRecursion};
 ghost use Rattle.sudoers_grammar.specs.declared.node.Kind.TheVariants.{Host as OfHosts, Cmnd as OfCommands};
 ghost use Rattle.sudoers_grammar.specs.Node.{Member as MemberOf};
 ghost use Rattle.sudoers_line_rows.specs.View.{host_group_of_view, host_groups_of_view};
-ghost use Rattle.sudoers_match_member.specs.Hits.{is_command_atom_match, is_host_atom_match};
+ghost use Rattle.sudoers_match_member.specs.Hits.{is_host_atom_match};
 ghost use Rattle.sudoers_match_list.specs.Search.{IsValidVerdictCache};
 ghost use Rattle.sudoers_match.specs.declared.specs_for_command.SpecOnLine.{SpecOnLine as SpecHeld};
 ghost use Rattle.sudoers_match.specs.ForCommand.{AreSpecsForCommand, IsRowForCommand, numbered_spec_of_view};
 ghost use Rattle.sudoers_match.specs.Found.{specs_with_line_numbers};
 ghost use Rattle.sudoers_match.specs.Rows.{PrivilegeRow, AreRowsPerFlatAtomOfHostGroup, AreRowsPerFlatAtomOfSpec};
 ghost use Rattle.sudoers_match.specs.Specs.{user_spec_of_users_and_groups};
+ghost use Rattle.sudoers_match.specs.Spellings.{is_spelled_command_match};
 ghost use Rattle.sudoers_match.specs.internal.Straight.{HostGroupLeadsToNoCycle, HostGroupsLeadToNoCycle};
 
 use crate::allowing::{find_last_hit_in_list, is_allowed_by_list};
+use crate::spellings::{CommandSpellings, SpelledCommandListKind};
 use std::alloc::{AllocError, Global};
 use sudoers_line_rows::HostGroup;
-use sudoers_match_list::{AcyclicWalk, AliasVerdictCache, CommandListKind, HostListKind};
-use sudoers_match_member::{CommandLine, Who};
+use sudoers_match_list::{AcyclicWalk, AliasVerdictCache, HostListKind};
+use sudoers_match_member::Who;
 use sudoers_tree::{HostGroupRow, Kind, MemberRow, Node, RowsOfTable};
 
 /// A user specification: the number of its line on the walk, from 0, what it says, and whether it may answer a command.
@@ -66,9 +68,9 @@ pub fn find_specs_for_command<'a>(
     alloc: Global,
     policy: &AcyclicWalk<'a>,
     who: &Who,
-    command: &CommandLine,
+    command: &CommandSpellings,
 ) -> Result<Vec<SpecOnLine<'a>>, AllocError>
-    ensures { IfOk result (λ specs. AreSpecsForCommand policy.now who.now command.now specs.items) }
+    ensures { IfOk result (λ specs. AreSpecsForCommand policy.now who.now (is_spelled_command_match command.now) specs.items) }
 {
     // laws
     policy.is_acyclic();
@@ -96,17 +98,17 @@ fn has_group_for_command<'a>(
     commands: &mut AliasVerdictCache<'a>,
     policy: &AcyclicWalk<'a>,
     who: &Who,
-    command: &CommandLine,
+    command: &CommandSpellings,
     groups: &RowsOfTable<'_, HostGroupRow>,
 ) -> Result<bool, AllocError>
     requires hosts { IsValidVerdictCache OfHosts policy.now (is_host_atom_match who.now) hosts.old }
-    requires commands { IsValidVerdictCache OfCommands policy.now (is_command_atom_match command.now) commands.old }
+    requires commands { IsValidVerdictCache OfCommands policy.now (is_spelled_command_match command.now) commands.old }
     requires straight { HostGroupsLeadToNoCycle policy.now (host_groups_of_view groups.now) }
     ensures hosts { IfOk result (λ _. IsValidVerdictCache OfHosts policy.now (is_host_atom_match who.now) hosts.new) }
-    ensures commands { IfOk result (λ _. IsValidVerdictCache OfCommands policy.now (is_command_atom_match command.now) commands.new) }
+    ensures commands { IfOk result (λ _. IsValidVerdictCache OfCommands policy.now (is_spelled_command_match command.now) commands.new) }
     ensures idle { IfOk result (λ has. has ≡ false → (i : ℕ) (users : List MemberOf) (rows : List PrivilegeRow)
         → AreRowsPerFlatAtomOfSpec policy.now i (user_spec_of_users_and_groups users (host_groups_of_view groups.now)) rows
-        → AllByRecursion (λ row. IsRowForCommand policy.now who.now command.now row → ⊥) rows) }
+        → AllByRecursion (λ row. IsRowForCommand policy.now who.now (is_spelled_command_match command.now) row → ⊥) rows) }
 {
     let tables = groups.tables;
     for row in groups.rows {
@@ -125,17 +127,17 @@ fn is_group_for_command<'a>(
     commands: &mut AliasVerdictCache<'a>,
     policy: &AcyclicWalk<'a>,
     who: &Who,
-    command: &CommandLine,
+    command: &CommandSpellings,
     group: &HostGroup<'_>,
 ) -> Result<bool, AllocError>
     requires hosts { IsValidVerdictCache OfHosts policy.now (is_host_atom_match who.now) hosts.old }
-    requires commands { IsValidVerdictCache OfCommands policy.now (is_command_atom_match command.now) commands.old }
+    requires commands { IsValidVerdictCache OfCommands policy.now (is_spelled_command_match command.now) commands.old }
     requires straight { HostGroupLeadsToNoCycle policy.now (host_group_of_view group.now) }
     ensures hosts { IfOk result (λ _. IsValidVerdictCache OfHosts policy.now (is_host_atom_match who.now) hosts.new) }
-    ensures commands { IfOk result (λ _. IsValidVerdictCache OfCommands policy.now (is_command_atom_match command.now) commands.new) }
+    ensures commands { IfOk result (λ _. IsValidVerdictCache OfCommands policy.now (is_spelled_command_match command.now) commands.new) }
     ensures idle { IfOk result (λ has. has ≡ false → (i j : ℕ) (users : List MemberOf) (rows : List PrivilegeRow)
         → AreRowsPerFlatAtomOfHostGroup policy.now i users j (host_group_of_view group.now) rows
-        → AllByRecursion (λ row. IsRowForCommand policy.now who.now command.now row → ⊥) rows) }
+        → AllByRecursion (λ row. IsRowForCommand policy.now who.now (is_spelled_command_match command.now) row → ⊥) rows) }
 {
     if !is_allowed_by_list::<HostListKind>(hosts, policy, Kind::Host, &group.hosts, who)? {
         return Ok(false);
@@ -146,7 +148,7 @@ fn is_group_for_command<'a>(
             tables,
             rows: std::slice::from_ref(&row.member),
         };
-        let hit = find_last_hit_in_list::<CommandListKind>(
+        let hit = find_last_hit_in_list::<SpelledCommandListKind>(
             commands,
             policy,
             Kind::Cmnd,

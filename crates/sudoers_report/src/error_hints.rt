@@ -4,7 +4,7 @@ use crate::json_texts::make_text_value;
 use crate::place::PlaceInPolicy;
 use serde_json::{Value, json};
 use std::alloc::{AllocError, Global};
-use sudoers_explain::{Hint, words_of_hint};
+use sudoers_explain::{Hint, spelling_of_hint, words_of_hint};
 use sudoers_grammar::{Kind, alias_keyword_of_kind};
 use sudoers_text::TextFault;
 use sudoers_tree::{LoadFault, ReadFault};
@@ -31,17 +31,15 @@ impl Advice {
     /// Returns the words of the advice.
     fn make_words(self, alloc: Global) -> Result<Vec<u8>, AllocError> {
         match self {
-            Advice::OfHint(Hint::Keyword(keyword)) => {
-                let mut text = Vec::from_slice(
-                    alloc,
-                    words_of_hint(Hint::Keyword(keyword)).as_bytes(),
-                )?;
-                text.extend_from_slice(b" `")?;
-                text.extend_from_slice(keyword.as_bytes())?;
-                text.extend_from_slice(b"`")?;
+            Advice::OfHint(hint) => {
+                let mut text = Vec::from_slice(alloc, words_of_hint(hint).as_bytes())?;
+                if let Some(spelling) = spelling_of_hint(hint) {
+                    text.extend_from_slice(b" `")?;
+                    text.extend_from_slice(spelling.as_bytes())?;
+                    text.extend_from_slice(b"`")?;
+                }
                 Ok(text)
             }
-            Advice::OfHint(hint) => Vec::from_slice(alloc, words_of_hint(hint).as_bytes()),
             Advice::Words(words) => Vec::from_slice(alloc, words.as_bytes()),
             Advice::FewerAliases(kind) => {
                 let mut text = Vec::from_slice(

@@ -20,6 +20,7 @@ mod syntax_faults;
 mod walked_lines;
 
 pub use check_document::{CheckDocument, PolicyAndReport, make_check_document};
+pub use cut_files::FileLine;
 pub use error_values::{ErrorWords, LoadErrors, make_error_value};
 pub use json_document::{JsonDocument, JsonList};
 pub use json_texts::make_text_value;

@@ -6,7 +6,7 @@ use crate::terminal::open_standard_output;
 use clap::{Arg, ArgAction, ArgMatches};
 use std::alloc::{AllocError, Global};
 use std::io::Write;
-use sudoers_explain::{explain_load_fault, list_load_faults};
+use sudoers_explain::{explain_load_faults, list_load_faults};
 use sudoers_files::gather;
 use sudoers_run::{LayerFault, ToolFault, fault_text};
 use sudoers_tree::{LoadFault, NamedFile};
@@ -75,10 +75,7 @@ fn explain_first_faults(
     found: &[NamedFile],
     faults: &[LoadFault],
 ) -> Result<Vec<u8>, AllocError> {
-    let mut explanation = Vec::new(alloc);
-    for fault in faults.iter().take(MOST_EXPLAINED) {
-        explanation.extend_from_slice(explain_load_fault(alloc, found, fault)?.as_slice())?;
-    }
+    let mut explanation = explain_load_faults(alloc, found, faults, MOST_EXPLAINED)?;
     let more = faults.len().saturating_sub(MOST_EXPLAINED);
     if more > 0 {
         let note = format!(in alloc; "{more} more errors are not explained\n")?;

@@ -8,19 +8,21 @@ use crate::list_command::{
     command_words_of_matches, make_text_or_empty, optional_slice_of_optional_text, text_of_option,
 };
 use crate::machine::{read_host_name, read_moment, read_people};
+use crate::same_folders::{SameFolders, has_same_folders, read_same_folders};
 use crate::terminal::open_standard_output;
 use clap::ArgMatches;
 use std::alloc::{AllocError, Global};
 use std::io::Write;
 use sudoers_ask::{
-    CommandQuestion, QuestionFault, RightsFault, explain_user_answer, list_rights_with_places,
-    list_users_who_may_run,
+    CommandQuestion, FolderPair, QuestionFault, RightsFault, explain_user_answer,
+    list_rights_with_places, list_users_who_may_run,
 };
 use sudoers_cvt_rules::CvtFault;
 use sudoers_explain::append_help;
 use sudoers_files::gather;
 use sudoers_grammar::Items;
 use sudoers_list_people::{People, who_for};
+use sudoers_match::{Who, join_words};
 use sudoers_match_list::AskFault;
 use sudoers_run::{LayerFault, ToolFault};
 use sudoers_tree::Policy;
@@ -31,15 +33,16 @@ const FULL_PATH: &[u8] =
 
 /// A policy and the people of a machine, and what is asked of them.
 #[derive(Drop)]
-struct Asked {
-    policy: Policy,
-    people: People,
-    question: OwnedQuestion,
+pub struct Asked {
+    pub policy: Policy,
+    pub people: People,
+    pub question: OwnedQuestion,
+    pub same: SameFolders,
 }
 
 /// A command, as whom it is to run, on which host and when.
 #[derive(Drop)]
-struct OwnedQuestion {
+pub struct OwnedQuestion {
     command: Vec<Items<u8>>,
     target: Option<Items<u8>>,
     group: Option<Items<u8>>,
@@ -63,20 +66,59 @@ pub fn run_ask_command(
     words: &ArgMatches<'_>,
     files: &mut KeptDisk,
 ) -> Result<u8, FileTrouble> {
-    let asked = read_asked(rt, words, files)?;
+    let policy = load_policy(rt.alloc(), policy_name_of_ask_words(words), files)?;
+    let asked = read_asked(rt, words, policy, name != WHAT)?;
     let answer = match name {
         WHO => list_users(rt.alloc(), words, &asked)?,
         WHAT => list_rights(rt.alloc(), words, &asked)?,
         _ => explain_answer(rt.alloc(), words, &asked)?,
     };
-    let written = open_standard_output(rt).write_all(answer.text.as_slice());
-    if written.is_err() {
-        return Err(FileTrouble::from(ToolFault::Write));
-    }
+    print_answer(rt, answer.text.as_slice())?;
     if are_errors_explained(rt, words) {
         let _ = print_advice_on_path(rt, words);
     }
     Ok(answer.status)
+}
+
+/// Prints the text of an answer.
+fn print_answer(rt: &HostRuntime, text: &[u8]) -> Result<(), FileTrouble> {
+    match open_standard_output(rt).write_all(text) {
+        Ok(()) => Ok(()),
+        Err(_) => Err(FileTrouble::from(ToolFault::Write)),
+    }
+}
+
+/// Returns whether `words` of `list` ask for a command, and name folders that are one.
+pub fn is_list_with_same_folders(words: &ArgMatches<'_>) -> bool {
+    has_same_folders(words) && words.get_strs("WORD").is_some()
+}
+
+/// Runs `list` on the policy `file`, as [`is_list_with_same_folders`] says of `words`. Returns the exit status: 0 if the command is
+/// allowed, else 1.
+pub fn run_list_with_same_folders(
+    rt: &HostRuntime,
+    file: &str,
+    words: &ArgMatches<'_>,
+    files: &mut KeptDisk,
+) -> Result<u8, FileTrouble> {
+    let alloc = rt.alloc();
+    let policy = load_policy(alloc, file, files)?;
+    let asked = read_asked(rt, words, policy, false)?;
+    let pairs = asked.same.list_borrowed_pairs(alloc)?;
+    let question = asked.question.as_borrowed_question(pairs.as_slice());
+    let user = words.get_str("USER").unwrap_or("").as_bytes();
+    let why = explain_user_answer(alloc, &asked.policy, &asked.people, user, &question).map_err(
+        layer_of_question_fault,
+    )?;
+    let mut text = Vec::new(alloc);
+    if words.get_flag("why") {
+        text.extend_from_slice(why.text.as_slice())?;
+    } else if why.is_allowed {
+        text = join_words(alloc, asked.question.command.as_slice())?;
+        text.extend_from_slice(b"\n")?;
+    }
+    print_answer(rt, text.as_slice())?;
+    Ok(if why.is_allowed { 0 } else { 1 })
 }
 
 /// Prints an advice if the command of `words` is the name of a file without its full path.
@@ -101,20 +143,25 @@ fn is_whole_command(name: &[u8]) -> bool {
     name.starts_with(b"/") || name == b"list".as_slice() || name == b"sudoedit".as_slice()
 }
 
-/// Reads what is asked: the policy, and the machine.
-fn read_asked(
+/// Returns the policy `root`, whose files are among `files`.
+fn load_policy(alloc: Global, root: &str, files: &mut KeptDisk) -> Result<Policy, LayerFault> {
+    let found = gather(alloc, root.as_bytes(), files)?;
+    let policy = Policy::load(alloc, found.as_slice())?;
+    Ok(policy)
+}
+
+/// Reads what is asked of `policy`, and the machine. If `is_machine_asked`, its links say which folders are one, too.
+pub fn read_asked(
     rt: &HostRuntime,
     words: &ArgMatches<'_>,
-    files: &mut KeptDisk,
+    policy: Policy,
+    is_machine_asked: bool,
 ) -> Result<Asked, FileTrouble> {
-    let alloc = rt.alloc();
-    let root = policy_name_of_ask_words(words);
-    let found = gather(alloc, root.as_bytes(), files).map_err(LayerFault::from)?;
-    let policy = Policy::load(alloc, found.as_slice()).map_err(LayerFault::from)?;
     Ok(Asked {
         policy,
         people: read_people(rt, words)?,
         question: read_question(rt, words)?,
+        same: read_same_folders(rt, words, is_machine_asked)?,
     })
 }
 
@@ -132,10 +179,11 @@ fn read_question(rt: &HostRuntime, words: &ArgMatches<'_>) -> Result<OwnedQuesti
 }
 
 impl OwnedQuestion {
-    /// Returns the question for the library.
-    fn as_borrowed_question(&self) -> CommandQuestion<'_> {
+    /// Returns the question for the library, where the folders of each of `same` are one.
+    pub fn as_borrowed_question<'a>(&'a self, same: &'a [FolderPair<'a>]) -> CommandQuestion<'a> {
         CommandQuestion {
             words: self.command.as_slice(),
+            same,
             target: optional_slice_of_optional_text(&self.target),
             group: optional_slice_of_optional_text(&self.group),
             host: self.host.as_slice(),
@@ -151,7 +199,8 @@ fn list_users(
     words: &ArgMatches<'_>,
     asked: &Asked,
 ) -> Result<AnswerText, FileTrouble> {
-    let question = asked.question.as_borrowed_question();
+    let pairs = asked.same.list_borrowed_pairs(alloc)?;
+    let question = asked.question.as_borrowed_question(pairs.as_slice());
     let denied = words.get_flag(DENIED);
     let users = list_users_who_may_run(
         alloc,
@@ -160,7 +209,9 @@ fn list_users(
         &question,
         denied,
     ).map_err(layer_of_question_fault)?;
-    let mut text = users.text;
+    let mut text = Vec::new(alloc);
+    asked.same.append_note_of_links(&mut text)?;
+    text.extend_from_slice(users.text.as_slice())?;
     if !users.is_any_allowed {
         text.extend_from_slice(b"no user may run it\n")?;
     }
@@ -177,17 +228,34 @@ fn explain_answer(
     words: &ArgMatches<'_>,
     asked: &Asked,
 ) -> Result<AnswerText, FileTrouble> {
-    let question = asked.question.as_borrowed_question();
+    let pairs = asked.same.list_borrowed_pairs(alloc)?;
+    let question = asked.question.as_borrowed_question(pairs.as_slice());
     let user = words.get_str("USER").unwrap_or("").as_bytes();
     let why = explain_user_answer(alloc, &asked.policy, &asked.people, user, &question).map_err(
         layer_of_question_fault,
     )?;
-    let mut text = why.text;
+    let mut text = Vec::new(alloc);
+    asked.same.append_note_of_links(&mut text)?;
+    text.extend_from_slice(why.text.as_slice())?;
+    text.extend_from_slice(why.near.as_slice())?;
     text.extend_from_slice(why.undecided.as_slice())?;
     Ok(AnswerText {
         text,
         status: if why.is_allowed { 0 } else { 1 },
     })
+}
+
+/// Returns the user of `words` on the host that `asked` names.
+pub fn make_who_of_words(
+    alloc: Global,
+    words: &ArgMatches<'_>,
+    asked: &Asked,
+) -> Result<Who, FileTrouble> {
+    let user = words.get_str("USER").unwrap_or("").as_bytes();
+    let host = asked.question.host.as_slice();
+    let interfaces = asked.question.interfaces.as_slice();
+    let who = who_for(alloc, &asked.people, user, host, interfaces).map_err(LayerFault::from)?;
+    Ok(who)
 }
 
 /// Returns what the user of `words` may run.
@@ -196,15 +264,7 @@ fn list_rights(
     words: &ArgMatches<'_>,
     asked: &Asked,
 ) -> Result<AnswerText, FileTrouble> {
-    let user = words.get_str("USER").unwrap_or("").as_bytes();
-    let who = who_for(
-        alloc,
-        &asked.people,
-        user,
-        asked.question.host.as_slice(),
-        asked.question.interfaces.as_slice(),
-    )
-    .map_err(LayerFault::from)?;
+    let who = make_who_of_words(alloc, words, asked)?;
     let rights = list_rights_with_places(
         alloc,
         &asked.policy,
@@ -218,7 +278,7 @@ fn list_rights(
 }
 
 /// Returns the fault of a question as one of the program.
-fn layer_of_question_fault(fault: QuestionFault) -> LayerFault {
+pub fn layer_of_question_fault(fault: QuestionFault) -> LayerFault {
     match fault {
         QuestionFault::Who(fault) => LayerFault::from(fault),
         QuestionFault::Ask(fault) => LayerFault::from(fault),
@@ -226,7 +286,7 @@ fn layer_of_question_fault(fault: QuestionFault) -> LayerFault {
 }
 
 /// Returns the fault of a listing as one of the program.
-fn layer_of_rights_fault(fault: RightsFault) -> LayerFault {
+pub fn layer_of_rights_fault(fault: RightsFault) -> LayerFault {
     match fault {
         RightsFault::Cycle => LayerFault::from(AskFault::Cycle),
         RightsFault::TooLarge => LayerFault::from(CvtFault::TooLarge),

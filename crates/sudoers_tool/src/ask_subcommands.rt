@@ -1,7 +1,9 @@
 //! The command lines of `who`, `what` and `why`, which ask the policy of this machine unless another is named.
 
 use crate::explaining::add_explaining_options;
+use crate::json_output::make_json_flag;
 use crate::list_command::{make_group_option, make_interfaces_option, make_target_option};
+use crate::same_folders::{make_no_same_flag, make_same_option, make_usr_merge_flag};
 use clap::{Arg, ArgAction, ArgMatches, Command};
 use std::alloc::{AllocError, Global};
 
@@ -51,6 +53,7 @@ pub fn make_who_subcommand<'a>(alloc: Global, top: Arg<'a>) -> Result<Command<'a
         .arg(make_target_option(alloc))?
         .arg(make_group_option(alloc))?
         .arg(denied)?;
+    let command = add_same_folders_options(alloc, command)?;
     add_machine_options(alloc, command, top)?.arg(make_asked_command_argument(alloc))
 }
 
@@ -72,12 +75,26 @@ pub fn make_what_subcommand<'a>(alloc: Global, top: Arg<'a>) -> Result<Command<'
 /// Returns the command line of `why`.
 pub fn make_why_subcommand<'a>(alloc: Global, top: Arg<'a>) -> Result<Command<'a>, AllocError> {
     let command = Command::new(alloc, WHY)
-        .about("Print whether a user may run a command on a host, and the rule that says so")
+        .about(
+            "Print whether a user may run a command on a host, and the rule that says so, or the rules that match but for one thing",
+        )
         .arg(make_target_option(alloc))?
         .arg(make_group_option(alloc))?;
+    let command = add_same_folders_options(alloc, command)?;
     add_machine_options(alloc, command, top)?
         .arg(make_user_argument(alloc))?
         .arg(make_asked_command_argument(alloc))
+}
+
+/// Returns `command` with the options that name folders that are one.
+fn add_same_folders_options<'a>(
+    alloc: Global,
+    command: Command<'a>,
+) -> Result<Command<'a>, AllocError> {
+    command
+        .arg(make_same_option(alloc))?
+        .arg(make_usr_merge_flag(alloc))?
+        .arg(make_no_same_flag(alloc))
 }
 
 /// Returns the argument with the user who is asked about.
@@ -120,6 +137,7 @@ fn add_machine_options<'a>(
             "Moment in UTC, as 20300131120000Z; without it now",
         ))?
         .arg(make_interfaces_option(alloc))?
+        .arg(make_json_flag(alloc))?
         .arg(top)?;
     add_explaining_options(alloc, command)
 }

@@ -8,7 +8,7 @@ use crate::terminal::open_standard_error;
 use clap::{Arg, ArgAction, ArgMatches, Command};
 use std::alloc::{AllocError, Global};
 use std::fs;
-use std::io::{IsTerminal, Write};
+use std::io::{self, IsTerminal, Write};
 use sudoers_cvt_rewrite::FilterFault;
 use sudoers_cvt_rules::CvtFault;
 use sudoers_explain::{append_help, explain_load_fault};
@@ -177,7 +177,7 @@ pub fn append_reason_of_file(
 }
 
 /// Returns the line with the advice for `fault` of the file `file`, if it is of one. It is no fault of the policy's files.
-fn explain_fault_of_words(
+pub fn explain_fault_of_words(
     rt: &HostRuntime,
     words: &ArgMatches<'_>,
     file: Option<&[u8]>,
@@ -311,7 +311,7 @@ fn append_reason_of_people_files(
 }
 
 /// Returns the system's reason why the file `name` cannot be read.
-fn reason_of_file(rt: &HostRuntime, name: &[u8]) -> &'static str {
+pub fn reason_of_file(rt: &HostRuntime, name: &[u8]) -> &'static str {
     let Ok(name) = str::from_utf8(name) else {
         return "its name is not UTF-8";
     };
@@ -319,6 +319,19 @@ fn reason_of_file(rt: &HostRuntime, name: &[u8]) -> &'static str {
         Ok(_) => "it cannot be read",
         Err(error) => words_of_error_kind(error.kind()),
     }
+}
+
+/// Returns whether `path` is a folder with a name that is not UTF-8.
+fn has_name_that_is_not_utf8(rt: &HostRuntime, path: &str) -> bool {
+    let Ok(entries) = fs::read_dir(rt, path) else {
+        return false;
+    };
+    for entry in entries {
+        if matches!(&entry, Err(error) if error.kind() == io::ErrorKind::InvalidFilename) {
+            return true;
+        }
+    }
+    false
 }
 
 /// Returns the system's reason why the file `name` cannot be read, below the folder that `words` name, if they name one.
@@ -342,6 +355,8 @@ pub fn find_reason_of_file(
             Ok(_) => "it cannot be read",
             Err(error) => words_of_error_kind(error.kind()),
         },
+        Ok(_) if has_name_that_is_not_utf8(rt, path.as_str()) =>
+            "it is a folder, and a name in it is not UTF-8",
         Ok(_) => "it is no regular file",
         Err(error) => words_of_error_kind(error.kind()),
     })

@@ -1,4 +1,4 @@
-//! The documents of `check --json` and `show --json`.
+//! The documents of `check --json` and `show --json`, and their errors.
 
 use crate::explaining::{advice_of_fault, find_reason_of_file};
 use crate::files::KeptDisk;
@@ -36,7 +36,7 @@ pub fn is_json_asked(words: &ArgMatches<'_>) -> bool {
 }
 
 /// Writes the document `text` to the standard output.
-fn write_document(rt: &HostRuntime, text: &[u8]) -> Result<(), ToolFault> {
+pub fn write_document(rt: &HostRuntime, text: &[u8]) -> Result<(), ToolFault> {
     match open_standard_output(rt).write_all(text) {
         Ok(()) => Ok(()),
         Err(_) => Err(ToolFault::Write),
@@ -44,7 +44,7 @@ fn write_document(rt: &HostRuntime, text: &[u8]) -> Result<(), ToolFault> {
 }
 
 /// Returns the list of the errors `faults` of the files `found`, and the first of them.
-fn make_list_of_faults(
+pub fn make_list_of_faults(
     alloc: Global,
     found: &[NamedFile],
     faults: Vec<LoadFault>,
@@ -216,6 +216,21 @@ fn make_document_of_fault(
     files: &KeptDisk,
     fault: &ToolFault,
 ) -> Result<Vec<u8>, AllocError> {
+    let errors = make_list_of_gather_fault(rt, words, files, fault)?;
+    make_error_document(rt.alloc(), name, root.as_bytes(), &errors, None)
+}
+
+/// Returns the list with the error `fault` of gathering `files`.
+///
+/// # Errors
+///
+/// Memory ran out.
+pub fn make_list_of_gather_fault(
+    rt: &HostRuntime,
+    words: &ArgMatches<'_>,
+    files: &KeptDisk,
+    fault: &ToolFault,
+) -> Result<JsonList, AllocError> {
     let alloc = rt.alloc();
     let text = fault_text(alloc, fault)?;
     let file = files.files().last_requested_name();
@@ -235,7 +250,7 @@ fn make_document_of_fault(
     };
     let mut errors = JsonList::new(alloc);
     errors.add(&make_error_value(alloc, &printed)?)?;
-    make_error_document(alloc, name, root.as_bytes(), &errors, None)
+    Ok(errors)
 }
 
 /// Returns whether the error `fault` is about the file that was asked for last.
@@ -247,7 +262,7 @@ fn is_fault_of_file(fault: &ToolFault) -> bool {
 }
 
 /// Returns the word for the kind of the error `fault`.
-fn word_of_fault_kind(fault: &ToolFault) -> &'static str {
+pub fn word_of_fault_kind(fault: &ToolFault) -> &'static str {
     match fault {
         ToolFault::Layer(LayerFault::Gather(_)) => "Gather",
         _ => "Run",

@@ -1,6 +1,7 @@
 //! The subcommand `list`: its command line, and its run.
 
 use crate::files::{KeptDisk, STDIN, STDIN_NUMBER, open_named_file};
+use crate::same_folders::{make_same_option, make_usr_merge_flag};
 use crate::terminal::open_standard_output;
 use clap::{Arg, ArgAction, ArgMatches, Command};
 use std::alloc::{AllocError, Global};
@@ -50,6 +51,8 @@ fn add_moment_runas_and_command_arguments<'a>(
         .arg(make_interfaces_option(alloc))?
         .arg(make_target_option(alloc))?
         .arg(make_group_option(alloc))?
+        .arg(make_same_option(alloc))?
+        .arg(make_usr_merge_flag(alloc))?
         .arg(make_why_flag(alloc)?)?
         .arg(file)?
         .arg(make_command_argument(alloc))

@@ -22,7 +22,11 @@ const GROUP: (&str, &str) = ("GROUPS", "/etc/group");
 const HOSTNAME_FILE: &str = "/etc/hostname";
 
 /// Returns the name `name` below the folder that `words` name, if they name one.
-fn name_of_machine_file(
+///
+/// # Errors
+///
+/// Memory ran out.
+pub fn name_of_machine_file(
     alloc: Global,
     words: &ArgMatches<'_>,
     name: &str,

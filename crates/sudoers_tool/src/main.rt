@@ -4,7 +4,9 @@
 mod all_errors;
 mod also_option;
 mod ask_command;
+mod ask_json;
 mod ask_subcommands;
+mod ask_values;
 mod convert_command;
 mod edit_command;
 mod explaining;
@@ -16,10 +18,12 @@ mod json_output;
 mod kept_files;
 mod list_command;
 mod machine;
+mod same_folders;
 mod terminal;
 
 use crate::all_errors::{make_all_flag, print_all_errors};
-use crate::ask_command::run_ask_command;
+use crate::ask_command::{is_list_with_same_folders, run_ask_command, run_list_with_same_folders};
+use crate::ask_json::run_ask_as_json;
 use crate::ask_subcommands::{
     is_ask_command, make_what_subcommand, make_who_subcommand, make_why_subcommand,
     policy_name_of_ask_words,
@@ -41,6 +45,7 @@ use crate::json_output::{
 };
 use crate::kept_files::KeptFiles;
 use crate::list_command::{make_list_subcommand, run_list_command};
+use crate::same_folders::find_mistake_in_same_folders;
 use crate::terminal::{open_standard_error, open_standard_output, print_error_line};
 use clap::error::ErrorKind;
 use clap::{Arg, ArgAction, ArgMatches, Command, Error};
@@ -129,8 +134,11 @@ fn find_usage_error(
     }
 }
 
-/// Returns what is wrong with the policy files that `words` name: the standard input is one policy, and not two.
+/// Returns what is wrong with the folders and the policy files that `words` name: the standard input is one policy, and not two.
 fn find_usage_error_of_files(words: &ArgMatches<'_>) -> Option<&'static str> {
+    if let Some(mistake) = find_mistake_in_same_folders(words) {
+        return Some(mistake);
+    }
     let files = words.get_strs("FILE")?;
     if files.iter().filter(|file| **file == STDIN).count() > 1 {
         return Some("standard input can be one policy only");
@@ -212,8 +220,12 @@ fn run_named_command_and_print_error(
         Ok(disk) => KeptFiles::new(rt.alloc(), disk, are_files_read_again(rt, words)),
         Err(fault) => return report_fault(rt, &FileTrouble::from(fault), error_status, &[]),
     };
-    let outcome = if is_ask_command(name) {
+    let outcome = if is_ask_command(name) && is_json_asked(words) {
+        run_ask_as_json(rt, name, words, &mut files)
+    } else if is_ask_command(name) {
         run_ask_command(rt, name, words, &mut files)
+    } else if name == "list" && is_list_with_same_folders(words) {
+        run_list_with_same_folders(rt, file, words, &mut files)
     } else {
         run_file_command(rt, name, file, words, &mut files)
     };

@@ -7,3 +7,14 @@ mod Decided
 mod DefaultsByTests
 mod RowPartsByTests
 mod AnswersByTests
+pub mod Deciding
+pub mod DefinitionLines
+pub mod Collecting
+pub mod Asking
+pub mod Standings
+pub mod Counting
+pub mod RowCounts
+pub mod RowSteps
+pub mod Loops
+pub mod SettingCounts
+pub mod Listed

@@ -5,7 +5,7 @@ use Rattle.sudoers_match_list.specs.declared.verdict.MemberHit.{MemberHit}
 use Rattle.sudoers_match_list.specs.Flat.{SignedAtom, hit_of_signed_atom, has_no_digests, later_hit_if_any, last_hit_of_list, signed_atom_under_negation, hit_under_negation, flipped_if_negated, is_all_atom}
 use Rattle.sudoers_undecided.specs.TurningMembers.{CouldTurnFlatList}
 use Rattle.sudoers_undecided.specs.declared.list_sway.ListSway.{ListSway}
-use Rattle.sudoers_undecided.specs.ListSway.{sway_of_empty_list, sway_unless_later_hit, sway_of_joined_lists, sway_under_negation, sway_of_signed_atom, sway_of_flat_list, could_be_swayed_from}
+use Rattle.sudoers_undecided.specs.ListSway.{sway_of_empty_list, sway_unless_later_hit, sway_of_joined_lists, sway_under_negation, sway_of_signed_atom, sway_of_flat_list, sway_of_one_atom, sway_of_atoms, is_bare_and_undecided, could_be_swayed_from}
 
 or_assoc : (a b c : Bool) → ((a || b) || c) ≡ (a || (b || c))
 or_assoc true b c = refl
@@ -30,16 +30,20 @@ later_assoc a b c = by c.hit b.hit refl refl
     by None None e f =
         swayed_is _ _ refl (or_assoc a.to_allow b.to_allow c.to_allow) (or_assoc a.to_deny b.to_deny c.to_deny) ∙ ap (λ x. sway_unless_later_hit x a (sway_unless_later_hit None b c)) (sym f)
 
-module _ (undecided test : Atom → Bool) where
+module _ (undecided : SignedAtom → Bool) (test : Atom → Bool) where
   -- a list that goes on with another
-  pub sway_of_appended : (fs gs : List SignedAtom) → sway_of_flat_list undecided test (fs ++ gs) ≡ sway_of_joined_lists (sway_of_flat_list undecided test fs) (sway_of_flat_list undecided test gs)
-  sway_of_appended [] gs = by (sway_of_flat_list undecided test gs) (sway_of_flat_list undecided test gs).hit refl
+  pub sway_of_appended : (fs gs : List SignedAtom) → sway_of_atoms undecided test (fs ++ gs) ≡ sway_of_joined_lists (sway_of_atoms undecided test fs) (sway_of_atoms undecided test gs)
+  sway_of_appended [] gs = by (sway_of_atoms undecided test gs) (sway_of_atoms undecided test gs).hit refl
     where
       by : (s : ListSway) (h : Option MemberHit) → s.hit ≡ h → s ≡ sway_unless_later_hit h sway_of_empty_list s
       by s None e = swayed_is _ _ e refl refl
       by s (Some h) e = refl
   sway_of_appended (s ∷ fs) gs =
-      ap (sway_of_joined_lists (sway_of_signed_atom undecided test s)) (sway_of_appended fs gs) ∙ sym (later_assoc (sway_of_signed_atom undecided test s) (sway_of_flat_list undecided test fs) (sway_of_flat_list undecided test gs))
+      ap (sway_of_joined_lists (sway_of_one_atom undecided test s)) (sway_of_appended fs gs) ∙ sym (later_assoc (sway_of_one_atom undecided test s) (sway_of_atoms undecided test fs) (sway_of_atoms undecided test gs))
+
+  -- a list with one atom
+  pub sway_of_single : (s : SignedAtom) → sway_of_atoms undecided test (s ∷ []) ≡ sway_of_one_atom undecided test s
+  sway_of_single s = swayed_is _ _ refl (or_nil (sway_of_one_atom undecided test s).to_allow) (or_nil (sway_of_one_atom undecided test s).to_deny)
 
   -- its hit is that of the list
   hit_later : (a b : ListSway) → (sway_of_joined_lists a b).hit ≡ later_hit_if_any a.hit b.hit
@@ -49,9 +53,9 @@ module _ (undecided test : Atom → Bool) where
       by None e = refl
       by (Some h) e = e
 
-  pub sway_has_last_hit : (fs : List SignedAtom) → (sway_of_flat_list undecided test fs).hit ≡ last_hit_of_list test fs
+  pub sway_has_last_hit : (fs : List SignedAtom) → (sway_of_atoms undecided test fs).hit ≡ last_hit_of_list test fs
   sway_has_last_hit [] = refl
-  sway_has_last_hit (s ∷ fs) = hit_later (sway_of_signed_atom undecided test s) (sway_of_flat_list undecided test fs) ∙ ap (later_hit_if_any (hit_of_signed_atom test s)) (sway_has_last_hit fs)
+  sway_has_last_hit (s ∷ fs) = hit_later (sway_of_one_atom undecided test s) (sway_of_atoms undecided test fs) ∙ ap (later_hit_if_any (hit_of_signed_atom test s)) (sway_has_last_hit fs)
 
   -- turned round
   turned_later : (n : Bool) (a b : ListSway) → sway_under_negation n (sway_of_joined_lists a b) ≡ sway_of_joined_lists (sway_under_negation n a) (sway_under_negation n b)
@@ -73,16 +77,20 @@ module _ (undecided test : Atom → Bool) where
   not_not a true = refl
   not_not a false = refl
 
-  member_turned : (n : Bool) (s : SignedAtom) → sway_of_signed_atom undecided test (signed_atom_under_negation n s) ≡ sway_under_negation n (sway_of_signed_atom undecided test s)
-  member_turned true s = swayed_is _ _ (hit_turned true (test s.atom && has_no_digests s.digests) s.allow (is_all_atom s.atom)) refl (not_not (undecided s.atom && has_no_digests s.digests) s.allow)
-  member_turned false s = swayed_is _ _ (hit_turned false (test s.atom && has_no_digests s.digests) s.allow (is_all_atom s.atom)) refl refl
+  module _ (stays : (n : Bool) (s : SignedAtom) → undecided (signed_atom_under_negation n s) ≡ undecided s) where
+    member_turned : (n : Bool) (s : SignedAtom) → sway_of_one_atom undecided test (signed_atom_under_negation n s) ≡ sway_under_negation n (sway_of_one_atom undecided test s)
+    member_turned true s = swayed_is _ _ (hit_turned true (test s.atom && has_no_digests s.digests) s.allow (is_all_atom s.atom))
+        (ap (λ u. u && not s.allow) (stays true s)) (ap (λ u. u && not (not s.allow)) (stays true s) ∙ not_not (undecided s) s.allow)
+    member_turned false s = swayed_is _ _ (hit_turned false (test s.atom && has_no_digests s.digests) s.allow (is_all_atom s.atom))
+        (ap (λ u. u && s.allow) (stays false s)) (ap (λ u. u && not s.allow) (stays false s))
 
-  pub sway_of_negated : (n : Bool) (fs : List SignedAtom) → sway_of_flat_list undecided test (map (signed_atom_under_negation n) fs) ≡ sway_under_negation n (sway_of_flat_list undecided test fs)
-  sway_of_negated true [] = refl
-  sway_of_negated false [] = refl
-  sway_of_negated n (s ∷ fs) =
-      ap₂ sway_of_joined_lists (member_turned n s) (sway_of_negated n fs) ∙ sym (turned_later n (sway_of_signed_atom undecided test s) (sway_of_flat_list undecided test fs))
+    pub sway_of_negated : (n : Bool) (fs : List SignedAtom) → sway_of_atoms undecided test (map (signed_atom_under_negation n) fs) ≡ sway_under_negation n (sway_of_atoms undecided test fs)
+    sway_of_negated true [] = refl
+    sway_of_negated false [] = refl
+    sway_of_negated n (s ∷ fs) =
+        ap₂ sway_of_joined_lists (member_turned n s) (sway_of_negated n fs) ∙ sym (turned_later n (sway_of_one_atom undecided test s) (sway_of_atoms undecided test fs))
 
+module _ (undecided test : Atom → Bool) where
   -- ---- it sways where a member could turn the list
 
   both : (a b : Bool) → (a && b) ≡ true → (a ≡ true) × (b ≡ true)
@@ -133,7 +141,7 @@ module _ (undecided test : Atom → Bool) where
           → (could_be_swayed_from v (sway_of_flat_list undecided test fs) ≡ true → (t : SignedAtom) × CouldTurnFlatList undecided test v fs t) → (t : SignedAtom) × CouldTurnFlatList undecided test v (s ∷ fs) t
       by (inl w) ih =
           let m = mine v s w.1 in
-          (s, record { before = []; after = fs; stands = refl; is_undecided = m.0; bare = m.1; none_behind = sym (sway_has_last_hit fs) ∙ w.0; contrary = m.2 })
+          (s, record { before = []; after = fs; stands = refl; is_undecided = m.0; bare = m.1; none_behind = sym (sway_has_last_hit (is_bare_and_undecided undecided) test fs) ∙ w.0; contrary = m.2 })
       by (inr f) ih = more v s fs (ih f)
 
   or_right : (a b : Bool) → b ≡ true → (a || b) ≡ true
@@ -169,7 +177,7 @@ module _ (undecided test : Atom → Bool) where
 
   at_place : (v : Bool) (before after : List SignedAtom) (t : SignedAtom) → undecided t.atom ≡ true → has_no_digests t.digests ≡ true → last_hit_of_list test after ≡ None → t.allow ≡ not v
       → could_be_swayed_from v (sway_of_flat_list undecided test (before ++ t ∷ after)) ≡ true
-  at_place v [] after t o b n c = sways_first v (sway_of_signed_atom undecided test t) (sway_of_flat_list undecided test after) (sway_has_last_hit after ∙ n) (mine_sways v t o b c)
+  at_place v [] after t o b n c = sways_first v (sway_of_signed_atom undecided test t) (sway_of_flat_list undecided test after) (sway_has_last_hit (is_bare_and_undecided undecided) test after ∙ n) (mine_sways v t o b c)
   at_place v (s ∷ before) after t o b n c = sways_later v (sway_of_signed_atom undecided test s) (sway_of_flat_list undecided test (before ++ t ∷ after)) (at_place v before after t o b n c)
 
   pub turning_atom_then_sway : (v : Bool) (fs : List SignedAtom) (t : SignedAtom) → CouldTurnFlatList undecided test v fs t → could_be_swayed_from v (sway_of_flat_list undecided test fs) ≡ true

@@ -7,3 +7,5 @@ pub mod PlacedAtoms
 pub mod UndecidedListing
 pub mod RowParts
 pub mod UndecidedAnswer
+pub mod FoundMembers
+pub mod internal

@@ -1,22 +1,23 @@
 //! What was not decided in an answer, and could have changed it.
 #![tactic(auto)]
 
-mod command_collector;
-mod command_reach;
+mod alias_collector;
+mod asked_request;
+mod command_question;
+mod counted_lists;
 mod decided_aliases;
 mod default_scopes;
+mod definitions;
 pub mod laws;
 mod list_sway;
 mod listing;
 mod member_question;
-mod ordered_definitions;
-mod part_collector;
+mod mention_order;
 mod request_aliases;
 mod request_part;
-mod row_collectors;
-mod row_standing;
 mod spec_rows;
 mod undecided_member;
+mod wanted_members;
 
 pub use listing::list_undecided_members;
 pub use request_part::RequestPart;

@@ -1,7 +1,7 @@
 //! What lists say, and whether undecided members could make them say the contrary.
 
 ghost use Rattle.std.specs.Prelude.{◌≡◌};
-ghost use Rattle.sudoers_undecided.specs.ListSway.{could_be_swayed_from, sway_of_empty_list, sway_of_joined_lists, sway_under_negation};
+ghost use Rattle.sudoers_undecided.specs.ListSway.{could_be_swayed_from, may_list_match, sway_of_empty_list, sway_of_joined_lists, sway_under_negation};
 ghost use Rattle.sudoers_undecided.specs.TurningMembers.{is_allowed_by_hit_or_else};
 
 use sudoers_match_list::MemberHit;
@@ -79,5 +79,12 @@ impl ListSway {
         ensures { result ≡ could_be_swayed_from allowed self.now }
     {
         if allowed { self.to_deny } else { self.to_allow }
+    }
+
+    /// Returns whether a member of the list matches, or one is undecided behind it.
+    pub fn may_match(&self) -> bool
+        ensures { result ≡ may_list_match self.now }
+    {
+        self.hit.is_some() || self.to_allow || self.to_deny
     }
 }

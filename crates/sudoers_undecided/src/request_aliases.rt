@@ -1,9 +1,15 @@
 //! What all aliases of a policy say of a request.
 
-use crate::command_reach::CommandAliases;
+ghost use Rattle.std.specs.Prelude.{◌≡◌, Some, None, IfOk};
+ghost use Rattle.sudoers_match.specs.Answer.{command_with_joined_arguments_of_request};
+ghost use Rattle.sudoers_match.specs.Runas.{is_group_absent_or_among};
+ghost use Rattle.sudoers_undecided.specs.declared.default_scopes.DefaultScopes.{DefaultScopes as ScopesOf};
+ghost use Rattle.sudoers_undecided.specs.internal.Counted.{AreAliasesOfRequest, IsGroupQuestion, IsRunasGroupsStanding, IsRunasUsersStanding};
+ghost use Rattle.sudoers_undecided.specs.internal.Definitions.{HoldsDefinitions};
+
 use crate::decided_aliases::{DecidedAliases, PartStanding};
+use crate::definitions::OrderedDefinitions;
 use crate::member_question::MemberQuestion;
-use crate::ordered_definitions::OrderedDefinitions;
 use std::alloc::{AllocError, Global};
 use sudoers_check::DefinitionNumbers;
 use sudoers_line_rows::RunasSpec;
@@ -17,11 +23,13 @@ pub struct RequestAliases<'b> {
     pub hosts: DecidedAliases<'b>,
     pub targets: DecidedAliases<'b>,
     pub groups: DecidedAliases<'b>,
-    pub commands: CommandAliases<'b>,
+    pub commands: DecidedAliases<'b>,
 }
 
 /// Returns the question whether a list names the group that is asked for, if one is.
-fn question_of_group(group: &Option<Group>) -> MemberQuestion<'_> {
+fn question_of_group(group: &Option<Group>) -> MemberQuestion<'_>
+    ensures { IsGroupQuestion group.now result }
+{
     match group {
         Some(group) => MemberQuestion::RunasGroup(group),
         None => MemberQuestion::Nobody,
@@ -29,7 +37,9 @@ fn question_of_group(group: &Option<Group>) -> MemberQuestion<'_> {
 }
 
 /// Returns whether no group is asked for, or it is one of `groups`.
-pub fn is_group_absent_or_one_of(groups: &[Group], group: &Option<Group>) -> bool {
+pub fn is_group_absent_or_one_of(groups: &[Group], group: &Option<Group>) -> bool
+    ensures { result ≡ is_group_absent_or_among groups.now group.now }
+{
     match group {
         Some(group) => has_group_of_number(groups, group.gid),
         None => true,
@@ -48,16 +58,21 @@ impl<'b> RequestAliases<'b> {
         definitions: &OrderedDefinitions<'_>,
         request: &'b Request,
         command: &'b CommandLine,
-    ) -> Result<RequestAliases<'b>, AllocError> {
+    ) -> Result<RequestAliases<'b>, AllocError>
+        requires definitions { HoldsDefinitions numbers.now.walk definitions.now.definitions.items }
+        requires command { command.now ≡ command_with_joined_arguments_of_request request.now }
+        ensures { IfOk result (λ aliases. AreAliasesOfRequest numbers.now.walk request.now aliases) }
+    {
         let user = MemberQuestion::User(&request.who.user);
         let host = MemberQuestion::Host(&request.who);
         let target = MemberQuestion::User(&request.target);
         let group = question_of_group(&request.target_group);
+        let asked = MemberQuestion::Command(command);
         let users = DecidedAliases::new(alloc, numbers, definitions, Kind::User, user)?;
         let hosts = DecidedAliases::new(alloc, numbers, definitions, Kind::Host, host)?;
         let targets = DecidedAliases::new(alloc, numbers, definitions, Kind::Runas, target)?;
         let groups = DecidedAliases::new(alloc, numbers, definitions, Kind::Runas, group)?;
-        let commands = CommandAliases::new(alloc, numbers, definitions, command)?;
+        let commands = DecidedAliases::new(alloc, numbers, definitions, Kind::Cmnd, asked)?;
         Ok(RequestAliases {
             users,
             hosts,
@@ -73,7 +88,10 @@ impl<'b> RequestAliases<'b> {
         numbers: &DefinitionNumbers<'_>,
         request: &Request,
         runas: &RunasSpec<'_>,
-    ) -> PartStanding {
+    ) -> PartStanding
+        requires { AreAliasesOfRequest numbers.now.walk request.now self.now }
+        ensures { (scopes : ScopesOf) → IsRunasUsersStanding numbers.now.walk request.now scopes (Some runas.now) result }
+    {
         if runas.users.rows.is_empty() {
             PartStanding::from_fact(request.target.uid == request.who.user.uid)
         } else {
@@ -87,20 +105,26 @@ impl<'b> RequestAliases<'b> {
         numbers: &DefinitionNumbers<'_>,
         request: &Request,
         runas: &RunasSpec<'_>,
-    ) -> PartStanding {
-        let group = &request.target_group;
-        let own = is_group_absent_or_one_of(request.target.groups.as_slice(), group);
-        if group.is_none() {
-            PartStanding::from_fact(true)
-        } else if !runas.groups.rows.is_empty() {
+    ) -> PartStanding
+        requires { AreAliasesOfRequest numbers.now.walk request.now self.now }
+        ensures { IsRunasGroupsStanding numbers.now.walk request.now (Some runas.now) result }
+    {
+        let Some(group) = &request.target_group else {
+            return PartStanding::from_fact(true);
+        };
+        if !runas.groups.rows.is_empty() {
+            let own = has_group_of_number(request.target.groups.as_slice(), group.gid);
             self.groups.standing_of_list(numbers, &runas.groups, own)
         } else if runas.users.rows.is_empty() {
-            PartStanding::from_fact(is_group_absent_or_one_of(
+            PartStanding::from_fact(has_group_of_number(
                 request.who.user.groups.as_slice(),
-                group,
+                group.gid,
             ))
         } else {
-            PartStanding::from_fact(own)
+            PartStanding::from_fact(has_group_of_number(
+                request.target.groups.as_slice(),
+                group.gid,
+            ))
         }
     }
 }

@@ -1,229 +1,274 @@
-//! The undecided members of user specifications.
+//! The lists of user specifications whose undecided members could have changed an answer.
 
-use crate::command_collector::CommandsToCollect;
+ghost use Rattle.std.specs.Prelude.{◌≡◌, ◌&&◌, ℕ, List, true, false, [], ◌∷◌, IfOk, OnOk, Some, None};
+ghost use Rattle.sudoers_check.specs.Chain.{ListHasElement};
+ghost use Rattle.sudoers_grammar.specs.Node.{Member as MemberOf};
+ghost use Rattle.sudoers_line_rows.specs.View.{commands_of_view, host_group_of_view, host_groups_of_view, member_of_view, members_of_view};
+ghost use Rattle.std.specs.Option.{is_some, option_or};
+ghost use Rattle.sudoers_match.specs.Heads.{AccumulatedCommandSettings as HeadOf, commands_with_settings, empty_command_settings};
+ghost use Rattle.sudoers_match.specs.Moment.{is_in_option_time_bounds};
+ghost use Rattle.sudoers_match.specs.Values.{option_values_of_view};
+ghost use Rattle.sudoers_match.specs.IsHead.{HoldsCommandSettings};
+ghost use Rattle.sudoers_match.specs.Rows.{AreRowsPerFlatAtomOfCommand, AreRowsPerFlatAtomOfHostGroup, AreRowsPerFlatAtomOfPolicy, AreRowsPerFlatAtomOfSpec, PrivilegeRow};
+ghost use Rattle.sudoers_match.specs.Specs.{IsConcatenationOfParts, user_spec_of_users_and_groups};
+ghost use Rattle.sudoers_undecided.specs.declared.spec_rows.UsersAndHosts.{UsersAndHosts as WhoOf};
+ghost use Rattle.sudoers_undecided.specs.internal.Counted.{AreListsOfCommand, CountsRows, CoversRows, HasNotedLists, HaveGrown, IsAskedOfPolicy, IsHostsStanding, IsRunasGroupsStanding, IsRunasUsersStanding, IsUsersStanding, counted_list};
+ghost use Rattle.sudoers_undecided.specs.internal.Looped.{IsRunasStanding, IsWhoStanding, lists_of};
+ghost use Rattle.sudoers_undecided.specs.internal.Parts.{does_row_hold};
+
+use crate::asked_request::{AskedRequest, CommandLists, RowStanding, is_within_time_bounds};
+use crate::counted_lists::CountedLists;
 use crate::decided_aliases::PartStanding;
-use crate::part_collector::ListPlace;
-use crate::row_collectors::RowCollectors;
-use crate::row_standing::{
-    AnsweredRequest, CountedParts, RowPlace, RowStanding, is_within_time_bounds,
-};
-use std::alloc::AllocError;
+use crate::list_sway::ListSway;
+use std::alloc::{AllocError, Global};
 use sudoers_line_rows::{HostGroup, RunasSpec};
-use sudoers_match::{CommandOptions, CommandSettings};
+use sudoers_match::{CommandSettings, list_specs_with_lines};
 use sudoers_tree::{CommandRow, HostGroupRow, MemberRow, RowsOfTable};
 
-/// How the users of a user specification, and the hosts of one of its host groups, stand to a request.
+/// The users and the hosts of commands, and how they stand to a request.
 #[derive(Clone, Copy)]
-struct UsersAndHosts {
-    users: PartStanding,
-    hosts: PartStanding,
+pub struct UsersAndHosts<'a> {
+    pub line: usize,
+    pub users: RowsOfTable<'a, MemberRow>,
+    pub hosts: RowsOfTable<'a, MemberRow>,
+    pub users_standing: PartStanding,
+    pub hosts_standing: PartStanding,
 }
 
-/// A Runas_Spec that holds of commands, how its lists stand to a request, and which of them were looked at.
+/// The Runas_Spec of commands, and how its lists stand to a request.
 #[derive(Clone, Copy)]
-struct RunasOfCommands<'a> {
-    runas: Option<RunasSpec<'a>>,
-    users: PartStanding,
-    groups: PartStanding,
-    are_users_done: bool,
-    are_groups_done: bool,
+pub struct RunasOfCommands<'a> {
+    pub runas: Option<RunasSpec<'a>>,
+    pub users: PartStanding,
+    pub groups: PartStanding,
 }
 
-/// Collects from the user specification on the line with the number `line`.
+/// Returns the lists that count in an answer: those of the last command that fits, and of commands behind it.
 ///
 /// # Errors
 ///
 /// Memory ran out.
-pub fn collect_from_spec<'a, 'b>(
-    collectors: &mut RowCollectors<'a, 'b>,
-    asked: &AnsweredRequest<'a, 'b>,
-    line: usize,
-    users: &RowsOfTable<'a, MemberRow>,
-    groups: &RowsOfTable<'a, HostGroupRow>,
-) -> Result<(), AllocError> {
-    let numbers = asked.policy.definition_numbers();
-    let standing = asked.aliases.users.standing_of_list(numbers, users, false);
-    if !standing.may_hold() {
-        return Ok(());
-    }
-    let mut counts = false;
-    let tables = groups.tables;
-    for (host_group, row) in groups.rows.iter().enumerate() {
-        let group = tables.host_group_of_row(row);
-        let place = RowPlace {
-            line,
-            host_group,
-            command: 0,
-        };
-        let is_counted = collect_from_host_group(collectors, asked, place, standing, &group)?;
-        counts = counts || is_counted;
-    }
-    if counts {
-        let place = ListPlace { line, alias: None };
-        collectors
-            .users
-            .collect_from_list(numbers, place, users, !standing.holds)?;
-    }
-    Ok(())
-}
-
-/// Collects from the host group whose first command is at `place`. `users` is how the users of its user specification stand to the
-/// request. Returns whether their undecided members count.
-fn collect_from_host_group<'a, 'b>(
-    collectors: &mut RowCollectors<'a, 'b>,
-    asked: &AnsweredRequest<'a, 'b>,
-    place: RowPlace,
-    users: PartStanding,
-    group: &HostGroup<'a>,
-) -> Result<bool, AllocError> {
-    let numbers = asked.policy.definition_numbers();
-    let hosts = asked
-        .aliases
-        .hosts
-        .standing_of_list(numbers, &group.hosts, false);
-    if !hosts.may_hold() {
-        return Ok(false);
-    }
-    let who = UsersAndHosts { users, hosts };
-    let counted = collect_from_commands(collectors, asked, place, who, &group.commands)?;
-    if counted.hosts {
-        let at = ListPlace {
-            line: place.line,
-            alias: None,
-        };
-        collectors
-            .hosts
-            .collect_from_list(numbers, at, &group.hosts, !hosts.holds)?;
-    }
-    Ok(counted.users)
-}
-
-/// Collects from commands, the first of which is at `place`. Returns of which other parts of their rows the undecided members count.
-fn collect_from_commands<'a, 'b>(
-    collectors: &mut RowCollectors<'a, 'b>,
-    asked: &AnsweredRequest<'a, 'b>,
-    place: RowPlace,
-    who: UsersAndHosts,
-    commands: &RowsOfTable<'a, CommandRow>,
-) -> Result<CountedParts, AllocError> {
-    let mut counted = CountedParts::make_all_or_none(false);
-    let mut head = CommandSettings::make_empty_settings();
-    let mut runas = find_runas_of_commands(asked, None);
-    let tables = commands.tables;
-    for (command, row) in commands.rows.iter().enumerate() {
-        let written = tables.command_of_row(row);
-        if written.runas.is_some() {
-            runas = find_runas_of_commands(asked, written.runas);
-        }
-        head.apply_settings_of_command(&written);
-        let standing = standing_of_row(asked, who, &runas, &head.options);
-        let member = RowsOfTable {
-            tables,
-            rows: std::slice::from_ref(&row.member),
-        };
-        let at = RowPlace { command, ..place };
-        let parts = collect_from_command(collectors, asked, at, &standing, &member)?;
-        collect_from_runas(collectors, asked, place.line, parts, &mut runas)?;
-        counted = counted.join_with(parts);
+pub fn count_lists_of_policy<'a>(
+    alloc: Global,
+    asked: &AskedRequest<'a, '_>,
+) -> Result<CountedLists<'a>, AllocError>
+    requires { IsAskedOfPolicy asked.now }
+    ensures { IfOk result (λ counted. (rows : List PrivilegeRow) → AreRowsPerFlatAtomOfPolicy asked.now.policy.now rows → CoversRows asked.now.policy.now asked.now.request.now asked.now.scopes.now counted rows) }
+{
+    let specs = list_specs_with_lines(alloc, asked.policy)?;
+    let mut counted = CountedLists::new(alloc);
+    for spec in specs.as_slice() {
+        count_lists_of_spec(&mut counted, asked, spec.line, &spec.users, &spec.groups)?;
     }
     Ok(counted)
 }
 
-/// Returns how the lists of a Runas_Spec stand to the request. None was looked at.
-fn find_runas_of_commands<'a>(
-    asked: &AnsweredRequest<'_, '_>,
+/// Counts the lists of the user specification on the line with the number `line`.
+fn count_lists_of_spec<'a>(
+    counted: &mut CountedLists<'a>,
+    asked: &AskedRequest<'a, '_>,
+    line: usize,
+    users: &RowsOfTable<'a, MemberRow>,
+    groups: &RowsOfTable<'a, HostGroupRow>,
+) -> Result<(), AllocError>
+    requires { IsAskedOfPolicy asked.now }
+    ensures { OnOk result ((i : ℕ) (rows : List PrivilegeRow) → AreRowsPerFlatAtomOfSpec asked.now.policy.now i (user_spec_of_users_and_groups (members_of_view users.now) (host_groups_of_view groups.now)) rows
+        → CountsRows asked.now.policy.now asked.now.request.now asked.now.scopes.now counted.old counted.new rows) }
+{
+    let numbers = asked.policy.definition_numbers();
+    let standing = asked.aliases.users.standing_of_list(numbers, users, false);
+    counted.has_users = false;
+    let tables = groups.tables;
+    for row in groups.rows {
+        let group = tables.host_group_of_row(row);
+        count_lists_of_host_group(counted, asked, line, users, standing, &group)?;
+    }
+    Ok(())
+}
+
+/// Counts the lists of a host group, where `users` have the standing `standing`.
+fn count_lists_of_host_group<'a>(
+    counted: &mut CountedLists<'a>,
+    asked: &AskedRequest<'a, '_>,
+    line: usize,
+    users: &RowsOfTable<'a, MemberRow>,
+    standing: PartStanding,
+    group: &HostGroup<'a>,
+) -> Result<(), AllocError>
+    requires asked { IsAskedOfPolicy asked.now }
+    requires users { IsUsersStanding asked.now.policy.now asked.now.request.now users.now standing }
+    requires noted { counted.old.has_users ≡ true → ListHasElement counted.old.users.items (counted_list line users.now standing.holds) }
+    ensures noted { OnOk result (counted.new.has_users ≡ true → ListHasElement counted.new.users.items (counted_list line users.now standing.holds)) }
+    ensures counts { OnOk result ((i j : ℕ) (rows : List PrivilegeRow) → AreRowsPerFlatAtomOfHostGroup asked.now.policy.now i (members_of_view users.now) j (host_group_of_view group.now) rows
+        → CountsRows asked.now.policy.now asked.now.request.now asked.now.scopes.now counted.old counted.new rows) }
+{
+    let may_be_user = standing.may_hold();
+    if !may_be_user {
+        return Ok(());
+    }
+    let numbers = asked.policy.definition_numbers();
+    let hosts = &group.hosts;
+    let hosts_standing = asked.aliases.hosts.standing_of_list(numbers, hosts, false);
+    let may_be_host = hosts_standing.may_hold();
+    if !may_be_host {
+        return Ok(());
+    }
+    let who = UsersAndHosts {
+        line,
+        users: *users,
+        hosts: *hosts,
+        users_standing: standing,
+        hosts_standing,
+    };
+    counted.has_hosts = false;
+    count_lists_of_commands(counted, asked, &who, &group.commands)?;
+    Ok(())
+}
+
+/// Counts the lists of the commands of a host group.
+fn count_lists_of_commands<'a>(
+    counted: &mut CountedLists<'a>,
+    asked: &AskedRequest<'a, '_>,
+    who: &UsersAndHosts<'a>,
+    commands: &RowsOfTable<'a, CommandRow>,
+) -> Result<(), AllocError>
+    requires asked { IsAskedOfPolicy asked.now }
+    requires who { IsWhoStanding asked.now.policy.now asked.now.request.now who.now }
+    requires users { counted.old.has_users ≡ true → ListHasElement counted.old.users.items (counted_list who.now.line who.now.users who.now.users_standing.holds) }
+    requires hosts { counted.old.has_hosts ≡ true → ListHasElement counted.old.hosts.items (counted_list who.now.line who.now.hosts who.now.hosts_standing.holds) }
+    ensures users { OnOk result (counted.new.has_users ≡ true → ListHasElement counted.new.users.items (counted_list who.now.line who.now.users who.now.users_standing.holds)) }
+    ensures counts { OnOk result ((i j : ℕ) (rows : List PrivilegeRow)
+        → IsConcatenationOfParts (AreRowsPerFlatAtomOfCommand asked.now.policy.now i j (members_of_view who.now.users) (members_of_view who.now.hosts)) 0 (commands_with_settings empty_command_settings (commands_of_view commands.now)) rows
+        → CountsRows asked.now.policy.now asked.now.request.now asked.now.scopes.now counted.old counted.new rows) }
+{
+    let mut head = CommandSettings::make_empty_settings();
+    let mut runas = start_runas(counted, asked, None);
+    let tables = commands.tables;
+    for row in commands.rows {
+        let written = tables.command_of_row(row);
+        head.apply_settings_of_command(&written);
+        runas = go_on_to_runas(counted, asked, runas, written.runas);
+        let member = RowsOfTable {
+            tables,
+            rows: std::slice::from_ref(&row.member),
+        };
+        let lists = lists_of_command(asked, who, &head, &runas);
+        count_lists_of_command(counted, asked, &lists, &member)?;
+    }
+    Ok(())
+}
+
+/// Returns how the lists of a Runas_Spec that begins stand to the request.
+fn start_runas<'a>(
+    counted: &mut CountedLists<'a>,
+    asked: &AskedRequest<'a, '_>,
     runas: Option<RunasSpec<'a>>,
-) -> RunasOfCommands<'a> {
+) -> RunasOfCommands<'a>
+    requires { IsAskedOfPolicy asked.now }
+    ensures runas { result.runas ≡ runas.entry }
+    ensures standing { IsRunasStanding asked.now.policy.now asked.now.request.now asked.now.scopes.now result }
+    ensures grown { HaveGrown counted.old counted.new }
+    ensures has_users { counted.new.has_users ≡ counted.old.has_users }
+    ensures users { counted.new.users.items ≡ counted.old.users.items }
+    ensures has_hosts { counted.new.has_hosts ≡ counted.old.has_hosts }
+    ensures hosts { counted.new.hosts.items ≡ counted.old.hosts.items }
+    ensures no_users { counted.new.has_runas_users ≡ false }
+    ensures no_groups { counted.new.has_runas_groups ≡ false }
+{
+    counted.has_runas_users = false;
+    counted.has_runas_groups = false;
     RunasOfCommands {
         runas,
         users: asked.standing_of_runas_users(&runas),
         groups: asked.standing_of_runas_groups(&runas),
-        are_users_done: false,
-        are_groups_done: false,
     }
 }
 
-/// Returns how the parts of the rows of a command with these options stand to the request.
-fn standing_of_row(
-    asked: &AnsweredRequest<'_, '_>,
-    who: UsersAndHosts,
-    runas: &RunasOfCommands<'_>,
-    options: &CommandOptions<'_>,
-) -> RowStanding {
-    RowStanding {
+/// Returns how the lists of the Runas_Spec of a command stand to the request: that which is `written`, or that of the commands before it.
+fn go_on_to_runas<'a>(
+    counted: &mut CountedLists<'a>,
+    asked: &AskedRequest<'a, '_>,
+    runas: RunasOfCommands<'a>,
+    written: Option<RunasSpec<'a>>,
+) -> RunasOfCommands<'a>
+    requires asked { IsAskedOfPolicy asked.now }
+    requires standing { IsRunasStanding asked.now.policy.now asked.now.request.now asked.now.scopes.now runas }
+    ensures runas { result.runas ≡ option_or written.entry runas.entry.runas }
+    ensures standing { IsRunasStanding asked.now.policy.now asked.now.request.now asked.now.scopes.now result }
+    ensures grown { HaveGrown counted.old counted.new }
+    ensures noted { (who : WhoOf) → HasNotedLists counted.old (lists_of who runas.entry true) → HasNotedLists counted.new (lists_of who result true) }
+{
+    if written.is_some() {
+        start_runas(counted, asked, written)
+    } else {
+        runas
+    }
+}
+
+/// Returns the lists that hold of a command with these settings.
+fn lists_of_command<'a>(
+    asked: &AskedRequest<'_, '_>,
+    who: &UsersAndHosts<'a>,
+    head: &CommandSettings<'a>,
+    runas: &RunasOfCommands<'a>,
+) -> CommandLists<'a>
+    ensures lists { result ≡ lists_of who.now runas.now result.standing.is_in_time }
+    ensures time { result.standing.is_in_time ≡ is_in_option_time_bounds asked.now.request.now.moment (option_values_of_view head.now.options) }
+{
+    CommandLists {
+        line: who.line,
         users: who.users,
         hosts: who.hosts,
-        runas_users: runas.users,
-        runas_groups: runas.groups,
-        is_in_time: is_within_time_bounds(asked.request.moment, options),
+        runas: runas.runas,
+        standing: RowStanding {
+            users: who.users_standing,
+            hosts: who.hosts_standing,
+            runas_users: runas.users,
+            runas_groups: runas.groups,
+            is_in_time: is_within_time_bounds(asked.request.moment, &head.options),
+        },
     }
 }
 
-/// Collects from the list `member` with the one command at `place`. Returns of which other parts of its rows the undecided members
-/// count.
-fn collect_from_command<'a, 'b>(
-    collectors: &mut RowCollectors<'a, 'b>,
-    asked: &AnsweredRequest<'a, 'b>,
-    place: RowPlace,
-    standing: &RowStanding,
+/// Returns whether a command decides, where its list has the sway `sway`, and no other behind it does.
+fn does_command_decide(standing: &RowStanding, sway: &ListSway) -> bool
+    ensures { result ≡ (does_row_hold standing.now && is_some sway.now.hit) }
+{
+    standing.holds() && sway.hit.is_some()
+}
+
+/// Counts the lists of a command, which is `member` alone.
+fn count_lists_of_command<'a>(
+    counted: &mut CountedLists<'a>,
+    asked: &AskedRequest<'a, '_>,
+    lists: &CommandLists<'a>,
     member: &RowsOfTable<'a, MemberRow>,
-) -> Result<CountedParts, AllocError> {
-    let numbers = asked.policy.definition_numbers();
-    let at = ListPlace {
-        line: place.line,
-        alias: None,
-    };
-    if asked.is_deciding(place) {
-        let which = CommandsToCollect::BehindLastMatch;
-        collectors
-            .commands
-            .collect_from_list(numbers, at, member, which)?;
-        return Ok(CountedParts::make_all_or_none(true));
+) -> Result<(), AllocError>
+    requires asked { IsAskedOfPolicy asked.now }
+    requires noted { HasNotedLists counted.old lists.now }
+    ensures noted { OnOk result (HasNotedLists counted.new lists.now) }
+    ensures counts { OnOk result ((head : HeadOf) → AreListsOfCommand asked.now.policy.now asked.now.request.now asked.now.scopes.now head lists.now
+        → (m : MemberOf) → members_of_view member.now ≡ m ∷ [] → (i j k : ℕ) (rows : List PrivilegeRow)
+        → AreRowsPerFlatAtomOfCommand asked.now.policy.now i j (members_of_view lists.now.users) (members_of_view lists.now.hosts) k (head, m) rows
+        → CountsRows asked.now.policy.now asked.now.request.now asked.now.scopes.now counted.old counted.new rows) }
+{
+    let may_hold = lists.standing.may_hold();
+    if !may_hold {
+        return Ok(());
     }
-    if asked.is_passed(place)
-        || !standing.may_hold()
-        || !asked
-            .aliases
-            .commands
-            .reach_of_list(numbers, member)
-            .may_match
-    {
-        return Ok(CountedParts::make_all_or_none(false));
-    }
-    let which = CommandsToCollect::All;
-    collectors
-        .commands
-        .collect_from_list(numbers, at, member, which)?;
-    Ok(standing.parts_without_hold())
-}
-
-/// Collects from those lists of a Runas_Spec on the line with the number `line` that are among `parts` and were not looked at.
-fn collect_from_runas<'a, 'b>(
-    collectors: &mut RowCollectors<'a, 'b>,
-    asked: &AnsweredRequest<'a, 'b>,
-    line: usize,
-    parts: CountedParts,
-    runas: &mut RunasOfCommands<'a>,
-) -> Result<(), AllocError> {
     let numbers = asked.policy.definition_numbers();
-    let place = ListPlace { line, alias: None };
-    let Some(spec) = runas.runas else {
-        collectors.counts_default = collectors.counts_default || parts.runas_users;
+    let Some(sway) = asked.aliases.commands.sway_of_list(numbers, member) else {
         return Ok(());
     };
-    if parts.runas_users && !runas.are_users_done {
-        runas.are_users_done = true;
-        let wanted = !runas.users.holds;
-        collectors
-            .runas_users
-            .collect_from_list(numbers, place, &spec.users, wanted)?;
+    let decides = does_command_decide(&lists.standing, &sway);
+    if decides {
+        counted.restart_at_command(lists, member)?;
+        return Ok(());
     }
-    if parts.runas_groups && !runas.are_groups_done {
-        runas.are_groups_done = true;
-        let wanted = !runas.groups.holds;
-        collectors
-            .runas_groups
-            .collect_from_list(numbers, place, &spec.groups, wanted)?;
+    let may_match = sway.may_match();
+    if !may_match {
+        return Ok(());
     }
+    counted.add_lists_of_command(lists, member)?;
     Ok(())
 }

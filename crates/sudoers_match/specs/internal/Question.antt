@@ -1,5 +1,6 @@
 -- A device of the proof, which no public contract cites: what is known of the aliases for one request.
 use Rattle.std.specs.Prelude.{◌≡◌, ℕ, Bool, true, false, List, ◌++◌, drop, Option, Some, None}
+use Rattle.std.specs.List.{AllByRecursion}
 use Rattle.sudoers_grammar.specs.declared.node.Kind.TheVariants.{User, Runas, Host, Cmnd}
 use Rattle.sudoers_grammar.specs.Node.{RunasSpec, Member, CmdSpec, HostGroup}
 use Rattle.sudoers_line_rows.specs.declared.view.Member.{Member as MemberHeld}
@@ -7,7 +8,7 @@ use Rattle.sudoers_tree.specs.Line.{Line}
 use Rattle.sudoers_match_member.specs.declared.people_and_commands.Group.{Group}
 use Rattle.sudoers_match_member.specs.declared.people_and_commands.Person.{Person}
 use Rattle.sudoers_match_member.specs.declared.people_and_commands.Who.{Who}
-use Rattle.sudoers_match_member.specs.Hits.{is_user_atom_match, is_runas_group_atom_match, is_host_atom_match, is_command_atom_match}
+use Rattle.sudoers_match_member.specs.Hits.{is_user_atom_match, is_runas_group_atom_match, is_host_atom_match}
 use Rattle.sudoers_match_list.specs.declared.verdict.MemberHit.{MemberHit}
 use Rattle.sudoers_match_list.specs.declared.alias_verdicts.AliasVerdictCache.{AliasVerdictCache}
 use Rattle.sudoers_match_list.specs.Search.{IsValidVerdictCache}
@@ -17,7 +18,10 @@ use Rattle.sudoers_match.specs.declared.answer_of_row.Answer.{Answer as AnswerHe
 use Rattle.sudoers_match.specs.declared.answer_of_row.AnswerWithMemberAndSettings.{AnswerWithMemberAndSettings}
 use Rattle.sudoers_match.specs.declared.answer_of_row.SpecGroupCommandNumbers.{SpecGroupCommandNumbers}
 use Rattle.sudoers_match_member.specs.declared.request.Request.{Request}
-use Rattle.sudoers_match.specs.Answer.{Answer, IsAnswerOfRows, command_with_joined_arguments_of_request, tags_with_setenv_by_all}
+use Rattle.sudoers_match.specs.Answer.{Answer, IsAnswerOfRowsByTest, RowFitsRequestByTest, tags_with_setenv_by_all}
+use Rattle.sudoers_match.specs.Spellings.{is_spelled_command_match}
+use Rattle.sudoers_match.specs.declared.request_verdicts.RequestContext.{RequestContext}
+use Rattle.sudoers_grammar.specs.declared.node.Atom.{Atom}
 use Rattle.sudoers_match.specs.Default.{IsRunasDefault}
 use Rattle.sudoers_match.specs.Found.{HasMemberAndSettingsFromHostGroup, HasMemberAndSettingsFromHostGroups}
 use Rattle.sudoers_match.specs.declared.command_settings.CommandSettings.{CommandSettings as HeadHeld}
@@ -35,14 +39,27 @@ abbrev pub IsValidGroupVerdictCache : List Line → Option Group → AliasVerdic
 IsValidGroupVerdictCache lines None verdicts = Unit {0}
 IsValidGroupVerdictCache lines (Some g) verdicts = IsValidVerdictCache Runas lines (is_runas_group_atom_match g) verdicts
 
-pub record IsValidRequestCache (lines : List Line) (r : Request) (q : RequestVerdictCache) : Type 0 where
+-- Its verdicts on commands are those by this test.
+pub record IsValidRequestCache (lines : List Line) (test : Atom → Bool) (r : Request) (q : RequestVerdictCache) : Type 0 where
   pub default : IsRunasDefault lines r.who q.default.now
   pub users : IsValidVerdictCache User lines (is_user_atom_match r.who.user) q.users
   pub hosts : IsValidVerdictCache Host lines (is_host_atom_match r.who) q.hosts
   pub targets : IsValidVerdictCache Runas lines (is_user_atom_match r.target) q.targets
   pub groups : IsValidGroupVerdictCache lines r.target_group q.groups
-  pub commands : IsValidVerdictCache Cmnd lines (is_command_atom_match (command_with_joined_arguments_of_request r)) q.commands
+  pub commands : IsValidVerdictCache Cmnd lines test q.commands
   pub own : q.own ≡ is_group_absent_or_among r.target.groups r.target_group
+
+-- the test of the command of a request
+abbrev pub command_test_of_context : RequestContext → Atom → Bool
+command_test_of_context asked = is_spelled_command_match asked.command.now
+
+-- What is known is right of the request that is asked.
+abbrev pub IsValidCacheForContext : RequestContext → RequestVerdictCache → Type 0
+IsValidCacheForContext asked = IsValidRequestCache asked.policy.now (command_test_of_context asked) asked.request.now
+
+-- Of these rows the last that fits the request that is asked gives the answer.
+abbrev pub IsAnswerOfRowsForContext : RequestContext → List PrivilegeRow → Option Answer → Type 0
+IsAnswerOfRowsForContext asked = IsAnswerOfRowsByTest asked.policy.now (command_test_of_context asked) asked.request.now
 
 -- The group part allows, or it does not; the same of the whole.
 abbrev pub DecidesWhetherRunasGroupsAllow : List Line → Person → Option Group → List Member → Bool → Type 0
@@ -92,15 +109,19 @@ pub record HasMemberAndSettingsFromSpecAtNumber (number i : ℕ) (groups : List 
 
 -- The rows of all begin with those of the things before this one, of which the last that fits gives the answer; those of the things
 -- that are left follow.
-pub record IsAnswerOfRowsSoFar {X : Type 0} (Part : ℕ → X → List PrivilegeRow → Type 0) (lines : List Line) (r : Request) (all : List X) (i : ℕ) (left : List X) (latest : Option Answer) : Type 0 where
+pub record IsAnswerOfRowsSoFar {X : Type 0} (Part : ℕ → X → List PrivilegeRow → Type 0) (lines : List Line) (test : Atom → Bool) (r : Request) (all : List X) (i : ℕ) (left : List X) (latest : Option Answer) : Type 0 where
   pub holds : (rows : List PrivilegeRow) → IsConcatenationOfParts Part 0 all rows
-      → (before : List PrivilegeRow) × (rest : List PrivilegeRow) × (rows ≡ before ++ rest) × IsAnswerOfRows lines r before latest × IsConcatenationOfParts Part i left rest
+      → (before : List PrivilegeRow) × (rest : List PrivilegeRow) × (rows ≡ before ++ rest) × IsAnswerOfRowsByTest lines test r before latest × IsConcatenationOfParts Part i left rest
+
+-- Of the rows of the things from this number on none fits.
+pub record HasNoFittingRowBehind {X : Type 0} (Part : ℕ → X → List PrivilegeRow → Type 0) (lines : List Line) (test : Atom → Bool) (r : Request) (all : List X) (i : ℕ) : Type 0 where
+  pub none : (left : List X) (rows : List PrivilegeRow) → left ≡ drop i all → IsConcatenationOfParts Part i left rows → AllByRecursion (λ row. RowFitsRequestByTest lines test r row → ⊥) rows
 
 -- The same of the commands of a list, with what those before this one leave.
-pub record IsAnswerOfCommandsSoFar (lines : List Line) (r : Request) (spec host_group : ℕ) (hosts : List Member) (cs : List CmdSpec) (i : ℕ) (held : HeadHeld) (latest : Option Answer) : Type 0 where
+pub record IsAnswerOfCommandsSoFar (lines : List Line) (test : Atom → Bool) (r : Request) (spec host_group : ℕ) (hosts : List Member) (cs : List CmdSpec) (i : ℕ) (held : HeadHeld) (latest : Option Answer) : Type 0 where
   pub head : AccumulatedCommandSettings
   pub is_head : HoldsCommandSettings held head
   pub left : drop i (commands_with_settings empty_command_settings cs) ≡ commands_with_settings head (drop i cs)
   pub straight : RunasSpecLeadsToNoCycle lines head.runas
   pub so_far : (users : List Member) → ListAllows User lines (is_user_atom_match r.who.user) users
-      → IsAnswerOfRowsSoFar (AreRowsPerFlatAtomOfCommand lines spec host_group users hosts) lines r (commands_with_settings empty_command_settings cs) i (commands_with_settings head (drop i cs)) latest
+      → IsAnswerOfRowsSoFar (AreRowsPerFlatAtomOfCommand lines spec host_group users hosts) lines test r (commands_with_settings empty_command_settings cs) i (commands_with_settings head (drop i cs)) latest

@@ -1,5 +1,11 @@
-use Rattle.std.proofs.Common.{◌≡◌, ◌⊎◌, IfErr, Err, rules, subst, sym}
+use Rattle.std.proofs.Common.{◌≡◌, ◌⊎◌, IfErr, Err, option_map, rules, subst, sym}
+use Rattle.sudoers_match_member.specs.declared.request.Request.{Request}
 use Rattle.sudoers_match_list.specs.declared.verdict.AskFault.{AskFault}
+use Rattle.sudoers_match.specs.declared.spellings.CommandSpellings.{CommandSpellings}
+use Rattle.sudoers_match.specs.Answer.{IsAnswerByCommandTest}
+use Rattle.sudoers_match.specs.Found.{answer_without_member_and_settings}
+use Rattle.sudoers_match.specs.ForCommand.{AreSpecsForCommand}
+use Rattle.sudoers_match.specs.Spellings.{is_spelled_command_match}
 use Rattle.sudoers_ask.specs.declared.question.QuestionFault.{QuestionFault}
 use Rattle.sudoers_ask.specs.declared.question.QuestionFault.TheVariants.{Ask}
 use Rattle.sudoers_ask.specs.Outcome.{IsMemoryFault, IsUserOutcome}
@@ -9,8 +15,10 @@ use Rattle.sudoers_ask.proofs.user_answer.ask_user.Goals as goal
 
 pub find_answer_in_specs-requires-clause-specs : goal.find_answer_in_specs-requires-clause-specs
 find_answer_in_specs-requires-clause-specs c =
-    c.requires.specs c.in_ok-asked.asked.request
-    (user_request_is_for_question c.args.policy.now c.args.people.now c.args.question.now c.args.user.now c.in_ok-asked.asked.request c.in_ok-asked.asked.default.now c.in_ok-asked.ensures.request)
+    let r : Request = c.in_ok-asked.asked.request in
+    subst (λ (command : CommandSpellings). AreSpecsForCommand c.args.policy.now r.who (is_spelled_command_match command) c.args.specs.now) (sym c.requires.command)
+    (c.requires.specs r
+    (user_request_is_for_question c.args.policy.now c.args.people.now c.args.question.now c.args.user.now c.in_ok-asked.asked.request c.in_ok-asked.asked.default.now c.in_ok-asked.ensures.request))
 
 pub returns-in_err-found-clause-fault : goal.returns-in_err-found-clause-fault
 returns-in_err-found-clause-fault c =
@@ -19,3 +27,9 @@ returns-in_err-found-clause-fault c =
     subst (λ r. IfErr r (λ (f : QuestionFault). IsMemoryFault f ⊎ IsUserOutcome c.args.policy.now c.args.people.now c.args.question.now c.args.user.now (Err f))) (sym same)
     (answer_refused c.args.policy.now c.args.people.now c.args.question.now c.args.user.now c.in_ok-asked.asked.request c.in_ok-asked.asked.default.now c.in_ok-asked.ensures.request
     fault c.in_err-found.ensures.fault)
+
+pub returns-clause-answer : goal.returns-clause-answer
+returns-clause-answer c =
+    let r : Request = c.in_ok-asked.asked.request in
+    subst (λ (command : CommandSpellings). IsAnswerByCommandTest c.args.policy.now (is_spelled_command_match command) r (option_map answer_without_member_and_settings c.in_ok-found.found))
+    c.requires.command c.in_ok-found.ensures.answer

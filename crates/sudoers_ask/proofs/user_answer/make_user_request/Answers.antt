@@ -1,4 +1,4 @@
-use Rattle.std.proofs.Common.{◌≡◌, ◌⊎◌, inl, inr, IfErr, List, Ok, Err, ap, refl, rules, subst, sym, ◌∙◌}
+use Rattle.std.proofs.Common.{◌≡◌, ◌⊎◌, inl, IfErr, Ok, Err, ap, refl, rules, subst, sym, ◌∙◌}
 use Rattle.sudoers_match_member.specs.declared.people_and_commands.Who.{Who as WhoOf}
 use Rattle.sudoers_match_list.specs.declared.verdict.AskFault.TheVariants.{NoMemory}
 use Rattle.sudoers_match.specs.Default.{IsRunasDefault}

@@ -1,16 +1,21 @@
 use Rattle.std.proofs.Common.{◌≡◌, ◌⊎◌, ◌++◌, ◌∷◌, [], ◌||◌, ◌+◌, ◌<◌, inl, inr, IfErr, List, Ok, Err, Some, ap, drop, get_or, length, option_map, rules, slice_get, subst, sym, take, ◌∙◌}
 use Rattle.std.proofs.lemmas.List.{take_more}
 use Rattle.std.proofs.lemmas.Option.{slice_get-get_or}
+use Rattle.std.specs.Result.{IsErrAnd}
 use Rattle.sudoers_tree.specs.Line.{Line}
 use Rattle.sudoers_check.specs.Chains.{HasCyclicAliasReachedFromSpecOrDefaults}
-use Rattle.sudoers_match_list.specs.declared.verdict.AskFault.TheVariants.{Cycle}
+use Rattle.sudoers_match_list.specs.declared.verdict.AskFault.TheVariants.{Cycle, NoMemory}
 use Rattle.sudoers_match.specs.declared.specs_for_command.SpecOnLine.{SpecOnLine}
+use Rattle.std.specs.Prelude.{MatchBool}
+use Rattle.sudoers_match.specs.declared.spellings.CommandSpellings.{CommandSpellings}
+use Rattle.sudoers_match.specs.Spellings.{is_spelled_command_match}
 use Rattle.sudoers_match.specs.Found.{answer_without_member_and_settings}
 use Rattle.sudoers_list_people.specs.declared.account_and_group_row_types.PasswdAccount.{PasswdAccount}
 use Rattle.sudoers_ask.specs.declared.question.QuestionFault.{QuestionFault}
 use Rattle.sudoers_ask.specs.declared.question.QuestionFault.TheVariants.{Ask}
 use Rattle.sudoers_ask.specs.Outcome.{AreSpecsForQuestion, IsMemoryFault, IsUserOutcome}
-use Rattle.sudoers_ask.specs.Users.{ArePartsOfUsers, IsFaultOfFirstUser, IsPartOfUser, UserPart}
+use Rattle.sudoers_ask.specs.Users.{ArePartsOfUsers, IsFaultOfFirstUser, IsPartOfUser, IsReasonOfUserByTest, UserPart, is_user_shown}
+use Rattle.sudoers_ask.proofs.Outcomes.{memory_refused}
 use Rattle.sudoers_ask.proofs.Parts.{answered_request_is_outcome, list_parts_at, one_more_allowed, one_more_related, one_more_text}
 use Rattle.sudoers_ask.proofs.users.list_users_who_may_run.Goals as goal
 
@@ -73,7 +78,7 @@ loop-account-preserved c =
       told = record { request = a.request; default = a.default.now; answer = answer };
       asked = subst (λ (ls : List Line). IsUserOutcome ls people q name (Ok (record { request = a.request; default = a.default.now; answer = answer }))) walked
           (answered_request_is_outcome c.in_ok-acyclic.acyclic people q name a.request a.default.now answer c.in_ok-answer.ensures.request c.in_ok-answer.ensures.short c.in_ok-answer.ensures.answer);
-      text = wrote.2;
+      text = subst (λ (command : CommandSpellings). MatchBool (is_user_shown denied answer) (IsReasonOfUserByTest policy (is_spelled_command_match command) name a.request answer wrote.0) (wrote.0 ≡ [])) c.in_ok-command.ensures wrote.2;
       allowed = c.is_allowed-is_any_allowed.ensures;
     }) in (
       so_far.0 ++ part ∷ [],
@@ -82,3 +87,13 @@ loop-account-preserved c =
       wrote.1 ∙ ap (λ text. text ++ wrote.0) so_far.2 ∙ sym (one_more_text so_far.0 part),
       ap (λ b. b || part.allowed) so_far.3 ∙ sym (one_more_allowed so_far.0 part),
     )
+
+pub returns-in_err-append_user_part-clause-fault : goal.returns-in_err-append_user_part-clause-fault
+returns-in_err-append_user_part-clause-fault c =
+    let memory : IsErrAnd c.from_residual-in_err-append_user_part.result (λ (fault : QuestionFault). fault ≡ Ask NoMemory) = c.from_residual-in_err-append_user_part.ensures.1 in
+    memory_refused _ c.from_residual-in_err-append_user_part.result memory (λ fault is. inl is)
+
+pub returns-in_err-append_undecided_lines_of_user-clause-fault : goal.returns-in_err-append_undecided_lines_of_user-clause-fault
+returns-in_err-append_undecided_lines_of_user-clause-fault c =
+    let memory : IsErrAnd c.from_residual-in_err-append_undecided_lines_of_user.result (λ (fault : QuestionFault). fault ≡ Ask NoMemory) = c.from_residual-in_err-append_undecided_lines_of_user.ensures.1 in
+    memory_refused _ c.from_residual-in_err-append_undecided_lines_of_user.result memory (λ fault is. inl is)

@@ -17,3 +17,8 @@ returns-clause-text c =
     subst (λ (a : Option Answer). IsReasonText policy r a c.in_ok-text.text.items)
     (answer_to_request_is_unique one_flat policy.walk.lines r found (option_map answer_of_view c.args.answer) (subst (λ (ls : List Line). IsAnswerToRequest ls r found) same c.in_ok-found.ensures.answer) c.requires)
     c.in_ok-text.ensures
+
+pub explain_found_answer-requires-clause-answer : goal.explain_found_answer-requires-clause-answer
+explain_found_answer-requires-clause-answer c =
+    let found = option_map answer_without_member_and_settings c.in_ok-found.found in
+    subst (λ (ls : List Line). IsAnswerToRequest ls c.args.request.now found) (c.in_ok-acyclic.ensures.walk ∙ c.walk.ensures) c.in_ok-found.ensures.answer

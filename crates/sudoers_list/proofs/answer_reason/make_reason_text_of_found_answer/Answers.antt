@@ -1,8 +1,8 @@
 use Rattle.std.proofs.Common.{◌≡◌, ℕ, List, ◌++◌, Option, Some, sym, ap, subst, ◌∙◌, append-nil, Vec, Global}
 use Rattle.std.specs.Option.{option_map}
 use Rattle.sudoers_tree.specs.Line.{Line}
-use Rattle.sudoers_match_member.specs.Hits.{is_command_atom_match}
-use Rattle.sudoers_match.specs.Answer.{Answer, command_with_joined_arguments_of_request}
+use Rattle.sudoers_match.specs.Spellings.{is_spelled_command_match}
+use Rattle.sudoers_match.specs.Answer.{Answer}
 use Rattle.sudoers_match.specs.Found.{answer_without_member_and_settings}
 use Rattle.sudoers_list.specs.declared.deciding_member.DecidingAliasMember.{DecidingAliasMember as InnerHeld}
 use Rattle.sudoers_list.specs.Inner.{InnerAliasMember, IsDecidingAliasMember, MemberMatchesCommand}
@@ -18,8 +18,8 @@ find_deciding_alias_member-requires c =
     let a : Answer = answer_without_member_and_settings c.args.found.now in
     let held = c.deciding_rule_of_found_answer-rule.ensures.rule in
     let rule : DecidingRuleOnLine = deciding_rule_of_held_and_settings c.deciding_rule_of_found_answer-rule.result held.0 in
-    subst (λ (ls : List Line). MemberMatchesCommand ls (is_command_atom_match (command_with_joined_arguments_of_request c.args.request.now)) rule.command.member) (sym c.requires.same)
-    (deciding_rule_member_matches_command c.args.policy.now.walk.lines c.args.request.now a rule c.requires.answer held.2)
+    subst (λ (ls : List Line). MemberMatchesCommand ls (is_spelled_command_match c.args.command.now) rule.command.member) (sym c.requires.same)
+    (deciding_rule_member_matches_command c.args.policy.now.walk.lines (is_spelled_command_match c.args.command.now) c.args.request.now a rule c.requires.answer held.2)
 
 pub returns : goal.returns
 returns c =
@@ -32,8 +32,8 @@ returns c =
     let rule : DecidingRuleOnLine = deciding_rule_of_held_and_settings c.deciding_rule_of_found_answer-rule.result held.0 in
     let first : c.in_ok-text.text.items ≡ place_verdict_and_command_text policy user d a.allow rule = c.in_ok-text.ensures held.0 held.1 in
     let inner : Option InnerAliasMember = option_map alias_member_of_view c.in_ok-inner.field-0 in
-    deciding_rule_text_is_reason policy r user d c.match-branch-3.text.items a rule inner c.requires.user held.2
-    (subst (λ (ls : List Line). IsDecidingAliasMember ls (is_command_atom_match (command_with_joined_arguments_of_request r)) rule.command.member inner) c.requires.same c.in_ok-inner.ensures)
+    deciding_rule_text_is_reason policy (is_spelled_command_match c.args.command.now) r user d c.match-branch-3.text.items a rule inner c.requires.user held.2
+    (subst (λ (ls : List Line). IsDecidingAliasMember ls (is_spelled_command_match c.args.command.now) rule.command.member inner) c.requires.same c.in_ok-inner.ensures)
     (elim c.match-branch-3.branch [
       | in-Some+in_ok-append_alias_member_reason w ↦ ap (λ (v : Vec ℕ Global). v.items) w.text-is
           ∙ w.in_ok-append_alias_member_reason.ensures

@@ -6,7 +6,7 @@ use Rattle.sudoers_grammar.specs.Node.{Member}
 use Rattle.sudoers_line_rows.specs.View.{member_of_view, members_of_view}
 use Rattle.sudoers_tree.specs.Definition.{definitions_of_lines}
 use Rattle.sudoers_check.specs.Chain.{here, onward}
-use Rattle.sudoers_match_member.specs.Hits.{is_command_atom_match}
+use Rattle.sudoers_match.specs.Spellings.{is_spelled_command_match}
 use Rattle.sudoers_match_list.specs.Flat.{alias_members_of_atom}
 use Rattle.sudoers_match.specs.Last.{IsLastItemWith}
 use Rattle.sudoers_list.specs.internal.Going.{IsAliasGoneAfterExpansions}
@@ -30,7 +30,7 @@ loop-times-init c =
 pub unreachable-requires : goal.unreachable-requires
 unreachable-requires c =
     let lines = c.args.policy.now in
-    let test = is_command_atom_match c.args.command.now in
+    let test = is_spelled_command_match c.args.command.now in
     let ms : List Member = members_of_view c.loop-times.alias.members in
     some_last lines test ms c.loop-times.invariant.says
     (subst (λ o. IsLastItemWith (MemberMatchesCommand lines test) ms (option_map member_of_view o)) c.in_default.is c.in_ok-member.ensures.last)
@@ -38,7 +38,7 @@ unreachable-requires c =
 pub loop-times-preserved : goal.loop-times-preserved
 loop-times-preserved c =
     let lines = c.args.policy.now in
-    let test = is_command_atom_match c.args.command.now in
+    let test = is_spelled_command_match c.args.command.now in
     let inv = c.loop-times.invariant in
     let times = c.loop-times.times in
     let name = c.loop-times.alias.name.now in

@@ -4,7 +4,7 @@ use Rattle.std.proofs.lemmas.Bool.{false≢true}
 use Rattle.sudoers_grammar.specs.Node.{Member}
 use Rattle.sudoers_line_rows.specs.Tables.{member_in_tables}
 use Rattle.sudoers_line_rows.specs.View.{member_of_view}
-use Rattle.sudoers_match_member.specs.Hits.{is_command_atom_match}
+use Rattle.sudoers_match.specs.Spellings.{is_spelled_command_match}
 use Rattle.sudoers_match.specs.Last.{IsLastItemWith}
 use Rattle.sudoers_list.specs.internal.Going.{IsFlattenableCommandList}
 use Rattle.sudoers_list.specs.Inner.{MemberMatchesCommand}
@@ -25,7 +25,7 @@ is_member_matching_command-requires-clause-flat c =
 pub loop-row-preserved : goal.loop-row-preserved
 loop-row-preserved c =
     let lines = c.args.policy.now in
-    let P = MemberMatchesCommand lines (is_command_atom_match c.args.command.now) in
+    let P = MemberMatchesCommand lines (is_spelled_command_match c.args.command.now) in
     let f = member_in_tables c.args.members.now.tables.now in
     let rows = c.args.members.now.rows.now in
     let i = c.loop-row.row-index in

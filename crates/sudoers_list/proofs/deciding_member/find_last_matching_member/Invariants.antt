@@ -3,7 +3,7 @@ use Rattle.std.specs.Option.{option_map}
 use Rattle.sudoers_grammar.specs.declared.node.Kind.TheVariants.{Cmnd}
 use Rattle.sudoers_line_rows.specs.Tables.{member_in_tables}
 use Rattle.sudoers_line_rows.specs.View.{member_of_view}
-use Rattle.sudoers_match_member.specs.Hits.{is_command_atom_match}
+use Rattle.sudoers_match.specs.Spellings.{is_spelled_command_match}
 use Rattle.sudoers_match_list.specs.Search.{IsValidVerdictCache}
 use Rattle.sudoers_match.specs.Last.{IsLastItemWith}
 use Rattle.sudoers_list.specs.Inner.{MemberMatchesCommand}
@@ -11,5 +11,5 @@ use Rattle.sudoers_list.proofs.deciding_member.find_last_matching_member.Given a
 
 abbrev pub invariant-loop-row : goal.invariant-loop-row
 invariant-loop-row l =
-    IsValidVerdictCache Cmnd l.policy (is_command_atom_match l.command) l.verdicts
-    × IsLastItemWith (MemberMatchesCommand l.policy (is_command_atom_match l.command)) (map (member_in_tables l.tables) (take l.row-index l.row-items)) (option_map member_of_view l.last)
+    IsValidVerdictCache Cmnd l.policy (is_spelled_command_match l.command) l.verdicts
+    × IsLastItemWith (MemberMatchesCommand l.policy (is_spelled_command_match l.command)) (map (member_in_tables l.tables) (take l.row-index l.row-items)) (option_map member_of_view l.last)

@@ -1,4 +1,4 @@
-use Rattle.sudoers_match.proofs.Common.{Line, [], ap, arith, get_or, length-map, line_of_row, map, runas_defaults_in_node, runas_defaults_of_lines, sym, take, take_all, ◌++◌, ◌+◌, ◌∙◌, ◌≡◌}
+use Rattle.sudoers_match.proofs.Common.{[], ap, line_of_row, map, runas_defaults_in_node, runas_defaults_of_lines, sym, take, ◌++◌, ◌∙◌, ◌≡◌}
 use Rattle.sudoers_match.proofs.Passed.{line, line_at}
 use Rattle.sudoers_match.proofs.Settings.{defaults_of_one_more_line}
 use Rattle.sudoers_match.proofs.runas_default_user.has_runas_default.Goals as goal

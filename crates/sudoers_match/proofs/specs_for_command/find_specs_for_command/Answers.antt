@@ -1,17 +1,18 @@
-use Rattle.sudoers_match.proofs.Common.{AllByRecursion, Cmnd, Host, List, Some, ap, get_or, is_command_atom_match, is_host_atom_match, map, refl, slice_get, subst, sym, ◌∙◌, ◌∷◌, [], ◌≡◌}
+use Rattle.sudoers_match.proofs.Common.{AllByRecursion, Cmnd, Host, Some, ap, is_host_atom_match, map, slice_get, subst, sym, ◌∙◌, ◌∷◌, [], ◌≡◌}
 use Rattle.std.proofs.lemmas.Option.{slice_get-get_or}
 use Rattle.sudoers_match.specs.declared.specs_for_command.SpecOnLine.{SpecOnLine}
 use Rattle.sudoers_match.specs.ForCommand.{MattersIfForCommand, numbered_spec_of_view}
 use Rattle.sudoers_match.proofs.ForCommands.{groups_of_numbered_spec_straight, is_numbered, mapped_one_more}
 use Rattle.sudoers_match.proofs.Lasts.{all_append}
+use Rattle.sudoers_match.specs.Spellings.{is_spelled_command_match}
 use Rattle.sudoers_match.proofs.specs_for_command.find_specs_for_command.Goals as goal
 
 pub loop-spec-init : goal.loop-spec-init
 loop-spec-init c = record {
   hosts = c.in_ok-hosts.ensures Host (is_host_atom_match c.args.who.now);
-  commands = c.in_ok-commands.ensures Cmnd (is_command_atom_match c.args.command.now);
+  commands = c.in_ok-commands.ensures Cmnd (is_spelled_command_match c.args.command.now);
   all = ap (map numbered_spec_of_view) c.new-specs.ensures.items;
-  matter = subst (AllByRecursion (MattersIfForCommand c.args.policy.now c.args.who.now c.args.command.now)) (sym c.new-specs.ensures.items) tt;
+  matter = subst (AllByRecursion (MattersIfForCommand c.args.policy.now c.args.who.now (is_spelled_command_match c.args.command.now))) (sym c.new-specs.ensures.items) tt;
 }
 
 pub has_group_for_command-requires-clause-straight : goal.has_group_for_command-requires-clause-straight
@@ -29,7 +30,7 @@ loop-spec-preserved c =
     let item : SpecOnLine = c.spec-item.result in
     let i = c.loop-spec.spec-index in
     let x : SpecOnLine = record { line = item.line; users = item.users; groups = item.groups; matters = c.in_ok-matters.matters } in
-    let P = MattersIfForCommand c.args.policy.now c.args.who.now c.args.command.now in
+    let P = MattersIfForCommand c.args.policy.now c.args.who.now (is_spelled_command_match c.args.command.now) in
     let so_far = c.loop-spec.invariant in
     record {
       hosts = c.in_ok-matters.ensures.hosts;

@@ -24,6 +24,11 @@ returns-in_err-found-clause-answered c =
     let same : c.from_residual.result ≡ Err (layer_fault_of_ask fault) = search rules in
     subst (IsAnswerOutcomeOrNoMemory w p r) (sym same) (refused_answer_is_answer_outcome w p r (straight_of c.args.acyclic.now p.walk.lines c.requires.walk c.is_acyclic.ensures.straight) fault c.in_err-found.ensures.fault)
 
+pub explain_found_answer-requires-clause-answer : goal.explain_found_answer-requires-clause-answer
+explain_found_answer-requires-clause-answer c =
+    let answer = option_map answer_without_member_and_settings c.in_ok-found.found in
+    subst (λ (ls : List Line). IsAnswerToRequest ls c.args.request.now answer) c.requires.walk c.in_ok-found.ensures.answer
+
 pub returns-then-words-clause-answered : goal.returns-then-words-clause-answered
 returns-then-words-clause-answered c =
     let w = c.args.words.now in

@@ -1,9 +1,9 @@
-use Rattle.sudoers_match.proofs.Common.{Cmnd, Group, Host, IsValidGroupVerdictCache, None, Option, Runas, Some, User, ap, command_with_joined_arguments_of_request, is_command_atom_match, is_group_absent_or_among, is_host_atom_match}
+use Rattle.sudoers_match.proofs.Common.{Cmnd, Group, Host, IsValidGroupVerdictCache, None, Option, Runas, Some, User, ap, is_group_absent_or_among, is_host_atom_match}
 use Rattle.sudoers_match.proofs.Common.{is_runas_group_atom_match, is_user_atom_match, ◌∙◌}
 use Rattle.sudoers_match.proofs.request_verdicts.RequestVerdictCache.new.Goals as goal
 
 pub returns : goal.returns
-returns c =
+returns c test =
     let r = c.args.request.now in
     record {
       default = c.requires;
@@ -11,7 +11,7 @@ returns c =
       hosts = c.in_ok-hosts.ensures Host (is_host_atom_match r.who);
       targets = c.in_ok-targets.ensures Runas (is_user_atom_match r.target);
       groups = by r.target_group;
-      commands = c.in_ok-commands.ensures Cmnd (is_command_atom_match (command_with_joined_arguments_of_request r));
+      commands = c.in_ok-commands.ensures Cmnd test;
       own = c.is_requested_group_absent_or_among-own.ensures ∙ ap (λ gs. is_group_absent_or_among gs r.target_group) c.as_slice.ensures;
     }
   where
