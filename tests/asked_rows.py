@@ -320,6 +320,7 @@ GROWTHS = (
     (f"who --explain {M} --denied -g web /bin/a", GROWN),
     (f"who --explain {M} a", GROWN),
     (f"what --explain {M} -e bob", GROWN),
+    (f"why --explain {M} --same /x=/bin -u root bob /x/c", GROWN),
     (f"why --explain {M} bob /bin/a", GROWN),
     (f"why --explain {M} eve /bin/a", GROWN),
     (f"why --explain --same /bin=/usr/bin --usr-merge {M} bob /usr/bin/b", {"main": "bob, +x i = /bin/b\nbob ALL = !/usr/bin/b x, (ann) /bin/\n"}),
