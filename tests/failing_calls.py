@@ -2,7 +2,7 @@
 
 The files are those of a tree with an include, an included folder and links. A call opens a file or a folder, looks at a
 file, reads the target of a link, the names of a folder, or a file. A run has to end in an error that names the failed
-device, with status 1 and nothing on standard output. So no run may answer as if a file were missing or empty.
+device, with its status and nothing on standard output. So no run may answer as if a file were missing or empty.
 
 The program `cases` runs commands over files in memory in the same way.
 """
@@ -56,22 +56,31 @@ SHOWN = (
 EXPANDED = b"bob ALL = /bin/c\nann ALL = !/bin/z\nbob, ann ALL = /bin/a, /bin/b\n"
 LISTED = b"bob on h:\n    (root) /bin/c\n    (root) WEB\n"
 WHY = b"etc/sudoers:4:11: allowed by: (root) WEB\netc/local:1:18: in Cmnd_Alias WEB: /bin/a\n"
+WHO = b"".join(name + b": " + line for name in (b"bob", b"ann") for line in WHY.splitlines(keepends=True))
+RIGHTS = b"bob on h:\n    etc/sudoers.d/10:1:11: (root) /bin/c\n    etc/sudoers:4:11: (root) WEB\n"
 FILES = bundle([(name.encode(), text.encode()) for name, text in READ])
 UNUSED = b"sudoers_tool: etc/new: no line of the edited policy includes this file\n"
+MACHINE = "--policy FILE --passwd passwd --group-file group --host h"
+ASKED_PEOPLE = ("passwd: Read",) * 3 + ("group: Read",) * 3
+LINKS = ("image/bin: Read", "image/sbin: Read")
 
 
 @dataclass(frozen=True)
 class Row:
     """A command with FILE for the policy, and what it answers if no call fails.
 
-    The first calls and the last ones, of the counts `people`, are those for passwd and group. Their error is `Read`. In the
-    error of a command that has names `named` one of these comes first: that of the file or the folder.
+    The first calls and the last ones, of the counts `people`, are those for passwd and group. Their error is `Read`. The last
+    calls have the errors `last`. In the error of a command that has names `named` one of these comes first: that of the file or
+    the folder. An error has the status `status`. A row that is `rooted` runs below a folder alone.
     """
 
     words: str
     wanted: Wanted
     people: tuple = (0, 0)
     named: tuple = ()
+    last: tuple = ()
+    status: int = 1
+    rooted: bool = False
 
 
 ROWS = (
@@ -82,6 +91,9 @@ ROWS = (
     Row("convert -f sudoers -e FILE", Wanted(EXPANDED)),
     Row(f"{ASKED} bob FILE", Wanted(LISTED), people=(2, 4)),
     Row(f"{ASKED} bob --why FILE /bin/a", Wanted(WHY), people=(2, 4)),
+    Row(f"who --no-same {MACHINE} /bin/a", Wanted(WHO), last=ASKED_PEOPLE, status=3),
+    Row(f"what {MACHINE} bob", Wanted(RIGHTS), last=ASKED_PEOPLE, status=3),
+    Row(f"why {MACHINE} bob /bin/a", Wanted(WHY), last=(*ASKED_PEOPLE, *LINKS), status=3, rooted=True),
     Row("edit --files - FILE", Wanted(FILES), named=NAMED),
     Row("edit --files - --also etc/new FILE", Wanted(FILES + b"%% 0 etc/new\n", UNUSED), named=(*NAMED, "etc/new")),
 )
@@ -105,10 +117,13 @@ def name_in(row, answer):
 
 def wanted_of(row, name, calls, number):
     """Returns what a row has to answer of which the call with this number fails; `name` is the name in its error."""
+    left = calls - number
+    if left < len(row.last):
+        return fault(row.last[-1 - left], row.status)
     before, behind = row.people
     if number <= before or number > calls - behind:
         return fault("Read")
-    return fault(f"{name}: Failed" if row.named else "Failed")
+    return fault(f"{name}: Failed" if row.named else "Failed", row.status)
 
 
 class Calls:
@@ -163,7 +178,8 @@ def run_all(program, tally):
     def check(library):
         calls = Calls(program, library, tally)
         for row in ROWS:
-            calls.fail_each(row)
+            if not row.rooted:
+                calls.fail_each(row)
             calls.fail_each(row, "image")
         tally.note("sorts of calls that fail", difference("sorts", set(SORTS), calls.sorts))
 

@@ -271,6 +271,7 @@ BY_PROGRAM = {
     "json": (
         "ask::find_user_facts",
         "ask::list_user_facts",
+        "ask::make_undecided_facts",
         "list::find_answer_reason",
         "report::JsonDocument::add_list",
         "report::JsonDocument::add_member",
@@ -298,10 +299,11 @@ BY_PROGRAM = {
         "list::append_runas_name",
         "list::explain_spelled_answer",
         "match::find_answer_in_specs",
-        "match::find_specs_for_command",
+        "match::find_specs_for_users",
         "match::list_near_misses",
         "match::list_specs_with_lines",
         "undecided::list_undecided_members",
+        "undecided::list_undecided_members_of_rights",
     ),
 }
 

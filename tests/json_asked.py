@@ -56,9 +56,9 @@ def reason_text(user):
     return text
 
 
-def undecided_text(user, before):
+def undecided_text(answer, before):
     """Returns the lines of what was not decided, with a text before each place."""
-    return b"".join(b"not decided: %s%s: %s\n" % (before, placed_text(one), REASONS[one["reason"]]) for one in user["undecided"])
+    return b"".join(b"not decided: %s%s: %s\n" % (before, placed_text(one), REASONS[one["reason"]]) for one in answer["undecided"])
 
 
 def who_text(document, denied):
@@ -89,7 +89,7 @@ def what_text(document):
     for title, key in lists:
         if document[key]:
             text += title + b"".join(b"    %s\n" % placed_text(one) for one in document[key])
-    return text
+    return text + undecided_text(document, b"")
 
 
 def answer_text(document, words):
@@ -101,7 +101,7 @@ def answer_text(document, words):
 
 def places_of(document):
     """Returns the places of a document of an answer."""
-    found = [one["place"] for key in ("commands", "defaults", "defaults_of_some") for one in document.get(key, ())]
+    found = [one["place"] for key in ("commands", "defaults", "defaults_of_some", "undecided") for one in document.get(key, ())]
     for user in document.get("users", ()):
         found += [one["place"] for one in (user["rule"], user["member"], *(user["near"] or ()), *user["undecided"]) if one]
     return found
@@ -181,7 +181,7 @@ def asked(command, users=(), allowed=True, errors=(), same=()):
 
 def rights(user, host="h", errors=(), **lists):
     """Returns the document of `what`."""
-    lists = {key: lists.get(key, []) for key in ("commands", "defaults", "defaults_of_some")}
+    lists = {key: lists.get(key, []) for key in ("commands", "defaults", "defaults_of_some", "undecided")}
     allowed = None if errors else bool(lists["commands"])
     return {"command": "what", "policy": "main", "allowed": allowed, "errors": list(errors), "user": user, "host": None if errors else host, **lists}
 
@@ -287,6 +287,15 @@ ROWS = (
         *(0, b""),
     ),
     ("no_rights", ALIAS, f"what --json {M} root", rights("root"), 1, b""),
+    (
+        *("what_is_not_decided", OPEN, f"what --json {M} bob"),
+        rights(
+            "bob",
+            commands=[at("(root) ALL", 1, 11, 14), at("(root) !/usr/bin/a", 1, 16, 27)],
+            undecided=[at("+ng", 2, 1, 4, reason="netgroup")],
+        ),
+        *(0, b""),
+    ),
     (
         *("a_name_that_is_not_utf_8", {"passwd": b"b\xff:x:1:1:::\nroot:x:0:0:::\n", "main": b"b\xff ALL = (root, \xfe) /bin/a\n"}),
         f"who --no-same --json {M} /bin/a",

@@ -49,9 +49,9 @@ class Wanted:
         return lines + difference("status", self.status, answer.status)
 
 
-def fault(text):
-    """What a run has to answer that ends in the fault with this text."""
-    return Wanted(stderr=NAME + text.encode() + b"\n", status=1)
+def fault(text, status=1):
+    """What a run has to answer that ends in the fault with this text and this status."""
+    return Wanted(stderr=NAME + text.encode() + b"\n", status=status)
 
 
 @contextlib.contextmanager

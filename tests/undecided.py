@@ -1,8 +1,8 @@
-"""Runs `why` and `who` on random policies, and compares what they say was not decided with undecided_model.py.
+"""Runs `why`, `who` and `what` on random policies, and compares what they say was not decided with undecided_model.py.
 
 Each case has a policy, a request and the members that were not decided and could have changed the answer. `why` has to print a
 line for each place of one, in the order of the lines. `who` has to print the same lines of the user of the request, with his
-name, and the rows of EXACT are whole answers.
+name. `what` has to print those that could have changed where he has rules. The rows of EXACT are whole answers.
 """
 
 import re
@@ -53,6 +53,22 @@ EXACT = (
         0,
     ),
     (
+        "a_listing_names_lists_of_users_and_hosts",
+        "ann ALL = /bin/a\n+ops, !ann ALL = /bin/b\n%:staff ALL = /bin/c\nann 10.0.0.1 = /bin/d : h = /bin/e\nbob 10.0.0.1 = /bin/f\n",
+        "what --policy main PEOPLE --host h ann",
+        "ann on h:\n    main:1:11: (root) /bin/a\n    main:4:29: (root) /bin/e\n"
+        "not decided: main:3:1: %:staff: non-Unix groups are not looked up\n"
+        "not decided: main:4:5: 10.0.0.1: no interface of the host is named\n",
+        0,
+    ),
+    (
+        "a_listing_of_nothing_names_what_could_give_rights",
+        "+ops ALL = /bin/a\n",
+        "what --policy main PEOPLE --host h ann",
+        "ann may run nothing on h.\nnot decided: main:1:1: +ops: netgroups are not looked up\n",
+        1,
+    ),
+    (
         "who_names_the_user",
         "bob ALL = /bin/a\n%:staff ALL = sha224:00000000000000000000000000000000000000000000000000000000 /bin/a\n",
         "who --no-same --policy main PEOPLE --host h /bin/a",
@@ -74,6 +90,12 @@ def words_of(request):
     return words + (["-g", request.group] if request.group else [])
 
 
+def listing_words_of(request):
+    """The words that ask for the rules of the user of a request, without the user."""
+    words = ["--policy", "main", *PEOPLE_WORDS, "--host", request.host]
+    return words + (["--interfaces", request.interfaces] if request.interfaces else [])
+
+
 PEOPLE_WORDS = ("--passwd", "passwd", "--group-file", "group")
 
 
@@ -92,12 +114,18 @@ def wanted_lines(undecided):
 
 
 def run_case(stand, seed):
-    """The case of a seed, by `why` and by `who`."""
-    policy, request, undecided = random_case(Random(seed))
+    """The case of a seed, by `why`, by `who` and by `what`."""
+    policy, request, undecided, in_rights = random_case(Random(seed))
+    asked = words_of(request)
+    runs = (
+        ("why", [*asked, request.user, *request.words], undecided),
+        ("who", [*asked, *request.words], undecided),
+        ("what", [*listing_words_of(request), request.user], in_rights),
+    )
     with Folder({"main": policy.text, "passwd": PASSWD, "group": GROUP}) as folder:
-        wanted = wanted_lines(undecided)
-        for command, words in (("why", (request.user, *request.words)), ("who", request.words)):
-            came = stand.run([command, *words_of(request), *words], folder)
+        for command, words, members in runs:
+            wanted = wanted_lines(members)
+            came = stand.run([command, *words], folder)
             user = request.user if command == "who" else None
             problems = [] if lines_of(came.stdout, user) == wanted else [f"{came.stdout} for {policy.text}: {wanted}"]
             problems += [f"{came.stderr}"] if came.stderr else []

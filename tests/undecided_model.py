@@ -366,7 +366,23 @@ class Model:
             fits = all(part.holds for part in parts)
             if all(part.may_hold() for part in parts):
                 found.update(member for part in parts if fits or not part.holds for member in part.turns)
-        return sorted(found, key=lambda member: (member.line, member.start, PARTS.index(member.part)))
+        return sorted(found, key=in_order)
+
+    def undecided_in_rights(self):
+        """Returns the undecided members that could have changed where the user has rules, in order."""
+        found = set()
+        for spec in self.policy.specs:
+            users = part_of_list(self.policy, "Users", "user", spec.users.members, self.user)
+            found.update(users.turns)
+            if users.holds:
+                for group in spec.groups:
+                    found.update(part_of_list(self.policy, "Hosts", "host", group.hosts.members, self.host).turns)
+        return sorted(found, key=in_order)
+
+
+def in_order(member):
+    """Returns the key by which members are sorted."""
+    return member.line, member.start, PARTS.index(member.part)
 
 
 PARTS = ("Users", "Hosts", "RunasUsers", "RunasGroups", "Moment", "Command")
@@ -385,16 +401,17 @@ def random_request(chance):
 
 
 def random_case(chance):
-    """Returns a policy, a request, and the members that are undecided."""
+    """Returns a policy, a request, and the members that are undecided, in its answer and where the user's rules are listed."""
     policy = Writer(chance).policy()
     request = random_request(chance)
-    return policy, request, Model(policy, request).undecided()
+    model = Model(policy, request)
+    return policy, request, model.undecided(), model.undecided_in_rights()
 
 
 def main():
     """Prints the case of a seed."""
-    policy, request, found = random_case(Random(int(sys.argv[1]) if len(sys.argv) > 1 else 0))
-    print(policy.text, request, *found, sep="\n")
+    policy, request, found, in_rights = random_case(Random(int(sys.argv[1]) if len(sys.argv) > 1 else 0))
+    print(policy.text, request, *found, "where rules are:", *in_rights, sep="\n")
 
 
 if __name__ == "__main__":

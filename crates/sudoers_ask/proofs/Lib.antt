@@ -1,3 +1,4 @@
 pub mod Requests
 pub mod Parts
 pub mod Outcomes
+pub mod Ready

@@ -1,5 +1,5 @@
 -- The parts of users, one after another.
-use Rattle.std.proofs.Common.{◌≡◌, ◌++◌, ◌∷◌, [], ◌||◌, Bool, true, false, List, ℕ, ◌≤◌, length, Option, Some, None, Ok, Err, IfOk, Result, ap, append-nil, drop, refl, slice_get, subst, suc, sym, take, zero, ◌+◌, ◌∙◌}
+use Rattle.std.proofs.Common.{◌≡◌, ◌++◌, ◌∷◌, [], ◌||◌, Bool, true, false, List, ℕ, ◌≤◌, length, Option, Some, Ok, Err, IfOk, Result, ap, append-nil, drop, refl, slice_get, subst, suc, sym, take, zero, ◌+◌, ◌∙◌}
 use Rattle.std.specs.List.{flat_map, list_any}
 use Rattle.std.proofs.lemmas.Grind.{flat_map-append}
 use Rattle.sudoers_tree.specs.Line.{Line}

@@ -2,3 +2,4 @@ pub mod Same
 pub mod Outcome
 pub mod Users
 pub mod Why
+pub mod internal

@@ -1,14 +1,14 @@
 -- What a user asks of a policy, and its answer.
-use Rattle.std.specs.Prelude.{◌≡◌, ◌⊎◌, ◌<◌, ◌≤◌, ℕ, List, length, Option, Some, None, Result, Ok, Err}
+use Rattle.std.specs.Prelude.{◌≡◌, ◌⊎◌, ◌<◌, ◌≤◌, not, ℕ, Bool, true, false, List, length, Option, Some, None, Result, Ok, Err}
 use Rattle.std.specs.Borrow.{Bor}
 use Rattle.std.specs.Option.{option_map}
 use Rattle.sudoers_tree.specs.Line.{Line}
 use Rattle.sudoers_match_member.specs.declared.people_and_commands.Who.{Who}
 use Rattle.sudoers_match_member.specs.declared.request.Request.{Request}
 use Rattle.sudoers_match_list.specs.declared.verdict.AskFault.TheVariants.{NoMemory, TooLong}
-use Rattle.sudoers_match.specs.declared.specs_for_command.SpecOnLine.{SpecOnLine}
+use Rattle.sudoers_match.specs.declared.specs_for_users.SpecOnLine.{SpecOnLine}
 use Rattle.sudoers_match.specs.Answer.{Answer, IsAnswerByCommandTest, joined_arguments_limit, words_joined_with_spaces}
-use Rattle.sudoers_match.specs.ForCommand.{AreSpecsForCommand}
+use Rattle.sudoers_match.specs.ForRequest.{AreSpecsForRequest}
 use Rattle.sudoers_match.specs.Default.{IsRunasDefault}
 use Rattle.sudoers_match.specs.Spellings.{is_spelled_command_match}
 use Rattle.sudoers_list_people.specs.declared.fault.WhoFault.{WhoFault}
@@ -84,12 +84,19 @@ pub record IsRequestForQuestion (q : CommandQuestion) (r : Request) : Type 0 whe
   pub command : r.command ≡ command_of_words q.words.now
   pub args : r.args ≡ argument_words_after_first q.words.now
 
--- Whoever asks, each user specification matters that has a row for the command on the host.
-abbrev pub AreSpecsForQuestion : List Line → CommandQuestion → List SpecOnLine → Type 0
-AreSpecsForQuestion lines q specs = (r : Request) → IsRequestForQuestion q r → AreSpecsForCommand lines r.who (is_spelled_command_match (spelled_command_of_question q)) specs
-
 -- The request is that of the user with this name, and this is as whom a command runs for him where nothing else is said.
 pub record IsUserRequest (lines : List Line) (people : People) (q : CommandQuestion) (user : List ℕ) (r : Request) (default : List ℕ) : Type 0 where
   pub who : who_or_who_fault people user q.host.now q.interfaces.now ≡ Ok r.who
   pub is_default : IsRunasDefault lines r.who default
   pub asks : request_or_who_fault people r.who (target_name (optional_name_of_view q.target) (optional_name_of_view q.group) user default) (optional_name_of_view q.group) q.words.now q.moment.now ≡ Ok r
+
+-- Whoever asks, each user specification matters that has a row that fits his request.
+abbrev pub AreSpecsForQuestion : List Line → People → CommandQuestion → List SpecOnLine → Type 0
+AreSpecsForQuestion lines people q specs = (user : List ℕ) (r : Request) (default : List ℕ) → IsUserRequest lines people q user r default
+    → AreSpecsForRequest lines (is_spelled_command_match (spelled_command_of_question q)) r specs
+
+-- All users ask for one target: a user who is named, or the one as whom commands run for all where nothing else is said.
+abbrev pub is_target_common : Bool → Option (List ℕ) → Option (List ℕ) → Bool
+is_target_common has_default (Some target) group = true
+is_target_common has_default None (Some group) = false
+is_target_common has_default None None = not has_default

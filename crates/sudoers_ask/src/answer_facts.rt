@@ -7,8 +7,9 @@ ghost use Rattle.sudoers_match.specs.Default.{IsRunasDefault};
 ghost use Rattle.sudoers_match.specs.Found.{HasMemberAndSettingsFromLines, answer_without_member_and_settings};
 ghost use Rattle.sudoers_match.specs.Spellings.{is_spelled_command_match};
 
+use crate::asked_question::AskedQuestion;
 use crate::placed_text::{PlacedText, make_placed_command, make_placed_member};
-use crate::undecided_lines::{SpelledQuestion, is_of_same_place, list_undecided_members_of_answer};
+use crate::undecided_lines::{is_of_same_place, list_undecided_members_of_answer};
 use crate::user_answer::UserAnswer;
 use std::alloc::{AllocError, Global};
 use sudoers_list::{DecidingAliasMember, UserAndRunasDefaultNames, find_answer_reason};
@@ -162,30 +163,29 @@ pub fn list_near_facts<'a>(
     Ok(facts)
 }
 
-/// Returns what was not decided in the `answer` to the user `name`, if `wanted`. A member that stands there twice is there once.
+/// Returns what was not decided in `answer`, which is that of the user `name` to `asked`. A member that stands there twice is there once.
 ///
 /// # Errors
 ///
 /// Memory ran out.
 pub fn list_undecided_facts<'a>(
     alloc: Global,
-    acyclic: &AcyclicWalk<'a>,
-    asked: &SpelledQuestion<'_, '_, '_, '_>,
-    answer: &UserAnswer<'a>,
+    asked: &AskedQuestion<'a, '_, '_, '_>,
     name: &[u8],
-    wanted: bool,
+    answer: &UserAnswer<'a>,
 ) -> Result<Vec<WordedText>, AllocError>
-    requires { IsRunasDefault acyclic.now answer.now.request.who answer.now.default.now }
+    requires { IsRunasDefault asked.now.walk answer.now.request.who answer.now.default.now }
 {
-    if !wanted {
-        return Ok(Vec::new(alloc));
-    }
-    let members = list_undecided_members_of_answer(alloc, acyclic, asked, name, answer)?;
+    let members = list_undecided_members_of_answer(alloc, asked, name, answer)?;
     make_undecided_facts(alloc, members.as_slice())
 }
 
 /// Returns the members `members`, which were not decided, each once.
-fn make_undecided_facts(
+///
+/// # Errors
+///
+/// Memory ran out.
+pub fn make_undecided_facts(
     alloc: Global,
     members: &[UndecidedMember<'_>],
 ) -> Result<Vec<WordedText>, AllocError> {

@@ -2,6 +2,7 @@
 #![tactic(auto)]
 
 mod answer_facts;
+mod asked_question;
 mod defaults_of_user;
 pub mod laws;
 mod list_allowing;
@@ -17,7 +18,7 @@ mod user_facts;
 mod users;
 mod why;
 
-pub use answer_facts::{AliasMemberFact, RuleFact, UserFacts, WordedText};
+pub use answer_facts::{AliasMemberFact, RuleFact, UserFacts, WordedText, make_undecided_facts};
 pub use defaults_of_user::DefaultsOfUser;
 pub use placed_text::{PlacedText, WalkPlace};
 pub use question::{CommandQuestion, FolderPair, QuestionFault};

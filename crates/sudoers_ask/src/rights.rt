@@ -6,6 +6,7 @@ use crate::placed_text::{
     place_of_member,
 };
 use crate::rights_fault::RightsFault;
+use crate::undecided_lines::append_undecided_lines;
 use std::alloc::{AllocError, Global};
 use sudoers_cvt_rules::print_command;
 use sudoers_cvt_spell::append_printed_member_list;
@@ -19,6 +20,7 @@ use sudoers_match::{
 use sudoers_match_list::{AcyclicWalk, ExpansionSource, flatten_member_list};
 use sudoers_match_member::Who;
 use sudoers_tree::{Kind, Policy};
+use sudoers_undecided::{UndecidedMember, list_undecided_members_of_rights};
 
 /// A user specification: the number of its line on the walk, from 0, and its host groups.
 #[derive(Drop)]
@@ -40,14 +42,18 @@ struct Listing<'a, 'b, 'c> {
 pub struct RightsText {
     pub text: Vec<u8>,
     pub has_any: bool,
+    /// The members that were not decided and could have changed where the user has rules, a line for each.
+    pub undecided: Vec<u8>,
 }
 
 /// What a user may run: his commands, the Defaults lines that hold of him, and whether he may run anything.
 #[derive(Drop)]
-pub struct Rights {
+pub struct Rights<'a> {
     pub commands: Vec<PlacedText>,
     pub defaults: DefaultsOfUser,
     pub has_any: bool,
+    /// The members that were not decided and could have changed where the user has rules.
+    pub undecided: Vec<UndecidedMember<'a>>,
 }
 
 /// Returns what `who` may run by `policy`: each command of the host groups whose users and hosts match, and the Defaults lines that hold of
@@ -57,12 +63,12 @@ pub struct Rights {
 ///
 /// `Cycle`: a reachable alias is cyclic. `TooLarge`: a list has more than 65,536 members when its aliases are replaced. `NoMemory`: memory
 /// ran out.
-pub fn list_rights(
+pub fn list_rights<'a>(
     alloc: Global,
-    policy: &Policy,
+    policy: &'a Policy,
     who: &Who,
     expand: bool,
-) -> Result<Rights, RightsFault> {
+) -> Result<Rights<'a>, RightsFault> {
     let acyclic = AcyclicWalk::new(alloc, policy.walk())?;
     let default = find_runas_default_for(alloc, &acyclic, who)?;
     let listing = Listing {
@@ -77,6 +83,7 @@ pub fn list_rights(
         commands,
         defaults: list_defaults_of_user(alloc, &acyclic, who)?,
         has_any: !places.is_empty(),
+        undecided: list_undecided_members_of_rights(alloc, &acyclic, who)?,
     })
 }
 
@@ -97,9 +104,18 @@ pub fn list_rights_with_places(
     append_heading(alloc, &mut text, policy, who, !rights.has_any)?;
     append_placed_lines(alloc, &mut text, policy, rights.commands.as_slice())?;
     append_defaults_of_user(alloc, &mut text, policy, &rights.defaults)?;
+    let mut undecided = Vec::new(alloc);
+    append_undecided_lines(
+        alloc,
+        &mut undecided,
+        policy,
+        rights.undecided.as_slice(),
+        b"",
+    )?;
     Ok(RightsText {
         text,
         has_any: rights.has_any,
+        undecided,
     })
 }
 

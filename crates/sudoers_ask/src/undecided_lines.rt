@@ -2,6 +2,7 @@
 
 ghost use Rattle.sudoers_match.specs.Default.{IsRunasDefault};
 
+use crate::asked_question::AskedQuestion;
 use crate::question::CommandQuestion;
 use crate::same::arguments_of_words;
 use crate::user_answer::{UserAnswer, make_user_request};
@@ -10,9 +11,8 @@ use sudoers_cvt_spell::append_member;
 use sudoers_grammar::Items;
 use sudoers_line_rows::{AtomRow, MemberRow, Tables};
 use sudoers_list::append_place_on_walk_line;
-use sudoers_list_people::People;
 use sudoers_match::{CommandSpellings, SpelledCommandListKind};
-use sudoers_match_list::{AcyclicWalk, MemberKind};
+use sudoers_match_list::MemberKind;
 use sudoers_match_member::CommandLine;
 use sudoers_tree::{Policy, base_name_of_path};
 use sudoers_undecided::{UndecidedMember, WhyUndecided, list_undecided_members};
@@ -28,97 +28,39 @@ fn words_of_reason(reason: WhyUndecided) -> &'static [u8] {
     }
 }
 
-/// Returns whether `policy` has a member that may not be decided for `question`: a netgroup, a non-Unix group, a digest, an address where
-/// no interface is named, or a path with the last name of the command. Then an answer may leave something open.
-pub fn may_have_undecided_members(policy: &Policy, question: &CommandQuestion<'_>) -> bool {
-    let tables = policy.lines().tables;
-    if !tables.digests.is_empty() {
-        return true;
-    }
-    let no_interface = question.interfaces.is_empty();
-    for member in tables.members.as_slice() {
-        if may_member_be_undecided(tables, member, no_interface, question) {
-            return true;
-        }
-    }
-    has_command_of_same_base(tables, question)
-}
-
-/// Returns whether a member of a list may not be decided. If `no_interface`, no interface of the host is named.
-fn may_member_be_undecided(
-    tables: &Tables,
-    member: &MemberRow,
-    no_interface: bool,
-    question: &CommandQuestion<'_>,
-) -> bool {
-    match member.atom {
-        AtomRow::NonUnix(_) | AtomRow::Netgroup(_) => true,
-        AtomRow::Address(_) | AtomRow::Network(_, _) => no_interface,
-        AtomRow::Path { path, .. } => {
-            has_base_of_command(tables.bytes_of_text_row(path), question)
-        }
-        _ => false,
-    }
-}
-
-/// Returns whether a command of a user specification has the last name of the command of `question`.
-fn has_command_of_same_base(tables: &Tables, question: &CommandQuestion<'_>) -> bool {
-    for command in tables.commands.as_slice() {
-        if may_member_be_undecided(tables, &command.member, false, question) {
-            return true;
-        }
-    }
-    false
-}
-
-/// Returns whether `path` is not the command of `question`, and has its last name.
-fn has_base_of_command(path: &[u8], question: &CommandQuestion<'_>) -> bool {
-    let Some(command) = question.words.first() else {
-        return false;
-    };
-    let command = command.as_slice();
-    path != command && base_name_of_path(path) == base_name_of_path(command)
-}
-
-/// What is asked for a user, and the command in each spelling.
-#[derive(Clone, Copy)]
-pub struct SpelledQuestion<'p, 'q, 'w, 'c> {
-    pub people: &'p People,
-    pub question: &'q CommandQuestion<'w>,
-    pub command: &'c CommandSpellings,
-}
-
-/// Returns the members of `policy` that were not decided in `answer`, which is that of the user `name` to `asked`, and could have changed
-/// it, by lines and by places in a line. Where the command has other spellings, the members of each are there.
+/// Returns the members that were not decided in `answer`, which is that of the user `name` to `asked`, and could have changed it, by lines
+/// and by places in a line. Where the command has other spellings, the members of each are there.
 ///
 /// # Errors
 ///
 /// Memory ran out.
 pub fn list_undecided_members_of_answer<'a>(
     alloc: Global,
-    policy: &AcyclicWalk<'a>,
-    asked: &SpelledQuestion<'_, '_, '_, '_>,
+    asked: &AskedQuestion<'a, '_, '_, '_>,
     name: &[u8],
     answer: &UserAnswer<'a>,
 ) -> Result<Vec<UndecidedMember<'a>>, AllocError>
-    requires { IsRunasDefault policy.now answer.now.request.who answer.now.default.now }
+    requires { IsRunasDefault asked.now.walk answer.now.request.who answer.now.default.now }
 {
-    let mut members = list_undecided_members(alloc, policy, &answer.request, answer.default)?;
+    if !asked.is_open {
+        return Ok(Vec::new(alloc));
+    }
+    let walk = &asked.walk;
+    let mut members = list_undecided_members(alloc, walk, &answer.request, answer.default)?;
     if asked.command.others.as_slice().is_empty() {
         return Ok(members);
     }
     for other in asked.command.others.as_slice() {
-        let more = list_undecided_members_of_spelling(alloc, policy, asked, name, other)?;
+        let more = list_undecided_members_of_spelling(alloc, asked, name, other)?;
         members.extend_from_slice(more.as_slice())?;
     }
-    keep_members_without_match(alloc, asked.command, members)
+    keep_members_without_match(alloc, &asked.command, members)
 }
 
 /// Returns the undecided members where the user `name` asks for the spelling `other` of the command.
 fn list_undecided_members_of_spelling<'a>(
     alloc: Global,
-    policy: &AcyclicWalk<'a>,
-    asked: &SpelledQuestion<'_, '_, '_, '_>,
+    asked: &AskedQuestion<'a, '_, '_, '_>,
     name: &[u8],
     other: &CommandLine,
 ) -> Result<Vec<UndecidedMember<'a>>, AllocError> {
@@ -132,10 +74,11 @@ fn list_undecided_members_of_spelling<'a>(
         ..*asked.question
     };
     // The words are those of a request that was made, so its one fault is want of memory.
-    let Ok(made) = make_user_request(alloc, policy, true, asked.people, name, &question) else {
+    let walk = &asked.walk;
+    let Ok(made) = make_user_request(alloc, walk, true, asked.people, name, &question) else {
         return Err(AllocError);
     };
-    list_undecided_members(alloc, policy, &made.request, made.default)
+    list_undecided_members(alloc, walk, &made.request, made.default)
 }
 
 /// Returns those of `members` that match no spelling of `command`, by lines and by places in a line.
@@ -208,7 +151,7 @@ fn append_undecided_line(
     out.extend_from_slice(b"\n")
 }
 
-/// Appends to `out` the lines of what was not decided in `answer`, with the name `name` of its user before each, if `wanted`.
+/// Appends to `out` the lines of what was not decided in `answer`, which is that of the user `name` to `asked`, with his name before each.
 ///
 /// # Errors
 ///
@@ -217,18 +160,13 @@ pub fn append_undecided_lines_of_user<'a>(
     alloc: Global,
     out: &mut Vec<u8>,
     policy: &Policy,
-    acyclic: &AcyclicWalk<'a>,
-    asked: &SpelledQuestion<'_, '_, '_, '_>,
-    answer: &UserAnswer<'a>,
+    asked: &AskedQuestion<'a, '_, '_, '_>,
     name: &[u8],
-    wanted: bool,
+    answer: &UserAnswer<'a>,
 ) -> Result<(), AllocError>
-    requires { IsRunasDefault acyclic.now answer.now.request.who answer.now.default.now }
+    requires { IsRunasDefault asked.now.walk answer.now.request.who answer.now.default.now }
 {
-    if !wanted {
-        return Ok(());
-    }
-    let undecided = list_undecided_members_of_answer(alloc, acyclic, asked, name, answer)?;
+    let undecided = list_undecided_members_of_answer(alloc, asked, name, answer)?;
     let mut prefix = Vec::from_slice(alloc, name)?;
     prefix.extend_from_slice(b": ")?;
     append_undecided_lines(alloc, out, policy, undecided.as_slice(), prefix.as_slice())

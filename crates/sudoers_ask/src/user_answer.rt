@@ -1,21 +1,16 @@
 //! The answer of a policy to a user.
 
-ghost use Rattle.std.specs.Prelude.{◌≡◌, ◌⊎◌, ◌≤◌, [], false, length, Err, IfOk, IfErr, IfSome};
+ghost use Rattle.std.specs.Prelude.{◌≡◌, ◌⊎◌, [], false, Err, IfOk, IfErr};
 ghost use Rattle.std.specs.Option.{option_map};
-ghost use Rattle.sudoers_match.specs.Answer.{joined_arguments_limit, words_joined_with_spaces};
 ghost use Rattle.sudoers_match.specs.Default.{IsRunasDefault, runas_defaults_of_lines};
-ghost use Rattle.sudoers_match.specs.Found.{HasMemberAndSettingsFromLines, answer_without_member_and_settings};
-ghost use Rattle.sudoers_ask.specs.Outcome.{AreSpecsForQuestion, IsAnswerToQuestion, IsMemoryFault, IsUserOutcome, IsUserRequest, optional_name_of_view, target_name};
-ghost use Rattle.sudoers_ask.specs.Same.{spelled_command_of_question};
+ghost use Rattle.sudoers_match.specs.Found.{answer_without_member_and_settings};
+ghost use Rattle.sudoers_ask.specs.Outcome.{IsMemoryFault, IsUserOutcome, IsUserRequest, optional_name_of_view, target_name};
 ghost use Rattle.sudoers_ask.specs.Users.{is_answer_allowing};
 
 use crate::question::{CommandQuestion, QuestionFault};
 use std::alloc::{AllocError, Global};
 use sudoers_list_people::{People, request_for, who_for};
-use sudoers_match::{
-    AnswerWithMemberAndSettings, CommandSpellings, Request, SpecOnLine, Who, find_answer_in_specs,
-    find_runas_default_for,
-};
+use sudoers_match::{AnswerWithMemberAndSettings, Request, Who, find_runas_default_for};
 use sudoers_match_list::AcyclicWalk;
 
 /// The request of a user.
@@ -111,40 +106,4 @@ pub fn make_user_request<'a>(
         question.moment,
     )?;
     Ok(UserRequest { request, default })
-}
-
-/// Returns the request of the user with the name `user`, and its answer. `specs` are the user specifications of `policy`, `command` is the
-/// command of `question` in each spelling, and `people` are the users and groups. If `has_default`, a Defaults line of `policy` may set
-/// runas_default.
-///
-/// # Errors
-///
-/// `Who`: of the words of `question`. `Ask(TooLong)`: the arguments, joined by single spaces, are longer than 65,536 bytes. Memory ran out.
-pub fn ask_user<'a>(
-    alloc: Global,
-    policy: &AcyclicWalk<'a>,
-    specs: &[SpecOnLine<'a>],
-    has_default: bool,
-    people: &People,
-    user: &[u8],
-    question: &CommandQuestion<'_>,
-    command: &CommandSpellings,
-) -> Result<UserAnswer<'a>, QuestionFault>
-    requires command { command.now ≡ spelled_command_of_question question.now }
-    requires default { has_default ≡ false → runas_defaults_of_lines policy.now ≡ [] }
-    requires specs { AreSpecsForQuestion policy.now question.now specs.now }
-    ensures request { IfOk result (λ answer. IsUserRequest policy.now people.now question.now user.now answer.request answer.default.now) }
-    ensures short { IfOk result (λ answer. length (words_joined_with_spaces answer.request.args) ≤ joined_arguments_limit) }
-    ensures answer { IfOk result (λ answer. IsAnswerToQuestion policy.now question.now answer.request (option_map answer_without_member_and_settings answer.found)) }
-    ensures found { IfOk result (λ answer. IfSome answer.found (HasMemberAndSettingsFromLines policy.now)) }
-    ensures fault { IfErr result (λ fault. IsMemoryFault fault ⊎ IsUserOutcome policy.now people.now question.now user.now (Err fault)) }
-{
-    let asked = make_user_request(alloc, policy, has_default, people, user, question)?;
-    let UserRequest { request, default } = asked;
-    let found = find_answer_in_specs(alloc, policy, specs, &request, command, default)?;
-    Ok(UserAnswer {
-        request,
-        default,
-        found,
-    })
 }

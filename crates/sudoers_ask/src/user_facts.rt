@@ -9,15 +9,12 @@ ghost use Rattle.sudoers_match.specs.Spellings.{is_spelled_command_match};
 use crate::answer_facts::{
     UserFacts, WordedText, find_rule_fact, list_near_facts, list_undecided_facts,
 };
+use crate::asked_question::AskedQuestion;
 use crate::question::{CommandQuestion, QuestionFault};
-use crate::same::make_spelled_command;
-use crate::undecided_lines::{SpelledQuestion, may_have_undecided_members};
-use crate::user_answer::{UserAnswer, ask_user};
-use crate::users::{find_specs_for_question, is_shown};
+use crate::user_answer::UserAnswer;
+use crate::users::is_shown;
 use std::alloc::{AllocError, Global};
 use sudoers_list_people::People;
-use sudoers_match::{CommandSpellings, has_runas_default, list_specs_with_lines};
-use sudoers_match_list::AcyclicWalk;
 use sudoers_tree::Policy;
 
 /// The answers to users, and whether one of them may run the command.
@@ -40,33 +37,15 @@ pub fn list_user_facts(
     question: &CommandQuestion<'_>,
     denied: bool,
 ) -> Result<UsersFacts, QuestionFault> {
-    let acyclic = AcyclicWalk::new(alloc, policy.walk())?;
-    let has_default = has_runas_default(&acyclic);
+    let asked = AskedQuestion::new(alloc, policy, people, question)?;
     let mut users = Vec::new(alloc);
     let mut is_any_allowed = false;
-    let is_open = may_have_undecided_members(policy, question);
-    let command = make_spelled_command(alloc, question)?;
-    let specs = find_specs_for_question(alloc, &acyclic, has_default, people, question, &command)?;
-    let asked = SpelledQuestion {
-        people,
-        question,
-        command: &command,
-    };
     for account in people.accounts() {
         let name = account.name.as_slice();
-        let answer = ask_user(
-            alloc,
-            &acyclic,
-            specs.as_slice(),
-            has_default,
-            people,
-            name,
-            question,
-            &command,
-        )?;
-        let undecided = list_undecided_facts(alloc, &acyclic, &asked, &answer, name, is_open)?;
+        let answer = asked.ask_user(alloc, name)?;
+        let undecided = list_undecided_facts(alloc, &asked, name, &answer)?;
         append_user_facts(
-            alloc, &mut users, policy, &acyclic, name, &answer, &command, undecided, denied,
+            alloc, &mut users, policy, &asked, name, &answer, undecided, denied,
         )?;
         is_any_allowed = is_any_allowed | answer.is_allowed();
     }
@@ -82,15 +61,14 @@ fn append_user_facts<'a>(
     alloc: Global,
     users: &mut Vec<UserFacts>,
     policy: &'a Policy,
-    acyclic: &AcyclicWalk<'a>,
+    asked: &AskedQuestion<'a, '_, '_, '_>,
     name: &[u8],
     answer: &UserAnswer<'a>,
-    command: &CommandSpellings,
     undecided: Vec<WordedText>,
     denied: bool,
 ) -> Result<(), AllocError>
-    requires same { acyclic.now ≡ policy.now.walk.lines }
-    requires answer { IsAnswerByCommandTest policy.now.walk.lines (is_spelled_command_match command.now) answer.now.request (option_map answer_without_member_and_settings answer.now.found) }
+    requires same { asked.now.walk ≡ policy.now.walk.lines }
+    requires answer { IsAnswerByCommandTest policy.now.walk.lines (is_spelled_command_match asked.now.command) answer.now.request (option_map answer_without_member_and_settings answer.now.found) }
     requires found { IfSome answer.now.found (HasMemberAndSettingsFromLines policy.now.walk.lines) }
 {
     if !is_shown(answer, denied) && undecided.is_empty() {
@@ -99,9 +77,9 @@ fn append_user_facts<'a>(
     let rule = find_rule_fact(
         alloc,
         policy,
-        acyclic,
+        &asked.walk,
         &answer.request,
-        command,
+        &asked.command,
         answer.default,
         answer.found,
     )?;
@@ -126,37 +104,21 @@ pub fn find_user_facts(
     user: &[u8],
     question: &CommandQuestion<'_>,
 ) -> Result<UserFacts, QuestionFault> {
-    let acyclic = AcyclicWalk::new(alloc, policy.walk())?;
-    let specs = list_specs_with_lines(alloc, &acyclic)?;
-    let command = make_spelled_command(alloc, question)?;
-    let answer = ask_user(
-        alloc,
-        &acyclic,
-        specs.as_slice(),
-        true,
-        people,
-        user,
-        question,
-        &command,
-    )?;
+    let asked = AskedQuestion::new(alloc, policy, people, question)?;
+    let answer = asked.ask_user(alloc, user)?;
     let rule = find_rule_fact(
         alloc,
         policy,
-        &acyclic,
+        &asked.walk,
         &answer.request,
-        &command,
+        &asked.command,
         answer.default,
         answer.found,
     )?;
-    let asked = SpelledQuestion {
-        people,
-        question,
-        command: &command,
-    };
     Ok(UserFacts {
         name: Vec::from_slice(alloc, user)?,
         rule,
-        near: Some(list_near_facts(alloc, &acyclic, &answer, &command)?),
-        undecided: list_undecided_facts(alloc, &acyclic, &asked, &answer, user, true)?,
+        near: Some(list_near_facts(alloc, &asked.walk, &answer, &asked.command)?),
+        undecided: list_undecided_facts(alloc, &asked, user, &answer)?,
     })
 }

@@ -7,18 +7,13 @@ ghost use Rattle.sudoers_ask.specs.declared.question.QuestionFault.TheVariants.{
 ghost use Rattle.sudoers_ask.specs.Outcome.{IsMemoryFault, IsUserOutcome};
 ghost use Rattle.sudoers_ask.specs.Why.{IsWhyText};
 
+use crate::asked_question::AskedQuestion;
 use crate::near_lines::make_near_miss_lines;
 use crate::question::{CommandQuestion, QuestionFault};
-use crate::same::make_spelled_command;
-use crate::undecided_lines::{
-    SpelledQuestion, append_undecided_lines, list_undecided_members_of_answer,
-};
-use crate::user_answer::ask_user;
+use crate::undecided_lines::{append_undecided_lines, list_undecided_members_of_answer};
 use std::alloc::Global;
 use sudoers_list::explain_spelled_answer;
 use sudoers_list_people::People;
-use sudoers_match::list_specs_with_lines;
-use sudoers_match_list::AcyclicWalk;
 use sudoers_tree::Policy;
 
 /// The reason of an answer, as a text, and whether the command is allowed.
@@ -37,7 +32,7 @@ pub struct WhyText {
 ///
 /// # Errors
 ///
-/// `Ask(Cycle)`: a reachable alias is cyclic. Then those of [`ask_user`].
+/// `Ask(Cycle)`: a reachable alias is cyclic. Then those of [`AskedQuestion::ask_user`].
 pub fn explain_user_answer(
     alloc: Global,
     policy: &Policy,
@@ -50,38 +45,22 @@ pub fn explain_user_answer(
     ensures fault { IfErr result (λ fault. IsMemoryFault fault ⊎ (((fault ≡ Ask Cycle) × HasCyclicAliasReachedFromSpecOrDefaults policy.now.walk.lines)
         ⊎ IsUserOutcome policy.now.walk.lines people.now question.now user.now (Err fault))) }
 {
-    let acyclic = AcyclicWalk::new(alloc, policy.walk())?;
-    let specs = list_specs_with_lines(alloc, &acyclic)?;
-    let command = make_spelled_command(alloc, question)?;
-    let answer = ask_user(
-        alloc,
-        &acyclic,
-        specs.as_slice(),
-        true,
-        people,
-        user,
-        question,
-        &command,
-    )?;
+    let asked = AskedQuestion::new(alloc, policy, people, question)?;
+    let answer = asked.ask_user(alloc, user)?;
     let text = explain_spelled_answer(
         alloc,
         policy,
-        &acyclic,
+        &asked.walk,
         &answer.request,
-        &command,
+        &asked.command,
         answer.default,
         answer.found,
     )?;
-    let asked = SpelledQuestion {
-        people,
-        question,
-        command: &command,
-    };
-    let members = list_undecided_members_of_answer(alloc, &acyclic, &asked, user, &answer)?;
+    let members = list_undecided_members_of_answer(alloc, &asked, user, &answer)?;
     let mut undecided = Vec::new(alloc);
     append_undecided_lines(alloc, &mut undecided, policy, members.as_slice(), b"")?;
     Ok(WhyText {
-        near: make_near_miss_lines(alloc, policy, &acyclic, &answer, &command)?,
+        near: make_near_miss_lines(alloc, policy, &asked.walk, &answer, &asked.command)?,
         undecided,
         text,
         is_allowed: answer.is_allowed(),

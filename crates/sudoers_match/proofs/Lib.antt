@@ -10,7 +10,7 @@ pub mod Tagged
 pub mod Valued
 pub mod Rowed
 pub mod Founds
-pub mod ForCommands
+pub mod ForUsers
 pub mod Existing
 pub mod Runases
 pub mod Alike

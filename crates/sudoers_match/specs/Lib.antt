@@ -12,7 +12,7 @@ pub mod Rows
 pub mod Answer
 pub mod Spellings
 pub mod Found
-pub mod ForCommand
+pub mod ForRequest
 pub mod Alike
 pub mod Beside
 pub mod internal

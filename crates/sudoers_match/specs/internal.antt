@@ -3,3 +3,4 @@ pub mod Asked
 pub mod Question
 pub mod Straight
 pub mod Misses
+pub mod AnyUser

@@ -6,7 +6,7 @@ ghost use Rattle.sudoers_check.specs.Chains.{HasCyclicAliasReachedFromSpecOrDefa
 ghost use Rattle.sudoers_match_list.specs.declared.verdict.AskFault.TheVariants.{Cycle, TooLong, NoMemory};
 ghost use Rattle.sudoers_match.specs.Default.{IsRunasDefault};
 ghost use Rattle.sudoers_match.specs.Answer.{IsAnswerByCommandTest, IsAnswerToRequest, answer_of_view, joined_arguments_limit, words_joined_with_spaces};
-ghost use Rattle.sudoers_match.specs.ForCommand.{AreSpecsForCommand};
+ghost use Rattle.sudoers_match.specs.ForRequest.{AreSpecsForRequest};
 ghost use Rattle.sudoers_match.specs.Found.{HasMemberAndSettingsFromLines, answer_without_member_and_settings};
 ghost use Rattle.sudoers_match.specs.Spellings.{is_spelled_command_match};
 
@@ -17,7 +17,7 @@ use crate::last_row::find_last_fitting_row;
 use crate::request_verdicts::{RequestContext, RequestVerdictCache};
 use crate::request_words::join_words;
 use crate::runas_default_user::find_runas_default_for;
-use crate::specs_for_command::{SpecOnLine, list_specs_with_lines};
+use crate::specs_for_users::{SpecOnLine, list_specs_with_lines};
 use crate::spellings::{CommandSpellings, make_sole_spelling};
 use std::alloc::{AllocError, Global};
 use sudoers_match_list::{AcyclicWalk, AskFault};
@@ -75,8 +75,8 @@ pub fn find_answer<'a>(
 }
 
 /// Returns the last row of `policy` that fits `request`, where `command` is its command in each spelling, with its answer and its command,
-/// if a row fits. `specs` are the user specifications of `policy`, and which of them may answer `command` on the host. `default` is the
-/// user as whom a command runs where nothing else is said.
+/// if a row fits. `specs` are the user specifications of `policy`, and of which of them a row may fit. `default` is the user as whom a
+/// command runs where nothing else is said.
 ///
 /// # Errors
 ///
@@ -89,7 +89,7 @@ pub fn find_answer_in_specs<'a>(
     command: &CommandSpellings,
     default: &'a [u8],
 ) -> Result<Option<AnswerWithMemberAndSettings<'a>>, AskFault>
-    requires specs { AreSpecsForCommand policy.now request.now.who (is_spelled_command_match command.now) specs.now }
+    requires specs { AreSpecsForRequest policy.now (is_spelled_command_match command.now) request.now specs.now }
     requires default { IsRunasDefault policy.now request.now.who default.now }
     ensures answer { IfOk result (λ found. IsAnswerByCommandTest policy.now (is_spelled_command_match command.now) request.now (option_map answer_without_member_and_settings found)) }
     ensures found { IfOk result (λ found. IfSome found (HasMemberAndSettingsFromLines policy.now)) }
@@ -132,7 +132,7 @@ fn find_row_in_specs<'a>(
     command: &CommandSpellings,
     default: &'a [u8],
 ) -> Result<Option<AnswerWithMemberAndSettings<'a>>, AllocError>
-    requires specs { AreSpecsForCommand policy.now request.now.who (is_spelled_command_match command.now) specs.now }
+    requires specs { AreSpecsForRequest policy.now (is_spelled_command_match command.now) request.now specs.now }
     requires default { IsRunasDefault policy.now request.now.who default.now }
     ensures answer { IfOk result (λ found. IsAnswerByCommandTest policy.now (is_spelled_command_match command.now) request.now (option_map answer_without_member_and_settings found)) }
     ensures found { IfOk result (λ found. IfSome found (HasMemberAndSettingsFromLines policy.now)) }

@@ -8,7 +8,7 @@ ghost use Rattle.sudoers_line_rows.specs.View.{host_group_of_view, host_groups_o
 ghost use Rattle.sudoers_match_member.specs.Hits.{is_user_atom_match, is_host_atom_match};
 ghost use Rattle.sudoers_match.specs.Allows.{DecidesWhetherListAllows, ListAllows};
 ghost use Rattle.sudoers_match.specs.Answer.{IsAnswerByCommandTest, answer_of_view};
-ghost use Rattle.sudoers_match.specs.ForCommand.{AreSpecsForCommand};
+ghost use Rattle.sudoers_match.specs.ForRequest.{AreSpecsForRequest};
 ghost use Rattle.sudoers_match.specs.Found.{HasMemberAndSettingsFromLines, answer_without_member_and_settings};
 ghost use Rattle.sudoers_match.specs.Heads.{AccumulatedCommandSettings as HeadOf, empty_command_settings};
 ghost use Rattle.sudoers_match.specs.IsHead.{HoldsCommandSettings};
@@ -25,7 +25,7 @@ use crate::answer_of_row::{
 use crate::command_settings::CommandSettings;
 use crate::matching_host_groups::HostGroupPlace;
 use crate::request_verdicts::{RequestContext, RequestVerdictCache};
-use crate::specs_for_command::SpecOnLine;
+use crate::specs_for_users::SpecOnLine;
 use crate::spellings::SpelledCommandListKind;
 use crate::time_bounds::is_within_time_bounds;
 use std::alloc::AllocError;
@@ -40,7 +40,7 @@ pub fn find_last_fitting_row<'a>(
     specs: &[SpecOnLine<'a>],
 ) -> Result<Option<AnswerWithMemberAndSettings<'a>>, AllocError>
     requires question { IsValidCacheForContext asked.now question.old }
-    requires specs { AreSpecsForCommand asked.now.policy.now asked.now.request.now.who (command_test_of_context asked.now) specs.now }
+    requires specs { AreSpecsForRequest asked.now.policy.now (command_test_of_context asked.now) asked.now.request.now specs.now }
     ensures answer { IfOk result (λ found. IsAnswerByCommandTest asked.now.policy.now (command_test_of_context asked.now) asked.now.request.now (option_map answer_without_member_and_settings found)) }
     ensures found { IfOk result (λ found. IfSome found (HasMemberAndSettingsFromLines asked.now.policy.now)) }
 {

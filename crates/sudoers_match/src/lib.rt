@@ -13,7 +13,7 @@ mod options;
 mod request_verdicts;
 mod request_words;
 mod runas_default_user;
-mod specs_for_command;
+mod specs_for_users;
 mod spellings;
 mod tags;
 mod time_bounds;
@@ -26,7 +26,7 @@ pub use near_misses::{MissedPart, NearMiss, list_near_misses};
 pub use options::CommandOptions;
 pub use request_words::{join_words, make_command_with_joined_arguments};
 pub use runas_default_user::{find_runas_default_for, has_runas_default, runas_default};
-pub use specs_for_command::{SpecOnLine, find_specs_for_command, list_specs_with_lines};
+pub use specs_for_users::{SpecOnLine, find_specs_for_users, list_specs_with_lines};
 pub use spellings::{CommandSpellings, SpelledCommandListKind, make_sole_spelling};
 pub use sudoers_match_list::{
     AskFault, CommandListKind, HostListKind, LastHitOrCycle, MemberHit, MemberKind,

@@ -12,7 +12,7 @@ use crate::allowing::find_last_hit_in_list;
 use crate::command_settings::CommandSettings;
 use crate::last_row::{allows_host, allows_user};
 use crate::request_verdicts::{RequestContext, RequestVerdictCache};
-use crate::specs_for_command::list_specs_with_lines;
+use crate::specs_for_users::list_specs_with_lines;
 use crate::spellings::{CommandSpellings, SpelledCommandListKind, SpelledPathListKind};
 use crate::time_bounds::is_within_time_bounds;
 use std::alloc::{AllocError, Global};

@@ -125,7 +125,11 @@ impl<'a> RequestVerdictCache<'a> {
     }
 
     /// Returns whether the list `users` of a Runas_Spec allows the user who is asked for.
-    fn allows_requested_user(
+    ///
+    /// # Errors
+    ///
+    /// Memory ran out.
+    pub fn allows_requested_user(
         &mut self,
         asked: &RequestContext<'a, '_>,
         users: &RowsOfTable<'_, MemberRow>,

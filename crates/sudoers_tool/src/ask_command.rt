@@ -271,8 +271,10 @@ fn list_rights(
         &who,
         words.get_flag(EXPAND),
     ).map_err(layer_of_rights_fault)?;
+    let mut text = rights.text;
+    text.extend_from_slice(rights.undecided.as_slice())?;
     Ok(AnswerText {
-        text: rights.text,
+        text,
         status: if rights.has_any { 0 } else { 1 },
     })
 }

@@ -6,7 +6,7 @@ use crate::ask_command::{
 use crate::ask_subcommands::{DENIED, EXPAND, WHAT, WHO, policy_name_of_ask_words};
 use crate::ask_values::{
     AskHead, RightsLists, make_placed_list, make_rights_document, make_same_list, make_user_value,
-    make_users_document,
+    make_users_document, make_worded_values,
 };
 use crate::explaining::{explain_fault_of_words, reason_of_file};
 use crate::file_trouble::FileTrouble;
@@ -15,8 +15,9 @@ use crate::json_output::{
     make_list_of_faults, make_list_of_gather_fault, word_of_fault_kind, write_document,
 };
 use clap::ArgMatches;
+use serde_json::Value;
 use std::alloc::{AllocError, Global};
-use sudoers_ask::{find_user_facts, list_rights, list_user_facts};
+use sudoers_ask::{find_user_facts, list_rights, list_user_facts, make_undecided_facts};
 use sudoers_files::gather;
 use sudoers_report::{ErrorWords, JsonList, load_or_list_faults, make_error_value};
 use sudoers_run::{LayerFault, ToolFault, fault_text};
@@ -104,6 +105,7 @@ fn write_error_document(
             commands: JsonList::new(alloc),
             of_all: JsonList::new(alloc),
             of_some: JsonList::new(alloc),
+            undecided: Value::Array(Vec::new(alloc)),
         };
         let user = words.get_str("USER").unwrap_or("").as_bytes();
         make_rights_document(alloc, &head, &lists, None, user)?
@@ -228,10 +230,12 @@ fn make_document_of_rights(
     let rights = list_rights(alloc, policy, &who, words.get_flag(EXPAND)).map_err(
         layer_of_rights_fault,
     )?;
+    let undecided = make_undecided_facts(alloc, rights.undecided.as_slice())?;
     let lists = RightsLists {
         commands: make_placed_list(alloc, policy, rights.commands.as_slice())?,
         of_all: make_placed_list(alloc, policy, rights.defaults.of_all.as_slice())?,
         of_some: make_placed_list(alloc, policy, rights.defaults.of_some.as_slice())?,
+        undecided: make_worded_values(alloc, policy, undecided.as_slice(), false)?,
     };
     head.allowed = Some(rights.has_any);
     let user = words.get_str("USER").unwrap_or("").as_bytes();

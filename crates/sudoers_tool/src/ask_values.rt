@@ -17,12 +17,14 @@ pub struct AskHead<'a> {
     pub allowed: Option<bool>,
 }
 
-/// What a user may run: his commands, the Defaults lines that hold of all of them, and those that hold of some.
+/// What a user may run: his commands, the Defaults lines that hold of all of them, and those that hold of some; and the members that were
+/// not decided, as a list.
 #[derive(Drop)]
 pub struct RightsLists {
     pub commands: JsonList,
     pub of_all: JsonList,
     pub of_some: JsonList,
+    pub undecided: Value,
 }
 
 /// Returns where `place` of the walk of `policy` stands.
@@ -52,7 +54,7 @@ fn make_placed_value(
 
 /// Returns the texts `texts` of `policy` as values. The word of each is the part of a request in which a rule does not match, if `is_near`, and
 /// else the reason why a member was not decided.
-fn make_worded_values(
+pub fn make_worded_values(
     alloc: Global,
     policy: &Policy,
     texts: &[WordedText],
@@ -203,6 +205,7 @@ pub fn make_rights_document(
     document.add_list("errors", head.errors)?;
     document.add_member("host", &host)?;
     document.add_member("policy", &make_text_value(alloc, head.root)?)?;
+    document.add_member("undecided", &lists.undecided)?;
     document.add_member("user", &make_text_value(alloc, user)?)?;
     document.make_text()
 }

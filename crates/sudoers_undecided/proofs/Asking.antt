@@ -23,7 +23,7 @@ use Rattle.sudoers_undecided.specs.declared.wanted_members.WantedMembers.{Wanted
 use Rattle.sudoers_undecided.specs.declared.wanted_members.WantedMembers.TheVariants.{Allowing, Denying, All}
 use Rattle.sudoers_undecided.specs.FoundMembers.{HasAtomInPart}
 use Rattle.sudoers_undecided.specs.internal.Decided.{DecidesAllAliases, HoldsSwaysOfAliases, matched_by, undecided_by}
-use Rattle.sudoers_undecided.specs.internal.Collected.{AreMembersHandled, AsksMore, CountsBefore, HasMark, IsAsked, IsClosedUpTo, IsCollector, IsMemberHandled, KeepsFound, NoneMatches, has_mark, includes_wanted, marks_left, marks_with_wanted, one_unless, pending_alias}
+use Rattle.sudoers_undecided.specs.internal.Collected.{AreMembersHandled, AsksMore, CountsBefore, HasMark, IsAsked, IsClosedUpTo, IsCollector, IsMemberHandled, IsMemberUndecided, KeepsFound, NoneMatches, has_mark, includes_wanted, marks_left, marks_with_wanted, one_unless, pending_alias}
 use Rattle.sudoers_undecided.specs.internal.Wanted.{IsWantedOfFlatList, is_sign_wanted, wanted_under_negation}
 use Rattle.sudoers_undecided.proofs.Collecting.{handled_list_is_found, no_hit_in_alias, no_hit_in_parts}
 use Rattle.sudoers_undecided.proofs.Sways.{sway_has_last_hit}
@@ -90,13 +90,14 @@ marks_less (x ∷ ms) (suc n) m w at e = let ih = marks_less ms n m w at e in om
 -- ---- what stays
 
 pub keeps_itself : (c : AliasCollector) → KeepsFound c c
-keeps_itself c = record { part = refl; aliases = refl; found = λ u h. h; marks = λ n w h. h; size = refl }
+keeps_itself c = record { part = refl; aliases = refl; found = λ u h. h; undecided = λ u h. inl h; marks = λ n w h. h; size = refl }
 
 pub keeps_on : (c d e : AliasCollector) → KeepsFound c d → KeepsFound d e → KeepsFound c e
 keeps_on c d e a b = record {
   part = b.part ∙ a.part;
   aliases = b.aliases ∙ a.aliases;
   found = λ u h. b.found u (a.found u h);
+  undecided = λ u h. elim (b.undecided u h) as (λ _. ListHasElement c.found.items u ⊎ IsMemberUndecided c.aliases.now u) [ inl old ↦ a.undecided u old | inr new ↦ inr (subst (λ x. IsMemberUndecided x u) a.aliases new) ];
   marks = λ n w h. b.marks n w (a.marks n w h);
   size = b.size ∙ a.size;
 }
@@ -123,6 +124,7 @@ asks_one c e n w m at left part aliases found marks pending = record {
     part = part;
     aliases = aliases;
     found = λ u h. subst (λ us. ListHasElement us u) (sym found) h;
+    undecided = λ u h. inl (subst (λ us. ListHasElement us u) found h);
     marks = λ k v h. subst (λ ms. HasMark ms k v) (sym marks) (stay k v h);
     size = ap length marks ∙ length-set c.marks.items n (marks_with_wanted m w);
   };
@@ -163,12 +165,16 @@ asked_now ms n w m at new e = record {
 }
 
 -- one member more is found
-pub finds_one : (c e : AliasCollector) (u : UndecidedMember) → e.part ≡ c.part → e.aliases.now ≡ c.aliases.now → e.marks.items ≡ c.marks.items → e.pending.items ≡ c.pending.items → e.found.items ≡ c.found.items ++ u ∷ [] → AsksMore c e
-finds_one c e u part aliases marks pending found = record {
+pub finds_one : (c e : AliasCollector) (u : UndecidedMember) → IsMemberUndecided c.aliases.now u → e.part ≡ c.part → e.aliases.now ≡ c.aliases.now → e.marks.items ≡ c.marks.items → e.pending.items ≡ c.pending.items → e.found.items ≡ c.found.items ++ u ∷ [] → AsksMore c e
+finds_one c e u is_undecided part aliases marks pending found = record {
   keeps = record {
     part = part;
     aliases = aliases;
     found = λ v h. subst (λ us. ListHasElement us v) (sym found) (Has_front c.found.items (u ∷ []) v h);
+    undecided = λ v h. elim (Has_push c.found.items u v (subst (λ us. ListHasElement us v) found h)) as (λ _. ListHasElement c.found.items v ⊎ IsMemberUndecided c.aliases.now v) [
+      | inl old ↦ inl old
+      | inr same ↦ inr (subst (IsMemberUndecided c.aliases.now) same is_undecided)
+    ];
     marks = λ n w h. subst (λ ms. HasMark ms n w) (sym marks) h;
     size = ap length marks;
   };
@@ -298,7 +304,7 @@ asked_member_is_handled lines c e k w m n is asked = record {
       subst (λ i. IsAsked e.marks.items i (wanted_under_negation m.negated w)) same asked;
 }
 
-dropped_one : {X : Type 0} (xs : List X) (i : ℕ) (x : X) → slice_get xs i ≡ Some x → drop i xs ≡ x ∷ drop (suc i) xs
+pub dropped_one : {X : Type 0} (xs : List X) (i : ℕ) (x : X) → slice_get xs i ≡ Some x → drop i xs ≡ x ∷ drop (suc i) xs
 dropped_one [] i x at = absurd cc
 dropped_one (y ∷ xs) zero x at = let same : y ≡ x = cc in ap (λ z. z ∷ xs) same
 dropped_one (y ∷ xs) (suc i) x at = dropped_one xs i x at
@@ -348,6 +354,7 @@ pop_keeps c d part aliases found marks = record {
   part = part;
   aliases = aliases;
   found = λ u h. subst (λ us. ListHasElement us u) (sym found) h;
+  undecided = λ u h. inl (subst (λ us. ListHasElement us u) found h);
   marks = λ n w h. subst (λ ms. HasMark ms n w) (sym marks) h;
   size = ap length marks;
 }

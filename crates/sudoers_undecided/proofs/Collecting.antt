@@ -40,7 +40,7 @@ no_hit_in_alias test n fs e = no_hit_before_negation n (last_hit_of_list test fs
 
 -- ---- wanted atoms, by the list
 
-all_stay_wanted : (n : Bool) (w : WantedMembers) → is_all_wanted (wanted_under_negation n w) ≡ is_all_wanted w
+pub all_stay_wanted : (n : Bool) (w : WantedMembers) → is_all_wanted (wanted_under_negation n w) ≡ is_all_wanted w
 all_stay_wanted n All = refl
 all_stay_wanted true Allowing = refl
 all_stay_wanted false Allowing = refl

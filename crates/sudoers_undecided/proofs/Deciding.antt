@@ -201,13 +201,15 @@ sway_tells_standing lines d own ms sway w st holds could = record {
         could ∙ ap (could_be_swayed_from st.holds) says,
       );
   some = λ _. (w.flat, w.is_flat);
+  turned = λ _. (w.flat, w.is_flat);
 }
 
-pub list_to_decide_stands : (lines : List Line) (d : DecidedAliases) → DecidesAllAliases lines d → (own : Bool) (ms : List Member) → HasAliasToDecide lines d ms → (st : PartStanding) → st.holds ≡ false
+pub list_to_decide_stands : (lines : List Line) (d : DecidedAliases) → DecidesAllAliases lines d → (own : Bool) (ms : List Member) → HasAliasToDecide lines d ms → (st : PartStanding) → st.holds ≡ false → st.could_turn ≡ false
     → IsStandingOfList d.kind lines (undecided_by d) (matched_by d) own ms st
-list_to_decide_stands lines d all own ms h st e = record {
+list_to_decide_stands lines d all own ms h st e g = record {
   told = λ flat f. absurd (flat_list_has_none_to_decide lines d all ms flat f h);
   some = λ t. let clash : false ≡ true = sym e ∙ t in absurd cc;
+  turned = λ t. let clash : false ≡ true = sym g ∙ t in absurd cc;
 }
 
 pub none_if_not_some : {X : Type 0} (o : Option X) → is_some o ≡ false → o ≡ None

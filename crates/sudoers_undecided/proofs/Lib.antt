@@ -11,10 +11,18 @@ pub mod Deciding
 pub mod DefinitionLines
 pub mod Collecting
 pub mod Asking
+pub mod Origins
 pub mod Standings
 pub mod Counting
+pub mod AddedLists
 pub mod RowCounts
+mod CommandAtoms
+pub mod RowNames
 pub mod RowSteps
 pub mod Loops
 pub mod SettingCounts
 pub mod Listed
+mod SpecLines
+mod UserAndHostLists
+mod OpenMembers
+mod ClosedAnswers

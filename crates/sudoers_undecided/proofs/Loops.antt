@@ -31,6 +31,7 @@ use Rattle.sudoers_match.specs.IsHead.{HoldsCommandSettings}
 use Rattle.sudoers_match.specs.Rows.{AreRowsPerFlatAtomOfCommand, AreRowsPerFlatAtomOfHostGroup, PrivilegeRow, privilege_row_of}
 use Rattle.sudoers_match.specs.Specs.{IsConcatenationOfParts}
 use Rattle.sudoers_match.proofs.Gathered.{list_from_index_is_element_and_rest, rest_after_first_is_from_next}
+use Rattle.sudoers_match.proofs.Lasts.{all_append}
 use Rattle.sudoers_match.proofs.Rowed.{joined_all}
 use Rattle.sudoers_undecided.specs.declared.counted_lists.CountedLists.{CountedLists}
 use Rattle.sudoers_undecided.specs.declared.decided_aliases.PartStanding.{PartStanding}
@@ -40,9 +41,10 @@ use Rattle.sudoers_undecided.specs.declared.request_part.RequestPart.TheVariants
 use Rattle.sudoers_undecided.specs.declared.wanted_members.CountedList.{CountedList}
 use Rattle.sudoers_undecided.specs.MatchTests.{match_tests_of_request, undecided_by_files_or_paths}
 use Rattle.sudoers_undecided.specs.UndecidedAnswer.{CouldChangeWhetherRowFits, RowMayFitRequest}
-use Rattle.sudoers_undecided.specs.internal.Counted.{AreListsOfCommand, HasNotedLists, IsHostsStanding, IsUsersStanding, CountsCommandsSoFar, CountsPartsSoFar, CountsRows, CoversAtom, CoversRows, FitsNot, HaveGrown, IsPartStanding, IsWantedOfGroupLists}
+use Rattle.sudoers_undecided.specs.internal.Counted.{AreCountedListsFlat, AreGroupListsFlat, AreListsOfCommand, CouldChangeOneOfRows, HasNotedLists, HaveSameLists, IsHostsStanding, IsUsersStanding, CountsCommandsSoFar, CountsPartsSoFar, CountsRows, CoversAtom, CoversRows, FitsNot, HaveGrown, IsPartStanding, IsWantedOfGroupLists, NamesOnlyAtomsOfRows, counted_list}
 use Rattle.sudoers_undecided.specs.internal.Parts.{may_part_hold}
 use Rattle.sudoers_undecided.specs.internal.Wanted.{IsWantedOfLists}
+use Rattle.sudoers_undecided.proofs.AddedLists.{same_lists_back, same_lists_have_grown}
 
 pub have_grown_by_nothing : (c : CountedLists) → HaveGrown c c
 have_grown_by_nothing c = record { users = λ x y. y; hosts = λ x y. y; runas_users = λ x y. y; runas_groups = λ x y. y; commands = λ x y. y; default = λ x. x }
@@ -94,6 +96,32 @@ module _ (lines : List Line) (r : Request) (scopes : DefaultScopes) where
     covers_on d e rows more a.1 f b,
   )
 
+  abbrev IsNamedOnlyByRows : CountedLists → List PrivilegeRow → RequestPart → SignedAtom → Type 0
+  IsNamedOnlyByRows c rows p s = (CoversAtom lines r scopes c p s × AllByRecursion (FitsNot lines r) rows) ⊎ CouldChangeOneOfRows lines r rows p s
+
+  names_on : (c d e : CountedLists) (rows more : List PrivilegeRow) → NamesOnlyAtomsOfRows lines r scopes c d rows → NamesOnlyAtomsOfRows lines r scopes d e more → NamesOnlyAtomsOfRows lines r scopes c e (rows ++ more)
+  names_on c d e rows more a b p s w = elim (b p s w) as (λ _. IsNamedOnlyByRows c (rows ++ more) p s) [
+    | inl old ↦ elim (a p s old.0) as (λ _. IsNamedOnlyByRows c (rows ++ more) p s) [
+      | inl first ↦ inl (first.0, all_append (FitsNot lines r) rows more first.1 old.1)
+      | inr one ↦ inr (record {
+        row = one.row;
+        before = one.before;
+        after = one.after ++ more;
+        stands = ap (λ xs. xs ++ more) one.stands ∙ append_assoc one.before (one.row ∷ one.after) more;
+        none_behind = all_append (FitsNot lines r) one.after more one.none_behind old.1;
+        could = one.could;
+      })
+    ]
+    | inr one ↦ inr (record {
+      row = one.row;
+      before = rows ++ one.before;
+      after = one.after;
+      stands = ap (λ xs. rows ++ xs) one.stands ∙ sym (append_assoc rows one.before (one.row ∷ one.after));
+      none_behind = one.none_behind;
+      could = one.could;
+    })
+  ]
+
   pub counts_on : (c d e : CountedLists) (rows more : List PrivilegeRow) → CountsRows lines r scopes c d rows → CountsRows lines r scopes d e more → CountsRows lines r scopes c e (rows ++ more)
   counts_on c d e rows more a b = record {
     fits = elim b.fits as (λ _. (AllByRecursion (FitsNot lines r) (rows ++ more) → ⊥) ⊎ HaveGrown c e) [
@@ -104,19 +132,43 @@ module _ (lines : List Line) (r : Request) (scopes : DefaultScopes) where
       ]
     ];
     covers = covers_on d e rows more a.covers b.fits b.covers;
+    only = names_on c d e rows more a.only b.only;
+    flats = λ f. b.flats (a.flats f);
   }
 
-  pub counts_after_growth : (c d e : CountedLists) (rows : List PrivilegeRow) → HaveGrown c d → CountsRows lines r scopes d e rows → CountsRows lines r scopes c e rows
-  counts_after_growth c d e rows g b = record {
-    fits = elim b.fits as (λ _. (AllByRecursion (FitsNot lines r) rows → ⊥) ⊎ HaveGrown c e) [ inl fits ↦ inl fits | inr grown ↦ inr (grown_on c d e g grown) ];
-    covers = b.covers;
-  }
+  lists_stay_flat : (c d : CountedLists) → HaveSameLists c d → AreCountedListsFlat lines r c → AreCountedListsFlat lines r d
+  lists_stay_flat c d s f =
+      let back = same_lists_have_grown d c (same_lists_back c d s) in
+      record { users = λ x y. f.users x (back.users x y); hosts = λ x y. f.hosts x (back.hosts x y); runas_users = λ x y. f.runas_users x (back.runas_users x y); runas_groups = of_groups r.target_group f.runas_groups; commands = λ x y. f.commands x (back.commands x y) }
+    where
+      of_groups : (g : Option Group) → AreGroupListsFlat lines g c.runas_groups.items → AreGroupListsFlat lines g d.runas_groups.items
+      of_groups None f = tt
+      of_groups (Some g) f = λ x y. f x (subst (λ xs. ListHasElement xs x) s.runas_groups y)
 
-  pub no_rows_count : (c d : CountedLists) → HaveGrown c d → CountsRows lines r scopes c d []
-  no_rows_count c d g = record { fits = inr g; covers = tt }
+  pub counts_after_same_lists : (c d e : CountedLists) (rows : List PrivilegeRow) → HaveSameLists c d → CountsRows lines r scopes d e rows → CountsRows lines r scopes c e rows
+  counts_after_same_lists c d e rows s b =
+      let grown = same_lists_have_grown c d s in
+      let back = same_lists_have_grown d c (same_lists_back c d s) in
+      record {
+        fits = elim b.fits as (λ _. (AllByRecursion (FitsNot lines r) rows → ⊥) ⊎ HaveGrown c e) [ inl fits ↦ inl fits | inr more ↦ inr (grown_on c d e grown more) ];
+        covers = b.covers;
+        only = λ p t w. elim (b.only p t w) as (λ _. IsNamedOnlyByRows c rows p t) [
+          | inl old ↦ inl (atom_stays_covered d c back p t old.0, old.1)
+          | inr one ↦ inr one
+        ];
+        flats = λ f. b.flats (lists_stay_flat c d s f);
+      }
+
+  pub no_rows_count : (c d : CountedLists) → HaveSameLists c d → CountsRows lines r scopes c d []
+  no_rows_count c d s = record {
+    fits = inr (same_lists_have_grown c d s);
+    covers = tt;
+    only = λ p t w. inl (atom_stays_covered d c (same_lists_have_grown d c (same_lists_back c d s)) p t w, tt);
+    flats = lists_stay_flat c d s;
+  }
 
   module _ {X : Type 0} (Part : ℕ → X → List PrivilegeRow → Type 0) (all : List X) where
-    pub parts_none : (c d : CountedLists) → HaveGrown c d → CountsPartsSoFar Part lines r scopes c d all 0 all
+    pub parts_none : (c d : CountedLists) → HaveSameLists c d → CountsPartsSoFar Part lines r scopes c d all 0 all
     parts_none c d g rows j = ([], rows, refl, no_rows_count c d g, j)
 
     pub parts_more : (c d e : CountedLists) (i : ℕ) (x : X) (left more : List X) → left ≡ x ∷ more → CountsPartsSoFar Part lines r scopes c d all i left
@@ -140,7 +192,7 @@ module _ (lines : List Line) (r : Request) (scopes : DefaultScopes) where
   -- ---- the commands of a list
 
   module _ (users hosts : List Member) (cs : List CmdSpec) where
-    pub commands_none : (c d : CountedLists) → HaveGrown c d → (held : HeadHeld) (runas : Option RunasView) → HoldsCommandSettings held empty_command_settings → runas ≡ None
+    pub commands_none : (c d : CountedLists) → HaveSameLists c d → (held : HeadHeld) (runas : Option RunasView) → HoldsCommandSettings held empty_command_settings → runas ≡ None
         → CountsCommandsSoFar lines r scopes c d users hosts cs 0 held runas
     commands_none c d g held runas is none = record {
       head = empty_command_settings;
@@ -175,12 +227,18 @@ module _ (lines : List Line) (r : Request) (scopes : DefaultScopes) where
   unfit_rows_count c [] none = tt
   unfit_rows_count c (row ∷ rows) none = ((λ _ p s w. absurd (none.0 w.may)), unfit_rows_count c rows none.1)
 
+  unfit_rows_fit_not : (rows : List PrivilegeRow) → AllByRecursion (MayFitNot lines r) rows → AllByRecursion (FitsNot lines r) rows
+  unfit_rows_fit_not [] none = tt
+  unfit_rows_fit_not (row ∷ rows) none = ((λ fits. none.0 (λ p. inl (fits p))), unfit_rows_fit_not rows none.1)
+
   pub unfit_group_counts : (c : CountedLists) (i : ℕ) (users : List Member) (j : ℕ) (g : HostGroup) (rows : List PrivilegeRow)
       → ((k : ℕ) (head : AccumulatedCommandSettings) (s : SignedAtom) → RowMayFitRequest lines (undecided_by_files_or_paths r) (match_tests_of_request r) r (privilege_row_of i j users g.hosts k head s) → ⊥)
       → AreRowsPerFlatAtomOfHostGroup lines i users j g rows → CountsRows lines r scopes c c rows
   unfit_group_counts c i users j g rows none are = record {
     fits = inr (have_grown_by_nothing c);
-    covers = unfit_rows_count c rows (joined_all (AreRowsPerFlatAtomOfCommand lines i j users g.hosts) (MayFitNot lines r) each 0 (commands_with_settings empty_command_settings g.commands) rows are);
+    covers = unfit_rows_count c rows unfit;
+    only = λ p s w. inl (w, unfit_rows_fit_not rows unfit);
+    flats = λ f. f;
   }
     where
       of_atoms : (k : ℕ) (head : AccumulatedCommandSettings) (flat : List SignedAtom) → AllByRecursion (MayFitNot lines r) (map (privilege_row_of i j users g.hosts k head) flat)
@@ -189,6 +247,9 @@ module _ (lines : List Line) (r : Request) (scopes : DefaultScopes) where
 
       each : (k : ℕ) (x : AccumulatedCommandSettings × Member) (more : List PrivilegeRow) → AreRowsPerFlatAtomOfCommand lines i j users g.hosts k x more → AllByRecursion (MayFitNot lines r) more
       each k x more are = subst (AllByRecursion (MayFitNot lines r)) (sym are.2) (of_atoms k x.0 are.0)
+
+      unfit : AllByRecursion (MayFitNot lines r) rows
+      unfit = joined_all (AreRowsPerFlatAtomOfCommand lines i j users g.hosts) (MayFitNot lines r) each 0 (commands_with_settings empty_command_settings g.commands) rows are
 
   pub may_hold_or_turn : {P : Type 0} {T W : SignedAtom → Type 0} (st : PartStanding) → IsPartStanding P T W st → may_part_hold st ≡ false → P ⊎ ((s : SignedAtom) × T s) → ⊥
   may_hold_or_turn st x e (inl p) = neither st.holds st.could_turn e (inl (x.held p))
@@ -223,6 +284,16 @@ runas_goes_on written before next earlier e is = ap (option_map runas_of_view) e
 
 pub noted_at_any_time : (c : CountedLists) (who : UsersAndHosts) (runas : RunasOfCommands) (a b : Bool) → HasNotedLists c (lists_of who runas a) → HasNotedLists c (lists_of who runas b)
 noted_at_any_time c who runas a b h = record { users = h.users; hosts = h.hosts; runas_users = h.runas_users; runas_groups = h.runas_groups }
+
+pub noted_at_start : (c e : CountedLists) (who : UsersAndHosts) (runas : RunasOfCommands) → HaveSameLists c e → e.has_users ≡ c.has_users → e.has_hosts ≡ c.has_hosts → e.has_runas_users ≡ false → e.has_runas_groups ≡ false
+    → (c.has_users ≡ true → ListHasElement c.users.items (counted_list who.line who.users who.users_standing.holds)) → (c.has_hosts ≡ true → ListHasElement c.hosts.items (counted_list who.line who.hosts who.hosts_standing.holds))
+    → HasNotedLists e (lists_of who runas true)
+noted_at_start c e who runas s users hosts no_users no_groups u h = record {
+  users = λ has. subst (λ xs. ListHasElement xs (counted_list who.line who.users who.users_standing.holds)) (sym s.users) (u (sym users ∙ has));
+  hosts = λ has. subst (λ xs. ListHasElement xs (counted_list who.line who.hosts who.hosts_standing.holds)) (sym s.hosts) (h (sym hosts ∙ has));
+  runas_users = λ has. let clash : true ≡ false = sym has ∙ no_users in absurd cc;
+  runas_groups = λ has. let clash : true ≡ false = sym has ∙ no_groups in absurd cc;
+}
 
 pub are_lists_of_command : (lines : List Line) (r : Request) (scopes : DefaultScopes) (who : UsersAndHosts) (runas : RunasOfCommands) (head : AccumulatedCommandSettings) (l : CommandLists)
     → IsWhoStanding lines r who → IsRunasStanding lines r scopes runas → option_map runas_of_view runas.runas ≡ head.runas → l ≡ lists_of who runas l.standing.is_in_time

@@ -32,7 +32,7 @@ use Rattle.sudoers_undecided.specs.ListSway.{may_list_match, sway_of_atoms, sway
 use Rattle.sudoers_undecided.specs.MatchTests.{match_tests_of_request, undecided_by_files_or_paths}
 use Rattle.sudoers_undecided.specs.RowParts.{CouldTurnRowPart, CouldTurnRunasSpecGroups, CouldTurnRunasSpecUsers, RowPartHolds, RunasSpecAllowsGroupByTests, RunasSpecAllowsUserByTests}
 use Rattle.sudoers_undecided.specs.UndecidedAnswer.{CouldChangeWhetherRowFits, RowFitsRequestByTests, RowMayFitRequest}
-use Rattle.sudoers_undecided.specs.internal.Counted.{AreListsOfCommand, CountsRows, CoversAtom, CoversRows, FitsNot, HasListsOfParts, HasRunasGroups, HasRunasUsers, HaveGrown, IsPartStanding, IsWantedGroupOf, IsWantedOfGroupLists, IsWantedRunasGroup, IsWantedRunasUser, command_list, hosts_list, runas_groups_list, runas_users_list, users_list}
+use Rattle.sudoers_undecided.specs.internal.Counted.{AreCountedListsFlat, AreListsOfCommand, CountsRows, CoversAtom, CoversRows, FitsNot, HasListsOfParts, HasRunasGroups, HasRunasUsers, HaveGrown, IsPartStanding, IsWantedGroupOf, IsWantedOfGroupLists, IsWantedRunasGroup, IsWantedRunasUser, NamesOnlyAtomsOfRows, command_list, hosts_list, runas_groups_list, runas_users_list, users_list}
 use Rattle.sudoers_undecided.specs.internal.Parts.{all_parts, does_row_hold, may_part_hold, may_row_hold, parts_without_hold_of}
 
 -- ---- booleans
@@ -41,7 +41,7 @@ and_true : (a b : Bool) → a ≡ true → b ≡ true → (a && b) ≡ true
 and_true true b p q = q
 and_true false b p q = absurd cc
 
-and_parts : (a b : Bool) → (a && b) ≡ true → (a ≡ true) × (b ≡ true)
+pub and_parts : (a b : Bool) → (a && b) ≡ true → (a ≡ true) × (b ≡ true)
 and_parts true b e = (refl, e)
 and_parts false b e = absurd cc
 
@@ -53,7 +53,7 @@ or_right : (a b : Bool) → b ≡ true → (a || b) ≡ true
 or_right true b e = refl
 or_right false b e = e
 
-or_parts : (a b : Bool) → (a || b) ≡ true → (a ≡ true) ⊎ (b ≡ true)
+pub or_parts : (a b : Bool) → (a || b) ≡ true → (a ≡ true) ⊎ (b ≡ true)
 or_parts true b e = inl refl
 or_parts false b e = inr e
 
@@ -78,7 +78,7 @@ matching_atom_hits test (t ∷ fs) s (inr h) e = by (last_hit_of_list test fs) (
     by None e = absurd cc
     by (Some x) e = refl
 
-hit_is_of_match : (b : Bool) (x : MemberHit) → is_some {T = MemberHit} (if b then Some x else None) ≡ true → b ≡ true
+pub hit_is_of_match : (b : Bool) (x : MemberHit) → is_some {T = MemberHit} (if b then Some x else None) ≡ true → b ≡ true
 hit_is_of_match true x e = refl
 hit_is_of_match false x e = absurd cc
 
@@ -174,12 +174,12 @@ module _ (lines : List Line) (r : Request) (scopes : DefaultScopes) (head : Accu
   abbrev Turns : SignedAtom → RequestPart → SignedAtom → Type 0
   Turns s = CouldTurnRowPart lines (undecided_by_files_or_paths r) (match_tests_of_request r) r (row s)
 
-  runas_users : IsPartStanding (RunasSpecAllowsUserByTests lines (match_tests_of_request r) r.who.user r.target head.runas) (CouldTurnRunasSpecUsers lines (undecided_by_files_or_paths r) (match_tests_of_request r) head.runas)
+  pub runas_users : IsPartStanding (RunasSpecAllowsUserByTests lines (match_tests_of_request r) r.who.user r.target head.runas) (CouldTurnRunasSpecUsers lines (undecided_by_files_or_paths r) (match_tests_of_request r) head.runas)
       (IsWantedRunasUser lines r scopes l.standing.runas_users l.runas) l.standing.runas_users
   runas_users = subst (λ (o : Option RunasSpec). IsPartStanding (RunasSpecAllowsUserByTests lines (match_tests_of_request r) r.who.user r.target o) (CouldTurnRunasSpecUsers lines (undecided_by_files_or_paths r) (match_tests_of_request r) o)
       (IsWantedRunasUser lines r scopes l.standing.runas_users l.runas) l.standing.runas_users) h.runas_are h.runas_users
 
-  runas_groups : IsPartStanding (RunasSpecAllowsGroupByTests lines (match_tests_of_request r) r.who.user r.target r.target_group head.runas) (CouldTurnRunasSpecGroups lines (undecided_by_files_or_paths r) (match_tests_of_request r) r.target r.target_group head.runas)
+  pub runas_groups : IsPartStanding (RunasSpecAllowsGroupByTests lines (match_tests_of_request r) r.who.user r.target r.target_group head.runas) (CouldTurnRunasSpecGroups lines (undecided_by_files_or_paths r) (match_tests_of_request r) r.target r.target_group head.runas)
       (IsWantedRunasGroup lines r l.standing.runas_groups l.runas) l.standing.runas_groups
   runas_groups = subst (λ (o : Option RunasSpec). IsPartStanding (RunasSpecAllowsGroupByTests lines (match_tests_of_request r) r.who.user r.target r.target_group o) (CouldTurnRunasSpecGroups lines (undecided_by_files_or_paths r) (match_tests_of_request r) r.target r.target_group o)
       (IsWantedRunasGroup lines r l.standing.runas_groups l.runas) l.standing.runas_groups) h.runas_are h.runas_groups
@@ -270,12 +270,18 @@ module _ (lines : List Line) (r : Request) (scopes : DefaultScopes) (head : Accu
   covers_each e flat each before [] is = tt
   covers_each e flat each before (s ∷ rest) is = ((λ none p t w. each before rest s is none p t w), covers_each e flat each (before ++ s ∷ []) rest (is ∙ sym (append_assoc before (s ∷ []) rest)))
 
+  pub no_row_fits : (fs : List SignedAtom) → ((s : SignedAtom) → ListHasElement fs s → FitsNot lines r (row s)) → AllByRecursion (FitsNot lines r) (map row fs)
+  no_row_fits [] n = tt
+  no_row_fits (s ∷ fs) n = (n s (inl refl), no_row_fits fs (λ u x. n u (inr x)))
+
   -- no row may fit
   pub no_row_may_fit : (c : CountedLists) (flat : List SignedAtom) → ((s : SignedAtom) → ListHasElement flat s → RowMayFitRequest lines (undecided_by_files_or_paths r) (match_tests_of_request r) r (row s) → ⊥)
       → CountsRows lines r scopes c c (map row flat)
   no_row_may_fit c flat none = record {
     fits = inr (record { users = λ x y. y; hosts = λ x y. y; runas_users = λ x y. y; runas_groups = λ x y. y; commands = λ x y. y; default = λ x. x });
     covers = covers_each c flat (λ before after s is _ p t w. absurd (none s (stands_in before after flat s is) w.may)) [] flat refl;
+    only = λ p t w. inl (w, no_row_fits flat (λ s x fits. none s x (λ p. inl (fits p))));
+    flats = λ f. f;
   }
 
   module _ (member : RowsOfTable MemberRow) (flat : List SignedAtom) (is_flat : IsFlatListOf Cmnd lines (members_of_view member) flat) (e : CountedLists) where
@@ -284,8 +290,9 @@ module _ (lines : List Line) (r : Request) (scopes : DefaultScopes) (head : Accu
 
     -- a command that does not decide
     pub command_is_added : (c : CountedLists) → HaveGrown c e → HasListsOfParts e l (parts_without_hold_of l.standing) → ListHasElement e.commands.items (command_list l.line member All)
-        → (does_row_hold l.standing ≡ true → is_some (last_hit_of_list test flat) ≡ true → ⊥) → CountsRows lines r scopes c e (map row flat)
-    command_is_added c grown has all not_both = record { fits = inr grown; covers = covers_each e flat each [] flat refl }
+        → (does_row_hold l.standing ≡ true → is_some (last_hit_of_list test flat) ≡ true → ⊥) → NamesOnlyAtomsOfRows lines r scopes c e (map row flat) → (AreCountedListsFlat lines r c → AreCountedListsFlat lines r e)
+        → CountsRows lines r scopes c e (map row flat)
+    command_is_added c grown has all not_both only flats = record { fits = inr grown; covers = covers_each e flat each [] flat refl; only = only; flats = flats }
       where
         flag : {P : Type 0} {T W : SignedAtom → Type 0} (st : PartStanding) → IsPartStanding P T W st → (P → ⊥) → not st.holds ≡ true
         flag st x n = elim (true_or_false st.holds) as (λ _. not st.holds ≡ true) [ inl t ↦ absurd (n (x.holds t)) | inr f ↦ ap not f ]
@@ -314,8 +321,9 @@ module _ (lines : List Line) (r : Request) (scopes : DefaultScopes) (head : Accu
 
     -- a command that decides
     pub command_decides : (c : CountedLists) → HasListsOfParts e l all_parts → ListHasElement e.commands.items (command_list l.line member Allowing) → ListHasElement e.commands.items (command_list l.line member Denying)
-        → does_row_hold l.standing ≡ true → is_some (last_hit_of_list test flat) ≡ true → CountsRows lines r scopes c e (map row flat)
-    command_decides c has allowing denying holds hit = record { fits = inl fits; covers = covers_each e flat each [] flat refl }
+        → does_row_hold l.standing ≡ true → is_some (last_hit_of_list test flat) ≡ true → NamesOnlyAtomsOfRows lines r scopes c e (map row flat) → (AreCountedListsFlat lines r c → AreCountedListsFlat lines r e)
+        → CountsRows lines r scopes c e (map row flat)
+    command_decides c has allowing denying holds hit only flats = record { fits = inl fits; covers = covers_each e flat each [] flat refl; only = only; flats = flats }
       where
         none_at : (fs : List SignedAtom) (s : SignedAtom) → ListHasElement fs s → AllByRecursion (FitsNot lines r) (map row fs) → RowFitsRequestByTests lines (match_tests_of_request r) r (row s) → ⊥
         none_at [] s x none f = x

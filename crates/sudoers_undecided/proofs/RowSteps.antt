@@ -22,15 +22,18 @@ use Rattle.sudoers_undecided.specs.declared.decided_aliases.DecidedAliases.{Deci
 use Rattle.sudoers_undecided.specs.declared.default_scopes.DefaultScopes.{DefaultScopes}
 use Rattle.sudoers_undecided.specs.declared.list_sway.ListSway.{ListSway}
 use Rattle.sudoers_undecided.specs.declared.request_part.RequestPart.TheVariants as part
+use Rattle.sudoers_undecided.specs.declared.wanted_members.CountedList.{CountedList}
 use Rattle.sudoers_undecided.specs.declared.wanted_members.WantedMembers.TheVariants.{Allowing, Denying, All}
 use Rattle.sudoers_undecided.specs.ListSway.{may_list_match, sway_of_atoms}
 use Rattle.sudoers_undecided.specs.MatchTests.{match_tests_of_request, undecided_by_files_or_paths}
 use Rattle.sudoers_undecided.specs.UndecidedAnswer.{RowMayFitRequest}
-use Rattle.sudoers_undecided.specs.internal.Counted.{AreDecidedBy, AreListsOfCommand, CountsRows, HasListsOfParts, HaveGrown, command_list}
+use Rattle.sudoers_undecided.specs.internal.Counted.{AddsOnlyListsOfParts, AreDecidedBy, AreListsOfCommand, CountsRows, HasListsOfParts, HasOnlyListsOfParts, HaveGrown, command_list}
 use Rattle.sudoers_undecided.specs.internal.Decided.{HasAliasToDecide, IsSwayOfList, matched_by, undecided_by}
 use Rattle.sudoers_undecided.specs.internal.Parts.{all_parts, does_row_hold, may_row_hold, parts_without_hold_of}
+use Rattle.sudoers_undecided.specs.internal.Wanted.{AreFlat}
 use Rattle.sudoers_undecided.proofs.Deciding.{flat_list_has_none_to_decide}
 use Rattle.sudoers_undecided.proofs.RowCounts.{atom_may_match, command_decides, command_is_added, no_row_may_fit, row_may_hold}
+use Rattle.sudoers_undecided.proofs.RowNames.{added_command_names, added_lists_are_flat, deciding_command_names, no_lists_are_flat}
 use Rattle.sudoers_undecided.proofs.Sways.{sway_has_last_hit}
 
 pub undecided_list_is_not_flat : (lines : List Line) (k : Kind) (undecided : SignedAtom → Bool) (test : Atom → Bool) (d : DecidedAliases) → AreDecidedBy lines k undecided test d → (ms : List Member) → HasAliasToDecide lines d ms
@@ -90,14 +93,39 @@ module _ (lines : List Line) (r : Request) (scopes : DefaultScopes) (head : Accu
     not_both true b e p q = let clash : true ≡ false = sym q ∙ e in absurd cc
     not_both false b e p q = absurd cc
 
+    commands_are_flat : (xs : List CountedList) → ((x : CountedList) → ListHasElement xs x → x.members ≡ member) → AreFlat Cmnd lines xs
+    commands_are_flat xs same x stands = record { flat = are.0; is_flat = subst (λ (m : RowsOfTable MemberRow). IsFlatListOf Cmnd lines (members_of_view m) are.0) (sym (same x stands)) is_flat }
+
+    allowing_and_denying : (x : CountedList) → ListHasElement (command_list l.line member Allowing ∷ command_list l.line member Denying ∷ []) x → x.members ≡ member
+    allowing_and_denying x (inl e) = ap (λ (y : CountedList). y.members) (sym e)
+    allowing_and_denying x (inr (inl e)) = ap (λ (y : CountedList). y.members) (sym e)
+    allowing_and_denying x (inr (inr n)) = absurd n
+
+    all_alone : (x : CountedList) → ListHasElement (command_list l.line member All ∷ []) x → x.members ≡ member
+    all_alone x (inl e) = ap (λ (y : CountedList). y.members) (sym e)
+    all_alone x (inr n) = absurd n
+
     pub deciding_command_counts : (c e : CountedLists) → HasListsOfParts e l all_parts → ListHasElement e.commands.items (command_list l.line member Allowing) → ListHasElement e.commands.items (command_list l.line member Denying)
-        → (does_row_hold l.standing && is_some sway.hit) ≡ true → CountsRows lines r scopes c e rows
-    deciding_command_counts c e has allowing denying decides =
+        → (does_row_hold l.standing && is_some sway.hit) ≡ true → may_row_hold l.standing ≡ true → HasOnlyListsOfParts e l all_parts (command_list l.line member Allowing ∷ command_list l.line member Denying ∷ [])
+        → CountsRows lines r scopes c e rows
+    deciding_command_counts c e has allowing denying decides may only =
         let x = both (does_row_hold l.standing) (is_some sway.hit) decides in
-        counted c e (command_decides lines r scopes head l h i j k member are.0 is_flat e c has allowing denying x.0 (ap is_some (sym hit_is) ∙ x.1))
+        let hit = ap is_some (sym hit_is) ∙ x.1 in
+        let commands = command_list l.line member Allowing ∷ command_list l.line member Denying ∷ [] in
+        counted c e
+        (command_decides lines r scopes head l h i j k member are.0 is_flat e c has allowing denying x.0 hit
+        (deciding_command_names lines r scopes head l h i j k member are.0 is_flat may x.0 hit c e only)
+        (λ _. added_lists_are_flat lines r scopes head l h i j k may only.start e all_parts commands only.only (commands_are_flat commands allowing_and_denying) (no_lists_are_flat lines r only.start only.empty)))
 
     pub added_command_counts : (c e : CountedLists) → HaveGrown c e → HasListsOfParts e l (parts_without_hold_of l.standing) → ListHasElement e.commands.items (command_list l.line member All)
-        → (does_row_hold l.standing && is_some sway.hit) ≡ false → CountsRows lines r scopes c e rows
-    added_command_counts c e grown has all undone =
-        counted c e (command_is_added lines r scopes head l h i j k member are.0 is_flat e c grown has all
-        (λ holds hit. not_both (does_row_hold l.standing) (is_some sway.hit) undone holds (ap is_some hit_is ∙ hit)))
+        → (does_row_hold l.standing && is_some sway.hit) ≡ false → may_row_hold l.standing ≡ true → may_list_match sway ≡ true
+        → AddsOnlyListsOfParts c e l (parts_without_hold_of l.standing) (command_list l.line member All ∷ []) → CountsRows lines r scopes c e rows
+    added_command_counts c e grown has all undone may matters only =
+        let commands = command_list l.line member All ∷ [] in
+        counted c e
+        (command_is_added lines r scopes head l h i j k member are.0 is_flat e c grown has all neither
+        (added_command_names lines r scopes head l h i j k member are.0 is_flat may neither (ap may_list_match (sym it) ∙ matters) c e only)
+        (added_lists_are_flat lines r scopes head l h i j k may c e (parts_without_hold_of l.standing) commands only (commands_are_flat commands all_alone)))
+      where
+        neither : does_row_hold l.standing ≡ true → is_some (last_hit_of_list test are.0) ≡ true → ⊥
+        neither holds hit = not_both (does_row_hold l.standing) (is_some sway.hit) undone holds (ap is_some hit_is ∙ hit)

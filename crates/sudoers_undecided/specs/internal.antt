@@ -7,3 +7,5 @@ pub mod Counted
 pub mod Parts
 pub mod Looped
 pub mod Settings
+pub mod Rights
+pub mod Open

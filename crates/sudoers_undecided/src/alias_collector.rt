@@ -4,13 +4,16 @@ ghost use Rattle.std.specs.Prelude.{◌≡◌, ◌<◌, [], ◌∷◌, length, n
 ghost use Rattle.std.specs.Option.{is_some};
 ghost use Rattle.sudoers_grammar.specs.Node.{Member as MemberOf};
 ghost use Rattle.sudoers_line_rows.specs.View.{member_of_view, members_of_view};
+ghost use Rattle.sudoers_tree.specs.Line.{Line as LineOf};
+ghost use Rattle.sudoers_check.specs.Chain.{ListHasElement};
 ghost use Rattle.sudoers_match_list.specs.Flat.{SignedAtom, signed_atom_of_member};
-ghost use Rattle.sudoers_match_list.specs.Search.{members_of_definition_number};
+ghost use Rattle.sudoers_match_list.specs.Search.{alias_number_of_atom, members_of_definition_number};
+ghost use Rattle.sudoers_undecided.specs.declared.wanted_members.CountedList.{CountedList as CountedListOf};
 ghost use Rattle.sudoers_undecided.specs.FoundMembers.{HasAtomInPart};
-ghost use Rattle.sudoers_undecided.specs.internal.Collected.{AreMembersHandled, AsksMore, IsAsked, IsCollector, IsMemberHandled, IsSettledCollector, KeepsFound, NoneMatches, includes_wanted, marks_with_wanted};
+ghost use Rattle.sudoers_undecided.specs.internal.Collected.{AreMembersHandled, AsksMore, CollectsOnlyOf, IsAsked, IsCollector, IsCollectorOfLists, IsMemberHandled, IsMissedAlias, IsSettledCollector, KeepsFound, MatchesNothing, NoneMatches, includes_wanted, marks_with_wanted};
 ghost use Rattle.sudoers_undecided.specs.internal.Decided.{DecidesAllAliases, matched_by, undecided_by, IsMatchingAlias};
 ghost use Rattle.sudoers_undecided.specs.internal.Definitions.{HoldsDefinitions};
-ghost use Rattle.sudoers_undecided.specs.internal.Wanted.{IsWantedOfList, is_sign_wanted};
+ghost use Rattle.sudoers_undecided.specs.internal.Wanted.{HasFlatList, IsWantedOfList, is_sign_wanted};
 
 use crate::decided_aliases::DecidedAliases;
 use crate::definitions::{DefinitionOnLine, find_number_of_alias_atom};
@@ -99,6 +102,7 @@ impl<'a, 'b> AliasCollector<'a, 'b> {
         ensures settled { IfOk result (λ collector. IsSettledCollector numbers.now.walk collector) }
         ensures part { IfOk result (λ collector. collector.part ≡ part) }
         ensures aliases { IfOk result (λ collector. collector.aliases.now ≡ aliases.now) }
+        ensures empty { IfOk result (λ collector. collector.found.items ≡ []) }
     {
         let none = AliasMarks {
             allowing: false,
@@ -119,6 +123,7 @@ impl<'a, 'b> AliasCollector<'a, 'b> {
         requires { number < length self.old.marks.items }
         ensures more { OnOk result (AsksMore self.old self.new) }
         ensures asked { OnOk result (IsAsked self.new.marks.items number wanted) }
+        ensures only { OnOk result ((lines : List LineOf) → CollectsOnlyOf lines (members_of_definition_number lines number) wanted self.old self.new) }
     {
         let marks = self.marks[number];
         if marks.include(wanted) {
@@ -132,7 +137,8 @@ impl<'a, 'b> AliasCollector<'a, 'b> {
     /// Returns whether a member of the alias with the number `number` matches.
     fn matches_alias(&self, number: usize) -> bool
         requires { number < length self.now.aliases.now.sways.items }
-        ensures { result ≡ true → IsMatchingAlias self.now.aliases.now number }
+        ensures hit { result ≡ true → IsMatchingAlias self.now.aliases.now number }
+        ensures missed { result ≡ false → IsMissedAlias self.now.aliases.now number }
     {
         match self.aliases.sways[number] {
             Some(sway) => sway.hit.is_some(),
@@ -150,6 +156,8 @@ impl<'a, 'b> AliasCollector<'a, 'b> {
         ensures more { OnOk result (AsksMore self.old self.new) }
         ensures found { OnOk result (undecided_by self.old.aliases.now (signed_atom_of_member (member_of_view member.now)) ≡ true → is_sign_wanted wanted (not member.now.negated) ≡ true
             → HasAtomInPart self.new.found.items self.new.part (signed_atom_of_member (member_of_view member.now))) }
+        ensures only { OnOk result ((lines : List LineOf) → alias_number_of_atom self.old.aliases.now.kind lines (member_of_view member.now).atom ≡ None
+            → CollectsOnlyOf lines (member_of_view member.now ∷ []) wanted self.old self.new) }
     {
         let Some(reason) = self.aliases.question.find_reason_of_member(member) else {
             return Ok(());
@@ -182,6 +190,8 @@ impl<'a, 'b> AliasCollector<'a, 'b> {
         ensures handled { IfOk result (λ _. IsMemberHandled numbers.now.walk self.new wanted (member_of_view member.now)) }
         ensures hit { IfOk result (λ matches. matches ≡ true → (ms : List MemberOf)
             → NoneMatches self.new.aliases.now.kind numbers.now.walk (matched_by self.new.aliases.now) (member_of_view member.now ∷ ms) → ⊥) }
+        ensures missed { IfOk result (λ matches. matches ≡ false → MatchesNothing numbers.now.walk self.old.aliases.now (member_of_view member.now ∷ [])) }
+        ensures only { IfOk result (λ _. CollectsOnlyOf numbers.now.walk (member_of_view member.now ∷ []) wanted self.old self.new) }
     {
         match find_number_of_alias_atom(numbers, self.aliases.kind, &member.atom) {
             Some(number) => {
@@ -206,6 +216,7 @@ impl<'a, 'b> AliasCollector<'a, 'b> {
         requires { IsCollector numbers.now.walk self.old }
         ensures more { OnOk result (AsksMore self.old self.new) }
         ensures handled { OnOk result (AreMembersHandled numbers.now.walk self.new wanted (members_of_view members.now)) }
+        ensures only { OnOk result (CollectsOnlyOf numbers.now.walk (members_of_view members.now) wanted self.old self.new) }
     {
         let tables = members.tables;
         let rows = members.rows;
@@ -232,6 +243,7 @@ impl<'a, 'b> AliasCollector<'a, 'b> {
         requires collector { IsCollector numbers.now.walk self.old }
         ensures more { OnOk result (AsksMore self.old self.new) }
         ensures handled { OnOk result (AreMembersHandled numbers.now.walk self.new asked.wanted (members_of_definition_number numbers.now.walk asked.number)) }
+        ensures only { OnOk result (CollectsOnlyOf numbers.now.walk (members_of_definition_number numbers.now.walk asked.number) asked.wanted self.old self.new) }
     {
         let Some(definition) = definitions.get(asked.number) else {
             return Ok(());
@@ -261,6 +273,8 @@ impl<'a, 'b> AliasCollector<'a, 'b> {
         ensures found { OnOk result ((s : SignedAtom)
             → IsWantedOfList self.old.aliases.now.kind numbers.now.walk (undecided_by self.old.aliases.now) (matched_by self.old.aliases.now) (members_of_view list.now.members) list.now.wanted s
             → HasAtomInPart self.new.found.items self.new.part s) }
+        ensures only { OnOk result ((lists : List CountedListOf) → ListHasElement lists list.now → HasFlatList self.old.aliases.now.kind numbers.now.walk list.now
+            → IsCollectorOfLists numbers.now.walk lists self.old → IsCollectorOfLists numbers.now.walk lists self.new) }
     {
         let place = ListPlace {
             line: list.line,

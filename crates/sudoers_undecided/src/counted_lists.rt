@@ -1,11 +1,11 @@
 //! The lists whose undecided members could have changed an answer, part by part.
 
-ghost use Rattle.std.specs.Prelude.{◌≡◌, true, false, OnOk};
+ghost use Rattle.std.specs.Prelude.{◌≡◌, ◌⊎◌, true, false, [], ◌∷◌, OnOk};
 ghost use Rattle.sudoers_check.specs.Chain.{ListHasElement};
 ghost use Rattle.sudoers_undecided.specs.declared.wanted_members.CountedList.{CountedList as CountedListOf};
 ghost use Rattle.sudoers_undecided.specs.declared.wanted_members.WantedMembers.TheVariants.{Allowing, Denying, All};
-ghost use Rattle.sudoers_undecided.specs.internal.Counted.{HasListsOfParts, HasNotedLists, HasRunasGroups, HasRunasUsers, HaveGrown, command_list, counted_list, hosts_list, users_list};
-ghost use Rattle.sudoers_undecided.specs.internal.Parts.{all_parts, parts_without_hold_of};
+ghost use Rattle.sudoers_undecided.specs.internal.Counted.{AddsOnlyListsOfParts, AreNoLists, HasListsOfParts, HasNotedLists, HasOnlyListsOfParts, HasRunasGroups, HasRunasUsers, HaveGrown, command_list, counted_list, hosts_list, users_list};
+ghost use Rattle.sudoers_undecided.specs.internal.Parts.{all_parts, hosts_part, no_parts, parts_without_hold_of, runas_groups_part, runas_users_part, users_part};
 
 use crate::asked_request::{CommandLists, CountedParts};
 use crate::wanted_members::{CountedList, WantedMembers};
@@ -41,6 +41,8 @@ fn append_once<'a>(
     requires { is_there ≡ true → ListHasElement lists.old.items (counted_list line members holds) }
     ensures has { OnOk result (ListHasElement lists.new.items (counted_list line members.entry holds)) }
     ensures kept { OnOk result ((l : CountedListOf) → ListHasElement lists.old.items l → ListHasElement lists.new.items l) }
+    ensures only { OnOk result ((l : CountedListOf) → ListHasElement lists.new.items l
+        → ListHasElement lists.old.items l ⊎ (l ≡ counted_list line members.entry holds)) }
 {
     if is_there {
         return Ok(());
@@ -56,7 +58,9 @@ fn append_once<'a>(
 
 impl<'a> CountedLists<'a> {
     /// Returns no lists.
-    pub fn new(alloc: Global) -> CountedLists<'a> {
+    pub fn new(alloc: Global) -> CountedLists<'a>
+        ensures { AreNoLists result }
+    {
         CountedLists {
             users: Vec::new(alloc),
             hosts: Vec::new(alloc),
@@ -77,6 +81,7 @@ impl<'a> CountedLists<'a> {
         ensures hosts { self.new.has_hosts ≡ false }
         ensures runas_users { self.new.has_runas_users ≡ false }
         ensures runas_groups { self.new.has_runas_groups ≡ false }
+        ensures empty { AreNoLists self.new }
     {
         self.users.clear();
         self.hosts.clear();
@@ -96,6 +101,7 @@ impl<'a> CountedLists<'a> {
         ensures noted { OnOk result (HasNotedLists self.new command.now) }
         ensures grown { OnOk result (HaveGrown self.old self.new) }
         ensures has { OnOk result (wanted ≡ true → ListHasElement self.new.users.items (users_list command.now)) }
+        ensures only { OnOk result (AddsOnlyListsOfParts self.old self.new command.now (users_part wanted) []) }
     {
         if !wanted {
             return Ok(());
@@ -118,6 +124,7 @@ impl<'a> CountedLists<'a> {
         ensures noted { OnOk result (HasNotedLists self.new command.now) }
         ensures grown { OnOk result (HaveGrown self.old self.new) }
         ensures has { OnOk result (wanted ≡ true → ListHasElement self.new.hosts.items (hosts_list command.now)) }
+        ensures only { OnOk result (AddsOnlyListsOfParts self.old self.new command.now (hosts_part wanted) []) }
     {
         if !wanted {
             return Ok(());
@@ -144,6 +151,7 @@ impl<'a> CountedLists<'a> {
         ensures noted { OnOk result (HasNotedLists self.new command.now) }
         ensures grown { OnOk result (HaveGrown self.old self.new) }
         ensures has { OnOk result (wanted ≡ true → HasRunasUsers self.new command.now command.now.runas) }
+        ensures only { OnOk result (AddsOnlyListsOfParts self.old self.new command.now (runas_users_part wanted) []) }
     {
         if !wanted {
             return Ok(());
@@ -175,6 +183,7 @@ impl<'a> CountedLists<'a> {
         ensures noted { OnOk result (HasNotedLists self.new command.now) }
         ensures grown { OnOk result (HaveGrown self.old self.new) }
         ensures has { OnOk result (wanted ≡ true → HasRunasGroups self.new command.now command.now.runas) }
+        ensures only { OnOk result (AddsOnlyListsOfParts self.old self.new command.now (runas_groups_part wanted) []) }
     {
         if !wanted {
             return Ok(());
@@ -205,6 +214,7 @@ impl<'a> CountedLists<'a> {
         ensures noted { OnOk result (HasNotedLists self.new command.now) }
         ensures grown { OnOk result (HaveGrown self.old self.new) }
         ensures has { OnOk result (HasListsOfParts self.new command.now parts) }
+        ensures only { OnOk result (AddsOnlyListsOfParts self.old self.new command.now parts []) }
     {
         self.add_users(command, parts.users)?;
         self.add_hosts(command, parts.hosts)?;
@@ -224,6 +234,8 @@ impl<'a> CountedLists<'a> {
         ensures noted { OnOk result (HasNotedLists self.new command.now) }
         ensures grown { OnOk result (HaveGrown self.old self.new) }
         ensures has { OnOk result (ListHasElement self.new.commands.items (command_list command.now.line members.now wanted)) }
+        ensures only { OnOk result (AddsOnlyListsOfParts self.old self.new command.now no_parts
+            (command_list command.now.line members.now wanted ∷ [])) }
     {
         self.commands.push(CountedList {
             line: command.line,
@@ -247,6 +259,8 @@ impl<'a> CountedLists<'a> {
         ensures has { OnOk result (HasListsOfParts self.new command.now all_parts) }
         ensures allowing { OnOk result (ListHasElement self.new.commands.items (command_list command.now.line member.now Allowing)) }
         ensures denying { OnOk result (ListHasElement self.new.commands.items (command_list command.now.line member.now Denying)) }
+        ensures only { OnOk result (HasOnlyListsOfParts self.new command.now all_parts
+            (command_list command.now.line member.now Allowing ∷ command_list command.now.line member.now Denying ∷ [])) }
     {
         self.clear();
         self.add_parts(command, CountedParts::make_all())?;
@@ -270,6 +284,8 @@ impl<'a> CountedLists<'a> {
         ensures grown { OnOk result (HaveGrown self.old self.new) }
         ensures has { OnOk result (HasListsOfParts self.new command.now (parts_without_hold_of command.now.standing)) }
         ensures all { OnOk result (ListHasElement self.new.commands.items (command_list command.now.line member.now All)) }
+        ensures only { OnOk result (AddsOnlyListsOfParts self.old self.new command.now (parts_without_hold_of command.now.standing)
+            (command_list command.now.line member.now All ∷ [])) }
     {
         self.add_parts(command, command.standing.parts_without_hold())?;
         self.add_command(command, member, WantedMembers::All)?;

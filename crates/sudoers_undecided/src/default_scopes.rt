@@ -1,6 +1,6 @@
 //! The Defaults lines whose scopes could be turned, so that another user is runas_default.
 
-ghost use Rattle.std.specs.Prelude.{◌≡◌, List, true, OnOk, IfOk, Some};
+ghost use Rattle.std.specs.Prelude.{◌≡◌, List, [], true, OnOk, IfOk, Some};
 ghost use Rattle.sudoers_line_rows.specs.View.{parameter_of_view, parameters_of_view, scope_of_view};
 ghost use Rattle.sudoers_match_list.specs.Flat.{SignedAtom};
 ghost use Rattle.sudoers_match_member.specs.declared.request.Request.{Request as RequestOf};
@@ -11,9 +11,9 @@ ghost use Rattle.sudoers_line_rows.specs.View.{members_of_view, node_of_view};
 ghost use Rattle.sudoers_match.specs.Default.{runas_default_in_param, runas_defaults_in_node, runas_defaults_in_params, setting_with_scope};
 ghost use Rattle.sudoers_undecided.specs.MatchTests.{match_tests_of_request, undecided_by_files_or_paths};
 ghost use Rattle.sudoers_undecided.specs.RowParts.{CouldTurnRunasDefault, CouldTurnScopeList, IsScopeListForUserOrHostByTests};
-ghost use Rattle.sudoers_undecided.specs.internal.Counted.{AreAliasesOfRequest, IsPartStanding, IsWantedOfScopes};
+ghost use Rattle.sudoers_undecided.specs.internal.Counted.{AreAliasesOfRequest, AreScopeListsTurned, IsPartStanding, IsWantedOfScopes};
 ghost use Rattle.sudoers_undecided.specs.internal.Decided.{DecidesAllAliases};
-ghost use Rattle.sudoers_undecided.specs.internal.Settings.{CountsSettings, HasScopeList, HaveScopesGrown, IsScopeStanding, has_item};
+ghost use Rattle.sudoers_undecided.specs.internal.Settings.{AddsOnlyScopeList, CountsSettings, HasScopeList, HaveScopesGrown, IsScopeStanding, has_item};
 
 use crate::decided_aliases::PartStanding;
 use crate::request_aliases::RequestAliases;
@@ -88,13 +88,18 @@ fn standing_of_scope(
 impl<'a> DefaultScopes<'a> {
     /// Returns whether there is a list.
     pub fn have_lists(&self) -> bool
-        ensures { (lines : List LineOf) (r : RequestOf) (s : SignedAtom) → IsWantedOfScopes lines r self.now s → result ≡ true }
+        ensures wanted { (lines : List LineOf) (r : RequestOf) (s : SignedAtom) → IsWantedOfScopes lines r self.now s → result ≡ true }
+        ensures turned { (lines : List LineOf) (r : RequestOf) → AreScopeListsTurned lines r self.now → result ≡ true
+            → (s : SignedAtom) × IsWantedOfScopes lines r self.now s }
     {
         !self.users.is_empty() || !self.hosts.is_empty()
     }
 
     /// Removes all lists.
-    fn clear(&mut self) {
+    fn clear(&mut self)
+        ensures users { self.new.users.items ≡ [] }
+        ensures hosts { self.new.hosts.items ≡ [] }
+    {
         self.users.clear();
         self.hosts.clear();
     }
@@ -108,6 +113,7 @@ impl<'a> DefaultScopes<'a> {
     ) -> Result<(), AllocError>
         ensures grown { OnOk result (HaveScopesGrown self.old self.new) }
         ensures has { OnOk result (standing.could_turn ≡ true → HasScopeList self.new line scope.now scope.now.kind standing) }
+        ensures only { OnOk result (AddsOnlyScopeList self.old self.new line scope.now scope.now.kind standing) }
     {
         if !standing.could_turn {
             return Ok(());
@@ -191,8 +197,11 @@ pub fn find_scopes_that_could_turn<'a>(
 ) -> Result<DefaultScopes<'a>, AllocError>
     requires users { DecidesAllAliases policy.now aliases.now.users }
     requires hosts { DecidesAllAliases policy.now aliases.now.hosts }
-    ensures { IfOk result (λ scopes. (r : RequestOf) → AreAliasesOfRequest policy.now r aliases.now
+    ensures scopes { IfOk result (λ scopes. (r : RequestOf) → AreAliasesOfRequest policy.now r aliases.now
         → (s : SignedAtom) → CouldTurnRunasDefault policy.now (undecided_by_files_or_paths r) (match_tests_of_request r) s → IsWantedOfScopes policy.now r scopes s) }
+    ensures only { IfOk result (λ scopes. (r : RequestOf) → AreAliasesOfRequest policy.now r aliases.now
+        → (s : SignedAtom) → IsWantedOfScopes policy.now r scopes s → CouldTurnRunasDefault policy.now (undecided_by_files_or_paths r) (match_tests_of_request r) s) }
+    ensures turned { IfOk result (λ scopes. (r : RequestOf) → AreAliasesOfRequest policy.now r aliases.now → AreScopeListsTurned policy.now r scopes) }
 {
     let numbers = policy.definition_numbers();
     let mut scopes = DefaultScopes {

@@ -1,29 +1,25 @@
 //! The members that were not decided in an answer: from the row that decides on, part by part.
 
-ghost use Rattle.std.specs.Prelude.{◌≡◌, List, true, IfOk, OnOk};
+ghost use Rattle.std.specs.Prelude.{◌≡◌, ◌⊎◌, List, true, IfOk, OnOk};
 ghost use Rattle.sudoers_check.specs.Chain.{ListHasElement};
 ghost use Rattle.sudoers_match_list.specs.Flat.{SignedAtom};
 ghost use Rattle.sudoers_match.specs.Default.{IsRunasDefault};
 ghost use Rattle.sudoers_undecided.specs.declared.request_part.RequestPart.{RequestPart as PartOf};
 ghost use Rattle.sudoers_undecided.specs.declared.request_part.RequestPart.TheVariants.{RunasUsers as OfRunasUsers};
 ghost use Rattle.sudoers_undecided.specs.declared.undecided_member.UndecidedMember.{UndecidedMember as MemberFound};
-ghost use Rattle.sudoers_undecided.specs.FoundMembers.{HasAtomInPart, HasEachUndecidedAtom};
-ghost use Rattle.sudoers_undecided.specs.internal.Counted.{CoversAtom, IsAskedOfPolicy, IsWantedOfScopes};
-ghost use Rattle.sudoers_undecided.specs.internal.Decided.{DecidesAllAliases, matched_by, undecided_by};
+ghost use Rattle.sudoers_undecided.specs.FoundMembers.{AreUndecidedMembers, HasAtomInPart, HasEachUndecidedAtom, IsAtomInPart};
+ghost use Rattle.sudoers_undecided.specs.internal.Counted.{AreCountedListsFlat, CoversAtom, IsAskedOfPolicy, IsWantedOfScopes};
 ghost use Rattle.sudoers_undecided.specs.internal.Definitions.{HoldsDefinitions};
-ghost use Rattle.sudoers_undecided.specs.internal.Wanted.{IsWantedOfLists};
 
-use crate::alias_collector::AliasCollector;
 use crate::asked_request::AskedRequest;
 use crate::counted_lists::CountedLists;
-use crate::decided_aliases::DecidedAliases;
 use crate::default_scopes::find_scopes_that_could_turn;
 use crate::definitions::{DefinitionOnLine, OrderedDefinitions};
+use crate::member_search::MemberSearch;
 use crate::request_aliases::RequestAliases;
 use crate::request_part::RequestPart;
 use crate::spec_rows::count_lists_of_policy;
 use crate::undecided_member::UndecidedMember;
-use crate::wanted_members::CountedList;
 use std::alloc::{AllocError, Global};
 use sudoers_match::make_command_with_joined_arguments;
 use sudoers_match_list::AcyclicWalk;
@@ -42,7 +38,8 @@ pub fn list_undecided_members<'a>(
     default: &'a [u8],
 ) -> Result<Vec<UndecidedMember<'a>>, AllocError>
     requires { IsRunasDefault policy.now request.now.who default.now }
-    ensures { IfOk result (λ found. HasEachUndecidedAtom policy.now request.now found.items) }
+    ensures each { IfOk result (λ found. HasEachUndecidedAtom policy.now request.now found.items) }
+    ensures only { IfOk result (λ found. AreUndecidedMembers policy.now request.now found.items) }
 {
     let command = make_command_with_joined_arguments(alloc, request)?;
     let definitions = OrderedDefinitions::new(alloc, policy)?;
@@ -70,8 +67,11 @@ fn collect_members<'a>(
 ) -> Result<Vec<UndecidedMember<'a>>, AllocError>
     requires definitions { HoldsDefinitions asked.now.policy.now definitions.now }
     requires asked { IsAskedOfPolicy asked.now }
-    ensures { IfOk result (λ found. HasEachUndecidedAtom asked.now.policy.now asked.now.request.now found.items) }
+    ensures each { IfOk result (λ found. HasEachUndecidedAtom asked.now.policy.now asked.now.request.now found.items) }
+    ensures only { IfOk result (λ found. AreUndecidedMembers asked.now.policy.now asked.now.request.now found.items) }
 {
+    // laws
+    asked.policy.is_acyclic();
     let counted = count_lists_of_policy(alloc, asked)?;
     let mut found = Vec::new(alloc);
     append_members_of_counted(&mut found, alloc, asked, definitions, &counted)?;
@@ -88,64 +88,37 @@ fn append_members_of_counted<'a>(
 ) -> Result<(), AllocError>
     requires definitions { HoldsDefinitions asked.now.policy.now definitions.now }
     requires asked { IsAskedOfPolicy asked.now }
-    ensures { OnOk result ((p : PartOf) (s : SignedAtom) → CoversAtom asked.now.policy.now asked.now.request.now asked.now.scopes.now counted.now p s → HasAtomInPart found.new.items p s) }
+    ensures found { OnOk result ((p : PartOf) (s : SignedAtom) → CoversAtom asked.now.policy.now asked.now.request.now asked.now.scopes.now counted.now p s → HasAtomInPart found.new.items p s) }
+    ensures only { OnOk result (AreCountedListsFlat asked.now.policy.now asked.now.request.now counted.now → (u : MemberFound) → ListHasElement found.new.items u
+        → ListHasElement found.old.items u ⊎ ((s : SignedAtom) × CoversAtom asked.now.policy.now asked.now.request.now asked.now.scopes.now counted.now u.part s × IsAtomInPart u.part s u)) }
 {
     let aliases = asked.aliases;
+    let search = MemberSearch {
+        policy: asked.policy,
+        definitions,
+    };
     let lists = counted.users.as_slice();
-    let part = RequestPart::Users;
-    append_members_of_lists(
-        found,
-        alloc,
-        asked,
-        definitions,
-        part,
-        &aliases.users,
-        lists,
-    )?;
+    search.append_members(found, alloc, RequestPart::Users, &aliases.users, lists)?;
     let lists = counted.hosts.as_slice();
-    let part = RequestPart::Hosts;
-    append_members_of_lists(
-        found,
-        alloc,
-        asked,
-        definitions,
-        part,
-        &aliases.hosts,
-        lists,
-    )?;
+    search.append_members(found, alloc, RequestPart::Hosts, &aliases.hosts, lists)?;
     let lists = counted.runas_users.as_slice();
-    let part = RequestPart::RunasUsers;
-    append_members_of_lists(
+    search.append_members(
         found,
         alloc,
-        asked,
-        definitions,
-        part,
+        RequestPart::RunasUsers,
         &aliases.targets,
         lists,
     )?;
     let lists = counted.runas_groups.as_slice();
-    let part = RequestPart::RunasGroups;
-    append_members_of_lists(
+    search.append_members(
         found,
         alloc,
-        asked,
-        definitions,
-        part,
+        RequestPart::RunasGroups,
         &aliases.groups,
         lists,
     )?;
     let lists = counted.commands.as_slice();
-    let part = RequestPart::Command;
-    append_members_of_lists(
-        found,
-        alloc,
-        asked,
-        definitions,
-        part,
-        &aliases.commands,
-        lists,
-    )?;
+    search.append_members(found, alloc, RequestPart::Command, &aliases.commands, lists)?;
     append_members_of_scopes(found, alloc, asked, definitions, counted.default)?;
     Ok(())
 }
@@ -162,55 +135,21 @@ fn append_members_of_scopes<'a>(
     requires asked { IsAskedOfPolicy asked.now }
     ensures kept { OnOk result ((u : MemberFound) → ListHasElement found.old.items u → ListHasElement found.new.items u) }
     ensures found { OnOk result (wanted ≡ true → (s : SignedAtom) → IsWantedOfScopes asked.now.policy.now asked.now.request.now asked.now.scopes.now s → HasAtomInPart found.new.items OfRunasUsers s) }
+    ensures only { OnOk result ((u : MemberFound) → ListHasElement found.new.items u
+        → ListHasElement found.old.items u ⊎ ((wanted ≡ true) × ((s : SignedAtom) × IsWantedOfScopes asked.now.policy.now asked.now.request.now asked.now.scopes.now s × IsAtomInPart OfRunasUsers s u))) }
 {
     if !wanted {
         return Ok(());
     }
     let aliases = asked.aliases;
+    let search = MemberSearch {
+        policy: asked.policy,
+        definitions,
+    };
     let part = RequestPart::RunasUsers;
     let users = asked.scopes.users.as_slice();
-    append_members_of_lists(
-        found,
-        alloc,
-        asked,
-        definitions,
-        part,
-        &aliases.users,
-        users,
-    )?;
+    search.append_members(found, alloc, part, &aliases.users, users)?;
     let hosts = asked.scopes.hosts.as_slice();
-    append_members_of_lists(
-        found,
-        alloc,
-        asked,
-        definitions,
-        part,
-        &aliases.hosts,
-        hosts,
-    )?;
-    Ok(())
-}
-
-/// Appends the undecided members of `lists`.
-fn append_members_of_lists<'a>(
-    found: &mut Vec<UndecidedMember<'a>>,
-    alloc: Global,
-    asked: &AskedRequest<'a, '_>,
-    definitions: &[DefinitionOnLine<'a>],
-    part: RequestPart,
-    aliases: &DecidedAliases<'_>,
-    lists: &[CountedList<'a>],
-) -> Result<(), AllocError>
-    requires definitions { HoldsDefinitions asked.now.policy.now definitions.now }
-    requires aliases { DecidesAllAliases asked.now.policy.now aliases.now }
-    ensures kept { OnOk result ((u : MemberFound) → ListHasElement found.old.items u → ListHasElement found.new.items u) }
-    ensures found { OnOk result ((s : SignedAtom) → IsWantedOfLists aliases.now.kind asked.now.policy.now (undecided_by aliases.now) (matched_by aliases.now) lists.now s → HasAtomInPart found.new.items part s) }
-{
-    let numbers = asked.policy.definition_numbers();
-    let mut collector = AliasCollector::new(alloc, part, aliases, numbers)?;
-    for list in lists {
-        collector.collect_from_list(numbers, definitions, list)?;
-    }
-    found.extend_from_slice(collector.found.as_slice())?;
+    search.append_members(found, alloc, part, &aliases.hosts, hosts)?;
     Ok(())
 }

@@ -30,7 +30,7 @@ pub enum MemberQuestion<'b> {
 }
 
 /// Returns why it is not known whether `atom` matches a user or a group, if that is not known.
-fn find_reason_of_user_atom(atom: &BorrowedAtom<'_>) -> Option<WhyUndecided>
+pub fn find_reason_of_user_atom(atom: &BorrowedAtom<'_>) -> Option<WhyUndecided>
     ensures { is_some result ≡ is_netgroup_or_non_unix_group_atom (atom_of_view atom.now) }
 {
     match *atom {
@@ -41,7 +41,7 @@ fn find_reason_of_user_atom(atom: &BorrowedAtom<'_>) -> Option<WhyUndecided>
 }
 
 /// Returns why it is not known whether `atom` matches the host of `who`, if that is not known.
-fn find_reason_of_host_atom(atom: &BorrowedAtom<'_>, who: &Who) -> Option<WhyUndecided>
+pub fn find_reason_of_host_atom(atom: &BorrowedAtom<'_>, who: &Who) -> Option<WhyUndecided>
     ensures { is_some result ≡ is_host_atom_undecided who.now (atom_of_view atom.now) }
 {
     match *atom {

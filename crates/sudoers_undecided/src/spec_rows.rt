@@ -11,8 +11,10 @@ ghost use Rattle.sudoers_match.specs.Values.{option_values_of_view};
 ghost use Rattle.sudoers_match.specs.IsHead.{HoldsCommandSettings};
 ghost use Rattle.sudoers_match.specs.Rows.{AreRowsPerFlatAtomOfCommand, AreRowsPerFlatAtomOfHostGroup, AreRowsPerFlatAtomOfPolicy, AreRowsPerFlatAtomOfSpec, PrivilegeRow};
 ghost use Rattle.sudoers_match.specs.Specs.{IsConcatenationOfParts, user_spec_of_users_and_groups};
+ghost use Rattle.sudoers_match_list.specs.Flat.{SignedAtom};
+ghost use Rattle.sudoers_undecided.specs.declared.request_part.RequestPart.{RequestPart as PartOf};
 ghost use Rattle.sudoers_undecided.specs.declared.spec_rows.UsersAndHosts.{UsersAndHosts as WhoOf};
-ghost use Rattle.sudoers_undecided.specs.internal.Counted.{AreListsOfCommand, CountsRows, CoversRows, HasNotedLists, HaveGrown, IsAskedOfPolicy, IsHostsStanding, IsRunasGroupsStanding, IsRunasUsersStanding, IsUsersStanding, counted_list};
+ghost use Rattle.sudoers_undecided.specs.internal.Counted.{AreCountedListsFlat, AreListsOfCommand, CouldChangeOneOfRows, CountsRows, CoversAtom, CoversRows, HasNotedLists, HaveSameLists, IsAskedOfPolicy, IsHostsStanding, IsRunasGroupsStanding, IsRunasUsersStanding, IsUsersStanding, counted_list};
 ghost use Rattle.sudoers_undecided.specs.internal.Looped.{IsRunasStanding, IsWhoStanding, lists_of};
 ghost use Rattle.sudoers_undecided.specs.internal.Parts.{does_row_hold};
 
@@ -53,7 +55,11 @@ pub fn count_lists_of_policy<'a>(
     asked: &AskedRequest<'a, '_>,
 ) -> Result<CountedLists<'a>, AllocError>
     requires { IsAskedOfPolicy asked.now }
-    ensures { IfOk result (λ counted. (rows : List PrivilegeRow) → AreRowsPerFlatAtomOfPolicy asked.now.policy.now rows → CoversRows asked.now.policy.now asked.now.request.now asked.now.scopes.now counted rows) }
+    ensures covers { IfOk result (λ counted. (rows : List PrivilegeRow) → AreRowsPerFlatAtomOfPolicy asked.now.policy.now rows → CoversRows asked.now.policy.now asked.now.request.now asked.now.scopes.now counted rows) }
+    ensures flats { IfOk result (λ counted. (rows : List PrivilegeRow) → AreRowsPerFlatAtomOfPolicy asked.now.policy.now rows
+        → AreCountedListsFlat asked.now.policy.now asked.now.request.now counted) }
+    ensures only { IfOk result (λ counted. (rows : List PrivilegeRow) → AreRowsPerFlatAtomOfPolicy asked.now.policy.now rows → (p : PartOf) (s : SignedAtom)
+        → CoversAtom asked.now.policy.now asked.now.request.now asked.now.scopes.now counted p s → CouldChangeOneOfRows asked.now.policy.now asked.now.request.now rows p s) }
 {
     let specs = list_specs_with_lines(alloc, asked.policy)?;
     let mut counted = CountedLists::new(alloc);
@@ -167,11 +173,9 @@ fn start_runas<'a>(
     requires { IsAskedOfPolicy asked.now }
     ensures runas { result.runas ≡ runas.entry }
     ensures standing { IsRunasStanding asked.now.policy.now asked.now.request.now asked.now.scopes.now result }
-    ensures grown { HaveGrown counted.old counted.new }
+    ensures same { HaveSameLists counted.old counted.new }
     ensures has_users { counted.new.has_users ≡ counted.old.has_users }
-    ensures users { counted.new.users.items ≡ counted.old.users.items }
     ensures has_hosts { counted.new.has_hosts ≡ counted.old.has_hosts }
-    ensures hosts { counted.new.hosts.items ≡ counted.old.hosts.items }
     ensures no_users { counted.new.has_runas_users ≡ false }
     ensures no_groups { counted.new.has_runas_groups ≡ false }
 {
@@ -195,7 +199,7 @@ fn go_on_to_runas<'a>(
     requires standing { IsRunasStanding asked.now.policy.now asked.now.request.now asked.now.scopes.now runas }
     ensures runas { result.runas ≡ option_or written.entry runas.entry.runas }
     ensures standing { IsRunasStanding asked.now.policy.now asked.now.request.now asked.now.scopes.now result }
-    ensures grown { HaveGrown counted.old counted.new }
+    ensures same { HaveSameLists counted.old counted.new }
     ensures noted { (who : WhoOf) → HasNotedLists counted.old (lists_of who runas.entry true) → HasNotedLists counted.new (lists_of who result true) }
 {
     if written.is_some() {

@@ -45,7 +45,7 @@ use Rattle.sudoers_undecided.specs.RowParts.{CouldTurnRunasDefault, CouldTurnRun
 use Rattle.sudoers_undecided.specs.TurningMembers.{CouldTurnList}
 use Rattle.sudoers_undecided.specs.UndecidedAnswer.{CouldChangeWhetherRowFits, RowFitsRequestByTests}
 use Rattle.sudoers_undecided.specs.internal.Decided.{DecidesAllAliases, matched_by, undecided_by}
-use Rattle.sudoers_undecided.specs.internal.Wanted.{IsWantedOfList, IsWantedOfLists, wanted_of_sign}
+use Rattle.sudoers_undecided.specs.internal.Wanted.{AreFlat, IsWantedOfList, IsWantedOfLists, wanted_of_sign}
 
 -- ---- what is asked
 
@@ -57,11 +57,11 @@ pub record AreDecidedBy (lines : List Line) (k : Kind) (undecided : SignedAtom �
   pub matched_are : matched_by d ≡ test
 
 abbrev pub IsGroupQuestion : Option Group → MemberQuestion → Type 0
-IsGroupQuestion None q = Unit {0}
+IsGroupQuestion None q = (s : SignedAtom) → is_undecided_by_question q s ≡ false
 IsGroupQuestion (Some g) q = (is_undecided_by_question q ≡ is_bare_and_undecided is_netgroup_or_non_unix_group_atom) × (is_atom_matched_by_question q ≡ is_runas_group_atom_match g)
 
 abbrev pub AreGroupAliases : List Line → Request → Option Group → DecidedAliases → Type 0
-AreGroupAliases lines r None d = DecidesAllAliases lines d
+AreGroupAliases lines r None d = DecidesAllAliases lines d × ((s : SignedAtom) → undecided_by d s ≡ false)
 AreGroupAliases lines r (Some g) d = AreDecidedBy lines Runas (is_bare_and_undecided ((undecided_by_files_or_paths r).group g)) ((match_tests_of_request r).group g) d
 
 pub record AreAliasesOfRequest (lines : List Line) (r : Request) (a : RequestAliases) : Type 0 where
@@ -92,6 +92,25 @@ CoversAtom lines r scopes c part.RunasUsers s =
 CoversAtom lines r scopes c part.RunasGroups s = IsWantedOfGroupLists lines r r.target_group c.runas_groups.items s
 CoversAtom lines r scopes c part.Moment s = ⊥
 CoversAtom lines r scopes c part.Command s = IsWantedOfLists Cmnd lines (undecided_by_files_or_paths r).command (is_command_atom_match (command_with_joined_arguments_of_request r)) c.commands.items s
+
+-- Each list of which atoms are named has a flat list.
+abbrev pub AreGroupListsFlat : List Line → Option Group → List CountedList → Type 0
+AreGroupListsFlat lines None lists = Unit {0}
+AreGroupListsFlat lines (Some g) lists = AreFlat Runas lines lists
+
+pub record AreCountedListsFlat (lines : List Line) (r : Request) (c : CountedLists) : Type 0 where
+  pub users : AreFlat User lines c.users.items
+  pub hosts : AreFlat Host lines c.hosts.items
+  pub runas_users : AreFlat Runas lines c.runas_users.items
+  pub runas_groups : AreGroupListsFlat lines r.target_group c.runas_groups.items
+  pub commands : AreFlat Cmnd lines c.commands.items
+
+-- Of each list of a scope an atom is wanted.
+pub record AreScopeListsTurned (lines : List Line) (r : Request) (scopes : DefaultScopes) : Type 0 where
+  pub users : (l : CountedList) → ListHasElement scopes.users.items l
+      → (s : SignedAtom) × IsWantedOfList User lines (is_bare_and_undecided (undecided_by_files_or_paths r).user) (match_tests_of_request r).user (members_of_view l.members) l.wanted s
+  pub hosts : (l : CountedList) → ListHasElement scopes.hosts.items l
+      → (s : SignedAtom) × IsWantedOfList Host lines (is_bare_and_undecided (undecided_by_files_or_paths r).host) (match_tests_of_request r).host (members_of_view l.members) l.wanted s
 
 -- ---- lists that are added
 
@@ -144,14 +163,51 @@ pub record HasListsOfParts (c : CountedLists) (l : CommandLists) (parts : Counte
   pub runas_users : parts.runas_users ≡ true → HasRunasUsers c l l.runas
   pub runas_groups : parts.runas_groups ≡ true → HasRunasGroups c l l.runas
 
+-- No list is there.
+pub record AreNoLists (c : CountedLists) : Type 0 where
+  pub users : c.users.items ≡ []
+  pub hosts : c.hosts.items ≡ []
+  pub runas_users : c.runas_users.items ≡ []
+  pub runas_groups : c.runas_groups.items ≡ []
+  pub commands : c.commands.items ≡ []
+  pub default : c.default ≡ false
+
+-- The same lists are there.
+pub record HaveSameLists (c e : CountedLists) : Type 0 where
+  pub users : e.users.items ≡ c.users.items
+  pub hosts : e.hosts.items ≡ c.hosts.items
+  pub runas_users : e.runas_users.items ≡ c.runas_users.items
+  pub runas_groups : e.runas_groups.items ≡ c.runas_groups.items
+  pub commands : e.commands.items ≡ c.commands.items
+  pub default : e.default ≡ c.default
+
+-- Each list that is there was there before, or is one of those of the command that are among the parts, or of these of commands.
+pub record AddsOnlyListsOfParts (c e : CountedLists) (l : CommandLists) (parts : CountedParts) (added : List CountedList) : Type 0 where
+  pub users : (x : CountedList) → ListHasElement e.users.items x → ListHasElement c.users.items x ⊎ ((parts.users ≡ true) × (x ≡ users_list l))
+  pub hosts : (x : CountedList) → ListHasElement e.hosts.items x → ListHasElement c.hosts.items x ⊎ ((parts.hosts ≡ true) × (x ≡ hosts_list l))
+  pub runas_users : (x : CountedList) → ListHasElement e.runas_users.items x
+      → ListHasElement c.runas_users.items x ⊎ ((parts.runas_users ≡ true) × (spec : RunasView) × (l.runas ≡ Some spec) × (x ≡ runas_users_list l spec))
+  pub runas_groups : (x : CountedList) → ListHasElement e.runas_groups.items x
+      → ListHasElement c.runas_groups.items x ⊎ ((parts.runas_groups ≡ true) × (spec : RunasView) × (l.runas ≡ Some spec) × (x ≡ runas_groups_list l spec))
+  pub commands : (x : CountedList) → ListHasElement e.commands.items x → ListHasElement c.commands.items x ⊎ ListHasElement added x
+  pub default : e.default ≡ true → (c.default ≡ true) ⊎ ((parts.runas_users ≡ true) × (l.runas ≡ None))
+
+-- Each list that is there is one of those of the command that are among the parts, or of these of commands.
+pub record HasOnlyListsOfParts (e : CountedLists) (l : CommandLists) (parts : CountedParts) (added : List CountedList) : Type 0 where
+  pub start : CountedLists
+  pub empty : AreNoLists start
+  pub only : AddsOnlyListsOfParts start e l parts added
+
 -- ---- how the lists of a command stand to a request
 
--- It is known whether the part holds, and whether it could be turned; the atoms that could turn it are wanted.
+-- It is known whether the part holds, and whether it could be turned; the atoms that could turn it, and no others, are wanted.
 pub record IsPartStanding (Holds : Type 0) (Turns Wanted : SignedAtom → Type 0) (st : PartStanding) : Type 0 where
   pub holds : st.holds ≡ true → Holds
   pub held : Holds → st.holds ≡ true
   pub turns : (s : SignedAtom) → Turns s → st.could_turn ≡ true
+  pub turned : st.could_turn ≡ true → (s : SignedAtom) × Turns s
   pub wanted : (s : SignedAtom) → Turns s → Wanted s
+  pub only : (s : SignedAtom) → Wanted s → Turns s
 
 abbrev pub IsUsersStanding : List Line → Request → RowsOfTable MemberRow → PartStanding → Type 0
 IsUsersStanding lines r users st = IsPartStanding (ListAllows User lines (match_tests_of_request r).user (members_of_view users))
@@ -202,6 +258,9 @@ pub record IsAskedOfPolicy (asked : AskedRequest) : Type 0 where
   pub default : IsRunasDefaultByTests asked.policy.now (match_tests_of_request asked.request.now) asked.default.now
   pub scopes : (s : SignedAtom) → CouldTurnRunasDefault asked.policy.now (undecided_by_files_or_paths asked.request.now) (match_tests_of_request asked.request.now) s
       → IsWantedOfScopes asked.policy.now asked.request.now asked.scopes.now s
+  pub only_scopes : (s : SignedAtom) → IsWantedOfScopes asked.policy.now asked.request.now asked.scopes.now s
+      → CouldTurnRunasDefault asked.policy.now (undecided_by_files_or_paths asked.request.now) (match_tests_of_request asked.request.now) s
+  pub turned_scopes : AreScopeListsTurned asked.policy.now asked.request.now asked.scopes.now
 
 -- ---- rows that were counted
 
@@ -215,10 +274,26 @@ CoversRows lines r scopes c (row ∷ rows) =
     (AllByRecursion (FitsNot lines r) rows → (p : RequestPart) (s : SignedAtom) → CouldChangeWhetherRowFits lines (undecided_by_files_or_paths r) (match_tests_of_request r) r row p s → CoversAtom lines r scopes c p s)
     × CoversRows lines r scopes c rows
 
+-- The atom could have changed, in this part, whether one of the rows fits behind which none does.
+pub record CouldChangeOneOfRows (lines : List Line) (r : Request) (rows : List PrivilegeRow) (p : RequestPart) (s : SignedAtom) : Type 0 where
+  pub row : PrivilegeRow
+  pub before : List PrivilegeRow
+  pub after : List PrivilegeRow
+  pub stands : rows ≡ before ++ row ∷ after
+  pub none_behind : AllByRecursion (FitsNot lines r) after
+  pub could : CouldChangeWhetherRowFits lines (undecided_by_files_or_paths r) (match_tests_of_request r) r row p s
+
+-- An atom is named only if it was before and none of the rows fits, or if it could have changed whether one of them fits.
+abbrev pub NamesOnlyAtomsOfRows : List Line → Request → DefaultScopes → CountedLists → CountedLists → List PrivilegeRow → Type 0
+NamesOnlyAtomsOfRows lines r scopes c e rows = (p : RequestPart) (s : SignedAtom) → CoversAtom lines r scopes e p s
+    → (CoversAtom lines r scopes c p s × AllByRecursion (FitsNot lines r) rows) ⊎ CouldChangeOneOfRows lines r rows p s
+
 -- The rows were counted: one of them fits, or the lists before are still there.
 pub record CountsRows (lines : List Line) (r : Request) (scopes : DefaultScopes) (c e : CountedLists) (rows : List PrivilegeRow) : Type 0 where
   pub fits : (AllByRecursion (FitsNot lines r) rows → ⊥) ⊎ HaveGrown c e
   pub covers : CoversRows lines r scopes e rows
+  pub only : NamesOnlyAtomsOfRows lines r scopes c e rows
+  pub flats : AreCountedListsFlat lines r c → AreCountedListsFlat lines r e
 
 -- The rows of the things before this one were counted.
 abbrev pub CountsPartsSoFar : {X : Type 0} → (ℕ → X → List PrivilegeRow → Type 0) → List Line → Request → DefaultScopes → CountedLists → CountedLists → List X → ℕ → List X → Type 0

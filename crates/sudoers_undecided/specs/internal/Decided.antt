@@ -68,6 +68,7 @@ pub record IsStandingOfList (k : Kind) (lines : List Line) (undecided : SignedAt
   pub told : (flat : List SignedAtom) → IsFlatListOf k lines ms flat
       → (st.holds ≡ is_allowed_by_hit_or_else own (last_hit_of_list test flat)) × (st.could_turn ≡ could_be_swayed_from st.holds (sway_of_atoms undecided test flat))
   pub some : st.holds ≡ true → (flat : List SignedAtom) × IsFlatListOf k lines ms flat
+  pub turned : st.could_turn ≡ true → (flat : List SignedAtom) × IsFlatListOf k lines ms flat
 
 -- It is known that an atom of the alias matches.
 pub record IsMatchingAlias (d : DecidedAliases) (n : ℕ) : Type 0 where

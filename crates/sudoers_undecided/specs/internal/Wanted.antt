@@ -54,3 +54,12 @@ pub record IsWantedOfLists (k : Kind) (lines : List Line) (undecided : SignedAto
   pub list : CountedList
   pub stands : ListHasElement lists list
   pub is_wanted : IsWantedOfList k lines undecided test (members_of_view list.members) list.wanted s
+
+-- The list has a flat list.
+pub record HasFlatList (k : Kind) (lines : List Line) (l : CountedList) : Type 0 where
+  pub flat : List SignedAtom
+  pub is_flat : IsFlatListOf k lines (members_of_view l.members) flat
+
+-- Each of the lists has one.
+abbrev pub AreFlat : Kind → List Line → List CountedList → Type 0
+AreFlat k lines lists = (l : CountedList) → ListHasElement lists l → HasFlatList k lines l

@@ -1,6 +1,5 @@
-use Rattle.std.proofs.Common.{Bool, List, ap, subst, sym, ◌∙◌, ◌≡◌}
+use Rattle.std.proofs.Common.{Bool, ap, subst, sym, ◌∙◌, ◌≡◌}
 use Rattle.sudoers_grammar.specs.declared.node.Atom.{Atom}
-use Rattle.sudoers_match_member.specs.declared.people_and_commands.CommandLine.{CommandLine}
 use Rattle.sudoers_match.specs.Answer.{IsAnswerByCommandTest, command_with_joined_arguments_of_request, is_request_command_match, words_joined_with_spaces}
 use Rattle.sudoers_match.specs.Spellings.{is_spelled_command_match}
 use Rattle.sudoers_match.proofs.Spelled.{sole_spelling_is_request_command}

@@ -1,8 +1,23 @@
-use Rattle.std.proofs.Common.{List, subst, sym}
-use Rattle.sudoers_match.specs.declared.specs_for_command.SpecOnLine.{SpecOnLine}
-use Rattle.sudoers_ask.specs.Outcome.{AreSpecsForQuestion}
+use Rattle.std.proofs.Common.{option_map}
+use Rattle.sudoers_match.specs.Found.{answer_without_member_and_settings}
+use Rattle.sudoers_ask.proofs.Ready.{ready_answer, ready_found, ready_itself}
 use Rattle.sudoers_ask.proofs.user_facts.list_user_facts.Goals as goal
 
-pub ask_user-requires-clause-specs : goal.ask_user-requires-clause-specs
-ask_user-requires-clause-specs c =
-    subst (λ (specs : List SpecOnLine). AreSpecsForQuestion c.in_ok-acyclic.acyclic c.args.question.now specs) (sym c.as_slice.ensures.value) c.in_ok-specs.ensures
+pub ask_user-requires : goal.ask_user-requires
+ask_user-requires c = ready_itself c.args.policy.now.walk.lines c.args.people.now c.args.question.now c.in_ok-asked.asked c.in_ok-asked.ensures.ready
+
+pub append_user_facts-requires-clause-same : goal.append_user_facts-requires-clause-same
+append_user_facts-requires-clause-same c =
+    c.in_ok-asked.ensures.ready.walk
+
+pub append_user_facts-requires-clause-answer : goal.append_user_facts-requires-clause-answer
+append_user_facts-requires-clause-answer c =
+    ready_answer c.args.policy.now.walk.lines c.args.people.now c.args.question.now c.in_ok-asked.asked c.in_ok-asked.ensures.ready c.in_ok-answer.answer.request (option_map answer_without_member_and_settings c.in_ok-answer.answer.found) c.in_ok-answer.ensures.answer
+
+pub append_user_facts-requires-clause-found : goal.append_user_facts-requires-clause-found
+append_user_facts-requires-clause-found c =
+    ready_found c.args.policy.now.walk.lines c.args.people.now c.args.question.now c.in_ok-asked.asked c.in_ok-asked.ensures.ready c.in_ok-answer.answer.found c.in_ok-answer.ensures.found
+
+pub list_undecided_facts-requires : goal.list_undecided_facts-requires
+list_undecided_facts-requires c =
+    c.in_ok-answer.ensures.request.is_default

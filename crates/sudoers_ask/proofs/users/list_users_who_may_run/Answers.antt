@@ -5,7 +5,6 @@ use Rattle.std.specs.Result.{IsErrAnd}
 use Rattle.sudoers_tree.specs.Line.{Line}
 use Rattle.sudoers_check.specs.Chains.{HasCyclicAliasReachedFromSpecOrDefaults}
 use Rattle.sudoers_match_list.specs.declared.verdict.AskFault.TheVariants.{Cycle, NoMemory}
-use Rattle.sudoers_match.specs.declared.specs_for_command.SpecOnLine.{SpecOnLine}
 use Rattle.std.specs.Prelude.{MatchBool}
 use Rattle.sudoers_match.specs.declared.spellings.CommandSpellings.{CommandSpellings}
 use Rattle.sudoers_match.specs.Spellings.{is_spelled_command_match}
@@ -13,15 +12,35 @@ use Rattle.sudoers_match.specs.Found.{answer_without_member_and_settings}
 use Rattle.sudoers_list_people.specs.declared.account_and_group_row_types.PasswdAccount.{PasswdAccount}
 use Rattle.sudoers_ask.specs.declared.question.QuestionFault.{QuestionFault}
 use Rattle.sudoers_ask.specs.declared.question.QuestionFault.TheVariants.{Ask}
-use Rattle.sudoers_ask.specs.Outcome.{AreSpecsForQuestion, IsMemoryFault, IsUserOutcome}
+use Rattle.sudoers_ask.specs.Outcome.{IsMemoryFault, IsUserOutcome}
 use Rattle.sudoers_ask.specs.Users.{ArePartsOfUsers, IsFaultOfFirstUser, IsPartOfUser, IsReasonOfUserByTest, UserPart, is_user_shown}
 use Rattle.sudoers_ask.proofs.Outcomes.{memory_refused}
 use Rattle.sudoers_ask.proofs.Parts.{answered_request_is_outcome, list_parts_at, one_more_allowed, one_more_related, one_more_text}
+use Rattle.sudoers_ask.proofs.Ready.{ready_answer, ready_default, ready_found, ready_itself, ready_outcome}
 use Rattle.sudoers_ask.proofs.users.list_users_who_may_run.Goals as goal
 
-pub ask_user-requires-clause-specs : goal.ask_user-requires-clause-specs
-ask_user-requires-clause-specs c =
-    subst (λ (specs : List SpecOnLine). AreSpecsForQuestion c.in_ok-acyclic.acyclic c.args.question.now specs) (sym c.as_slice.ensures.value) c.in_ok-specs.ensures
+pub ask_user-requires : goal.ask_user-requires
+ask_user-requires c = ready_itself c.args.policy.now.walk.lines c.args.people.now c.args.question.now c.in_ok-asked.asked c.in_ok-asked.ensures.ready
+
+pub append_user_part-requires-clause-same : goal.append_user_part-requires-clause-same
+append_user_part-requires-clause-same c =
+    c.in_ok-asked.ensures.ready.walk
+
+pub append_user_part-requires-clause-default : goal.append_user_part-requires-clause-default
+append_user_part-requires-clause-default c =
+    ready_default c.args.policy.now.walk.lines c.args.people.now c.args.question.now c.in_ok-asked.asked c.in_ok-asked.ensures.ready c.in_ok-answer.answer.request.who c.in_ok-answer.answer.default.now c.in_ok-answer.ensures.request.is_default
+
+pub append_user_part-requires-clause-answer : goal.append_user_part-requires-clause-answer
+append_user_part-requires-clause-answer c =
+    ready_answer c.args.policy.now.walk.lines c.args.people.now c.args.question.now c.in_ok-asked.asked c.in_ok-asked.ensures.ready c.in_ok-answer.answer.request (option_map answer_without_member_and_settings c.in_ok-answer.answer.found) c.in_ok-answer.ensures.answer
+
+pub append_user_part-requires-clause-found : goal.append_user_part-requires-clause-found
+append_user_part-requires-clause-found c =
+    ready_found c.args.policy.now.walk.lines c.args.people.now c.args.question.now c.in_ok-asked.asked c.in_ok-asked.ensures.ready c.in_ok-answer.answer.found c.in_ok-answer.ensures.found
+
+pub append_undecided_lines_of_user-requires : goal.append_undecided_lines_of_user-requires
+append_undecided_lines_of_user-requires c =
+    c.in_ok-answer.ensures.request.is_default
 
 pub returns-in_err-answer-clause-fault : goal.returns-in_err-answer-clause-fault
 returns-in_err-answer-clause-fault c =
@@ -31,7 +50,8 @@ returns-in_err-answer-clause-fault c =
     let lines : List Line = policy.walk.lines in
     let fault : QuestionFault = c.in_err-answer.field-0.0 in
     let same : c.from_residual-in_err-answer.result ≡ Err fault = search rules in
-    let walked : c.in_ok-acyclic.acyclic ≡ lines = c.in_ok-acyclic.ensures.walk ∙ c.walk.ensures in
+    let asked = c.in_ok-asked.asked in
+    let ready = c.in_ok-asked.ensures.ready in
     let items = c.accounts-account-items.result.now in
     let accounts : List PasswdAccount = people.accounts in
     let i = c.loop-account.account-index in
@@ -49,7 +69,7 @@ returns-in_err-answer-clause-fault c =
         parts = so_far.0;
         are_parts = so_far.1;
         asked = subst (λ name. IsUserOutcome lines people q name (Err fault)) c.as_slice-name.ensures
-            (subst (λ (ls : List Line). IsUserOutcome ls people q c.as_slice-name.result.now (Err fault)) walked told);
+            (ready_outcome lines people q asked ready c.as_slice-name.result.now (Err fault) told);
       }))
     ])
 
@@ -60,7 +80,8 @@ loop-account-preserved c =
     let q = c.args.question.now in
     let denied = c.args.denied in
     let lines : List Line = policy.walk.lines in
-    let walked : c.in_ok-acyclic.acyclic ≡ lines = c.in_ok-acyclic.ensures.walk ∙ c.walk.ensures in
+    let asked = c.in_ok-asked.asked in
+    let ready = c.in_ok-asked.ensures.ready in
     let items = c.accounts-account-items.result.now in
     let accounts : List PasswdAccount = people.accounts in
     let i = c.loop-account.account-index in
@@ -76,9 +97,9 @@ loop-account-preserved c =
     let so_far = c.loop-account.invariant in
     let is_part : IsPartOfUser policy people q denied item.name part = subst (λ n. IsPartOfUser policy people q denied n part) c.as_slice-name.ensures (record {
       told = record { request = a.request; default = a.default.now; answer = answer };
-      asked = subst (λ (ls : List Line). IsUserOutcome ls people q name (Ok (record { request = a.request; default = a.default.now; answer = answer }))) walked
-          (answered_request_is_outcome c.in_ok-acyclic.acyclic people q name a.request a.default.now answer c.in_ok-answer.ensures.request c.in_ok-answer.ensures.short c.in_ok-answer.ensures.answer);
-      text = subst (λ (command : CommandSpellings). MatchBool (is_user_shown denied answer) (IsReasonOfUserByTest policy (is_spelled_command_match command) name a.request answer wrote.0) (wrote.0 ≡ [])) c.in_ok-command.ensures wrote.2;
+      asked = ready_outcome lines people q asked ready name (Ok (record { request = a.request; default = a.default.now; answer = answer }))
+          (answered_request_is_outcome asked.walk asked.people.now asked.question.now name a.request a.default.now answer c.in_ok-answer.ensures.request c.in_ok-answer.ensures.short c.in_ok-answer.ensures.answer);
+      text = subst (λ (command : CommandSpellings). MatchBool (is_user_shown denied answer) (IsReasonOfUserByTest policy (is_spelled_command_match command) name a.request answer wrote.0) (wrote.0 ≡ [])) ready.command wrote.2;
       allowed = c.is_allowed-is_any_allowed.ensures;
     }) in (
       so_far.0 ++ part ∷ [],

@@ -3,13 +3,13 @@ use Rattle.sudoers_match.proofs.Common.{Some, User, UserSpec, answer_without_mem
 use Rattle.std.specs.Prelude.{◌-◌}
 use Rattle.std.proofs.lemmas.Option.{slice_get-get_or}
 use Rattle.sudoers_match_list.proofs.Exists.{list_is_flat_or_leads_to_cycle}
-use Rattle.sudoers_match.specs.declared.specs_for_command.SpecOnLine.{SpecOnLine}
-use Rattle.sudoers_match.specs.ForCommand.{MattersIfForCommand, numbered_spec_of_view}
+use Rattle.sudoers_match.specs.declared.specs_for_users.SpecOnLine.{SpecOnLine}
+use Rattle.sudoers_match.specs.ForRequest.{MattersIfRowFits, numbered_spec_of_view}
 use Rattle.sudoers_match.proofs.Existing.{some_rows}
-use Rattle.sudoers_match.proofs.ForCommands.{all_at, groups_of_numbered_spec_straight, idle_answers_none, is_numbered, map_of_map, none_if_not_some, numbered_at, numbered_specs_are_specs, second, users_of_numbered_spec_straight}
+use Rattle.sudoers_match.proofs.ForUsers.{all_at, groups_of_numbered_spec_straight, is_numbered, map_of_map, none_if_not_some, numbered_at, numbered_specs_are_specs, second, users_of_numbered_spec_straight}
 use Rattle.sudoers_match.proofs.Founds.{answer_in_spec_is_found_in_lines, some_then}
 use Rattle.sudoers_match.proofs.Gathered.{mapped_list_has_mapped_element_at_index}
-use Rattle.sudoers_match.proofs.Rowed.{decided_here, no_user, none_at_all, none_behind_end, none_behind_more}
+use Rattle.sudoers_match.proofs.Rowed.{answers_none, decided_here, no_user, none_at_all, none_behind_end, none_behind_more}
 use Rattle.sudoers_match.proofs.last_row.find_last_fitting_row.Goals as goal
 use Rattle.sudoers_match.proofs.last_row.find_last_fitting_row.Goals.{else-spec-via-then-spec+in_ok-allows_user+else-branch, else-spec-via-else-spec}
 
@@ -139,7 +139,7 @@ loop-number-preserved c =
       | else-spec-via-else-spec w ↦ record {
         question = subst (IsValidCacheForContext c.args.asked.now) (sym w.question-is) c.loop-number.invariant.question;
         behind = none_behind_more lines test r (AreRowsPerFlatAtomOfSpec lines) all i (spec_of item) at behind
-            (λ rows p. idle_answers_none lines test r rows (all_at (MattersIfForCommand lines r.who test) specs i item c.requires.specs.matter b.at w.if-spec.false i rows p));
+            (λ rows p. answers_none lines test r rows (all_at (MattersIfRowFits lines test r) specs i item c.requires.specs.matter b.at w.if-spec.false i rows p));
       }
     ]
 

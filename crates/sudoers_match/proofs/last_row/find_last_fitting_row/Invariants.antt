@@ -1,6 +1,6 @@
 use Rattle.sudoers_match.proofs.Common.{AreRowsPerFlatAtomOfSpec, HasNoFittingRowBehind, IsValidCacheForContext, command_test_of_context, map}
-use Rattle.sudoers_match.specs.declared.specs_for_command.SpecOnLine.{SpecOnLine}
-use Rattle.sudoers_match.specs.ForCommand.{numbered_spec_of_view}
+use Rattle.sudoers_match.specs.declared.specs_for_users.SpecOnLine.{SpecOnLine}
+use Rattle.sudoers_match.specs.ForRequest.{numbered_spec_of_view}
 use Rattle.sudoers_match.proofs.last_row.find_last_fitting_row.Given as goal
 
 abbrev pub invariant-loop-number : goal.invariant-loop-number

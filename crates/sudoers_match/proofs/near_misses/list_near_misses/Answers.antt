@@ -1,11 +1,11 @@
 use Rattle.sudoers_match.proofs.Common.{Cmnd, Some, ap, map, slice_get, subst, sym, ◌∙◌, ◌≡◌}
 use Rattle.std.proofs.lemmas.Option.{slice_get-get_or}
 use Rattle.sudoers_match.specs.declared.request_verdicts.RequestContext.{RequestContext}
-use Rattle.sudoers_match.specs.declared.specs_for_command.SpecOnLine.{SpecOnLine}
-use Rattle.sudoers_match.specs.ForCommand.{numbered_spec_of_view}
+use Rattle.sudoers_match.specs.declared.specs_for_users.SpecOnLine.{SpecOnLine}
+use Rattle.sudoers_match.specs.ForRequest.{numbered_spec_of_view}
 use Rattle.sudoers_match.specs.internal.Misses.{IsValidMissSearch}
 use Rattle.sudoers_match.specs.Spellings.{is_spelled_command_match, is_spelled_path_match}
-use Rattle.sudoers_match.proofs.ForCommands.{groups_of_numbered_spec_straight, is_numbered, users_of_numbered_spec_straight}
+use Rattle.sudoers_match.proofs.ForUsers.{groups_of_numbered_spec_straight, is_numbered, users_of_numbered_spec_straight}
 use Rattle.sudoers_match.proofs.near_misses.list_near_misses.Goals as goal
 use Rattle.sudoers_match.proofs.near_misses.list_near_misses.Goals.{then-branch+in_ok-append_misses_of_groups, else-branch}
 

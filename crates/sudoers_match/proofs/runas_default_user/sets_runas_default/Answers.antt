@@ -1,5 +1,5 @@
 use Rattle.sudoers_match.proofs.Common.{Bor, List, None, ap, option_map, sym, ℕ, ◌∙◌, ◌≡◌}
-use Rattle.sudoers_match.proofs.ForCommands.{none_if_not_some}
+use Rattle.sudoers_match.proofs.ForUsers.{none_if_not_some}
 use Rattle.sudoers_match.proofs.Passed.{defaults_view_without_setting_has_none}
 use Rattle.sudoers_match.proofs.Settings.{none_last}
 use Rattle.sudoers_match.proofs.runas_default_user.sets_runas_default.Goals as goal

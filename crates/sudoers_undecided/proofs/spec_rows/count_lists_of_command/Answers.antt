@@ -26,6 +26,7 @@ returns-then-decides-clause-counts c head h m alone i j k rows are =
     let it = c.in_ok-restart_at_command.ensures in
     deciding_command_counts asked.policy.now asked.request.now asked.scopes.now head c.args.lists.now h c.args.member.now m alone i j k rows are c.in-Some.sway says
     c.args.counted.now c.restart_at_command.new.self it.has it.allowing it.denying (sym c.does_command_decide-decides.ensures ∙ c.if-decides.true)
+    (sym c.may_hold-may_hold.ensures ∙ c.if-not-may_hold.false) it.only
 
 pub returns-then-not-may_match-clause-counts : goal.returns-then-not-may_match-clause-counts
 returns-then-not-may_match-clause-counts c head h m alone i j k rows are =
@@ -47,3 +48,4 @@ returns-clause-counts c head h m alone i j k rows are =
     let it = c.in_ok-add_lists_of_command.ensures in
     added_command_counts asked.policy.now asked.request.now asked.scopes.now head c.args.lists.now h c.args.member.now m alone i j k rows are c.in-Some.sway says
     c.args.counted.now c.add_lists_of_command.new.self it.grown it.has it.all (sym c.does_command_decide-decides.ensures ∙ c.if-decides.false)
+    (sym c.may_hold-may_hold.ensures ∙ c.if-not-may_hold.false) (sym c.may_match-may_match.ensures ∙ c.if-not-may_match.false) it.only

@@ -10,8 +10,20 @@ use Rattle.sudoers_match.proofs.Gathered.{mapped_row_is_at_its_index}
 use Rattle.sudoers_undecided.specs.declared.asked_request.CommandLists.{CommandLists}
 use Rattle.sudoers_undecided.specs.internal.Counted.{AreListsOfCommand, HasNotedLists}
 use Rattle.sudoers_undecided.specs.internal.Looped.{lists_of}
-use Rattle.sudoers_undecided.proofs.Loops.{are_lists_of_command, commands_all, commands_more, counts_after_growth, noted_at_any_time, runas_goes_on}
+use Rattle.sudoers_undecided.proofs.Loops.{are_lists_of_command, commands_all, commands_more, commands_none, counts_after_same_lists, noted_at_any_time, noted_at_start, runas_goes_on}
 use Rattle.sudoers_undecided.proofs.spec_rows.count_lists_of_commands.Goals as goal
+
+pub loop-row-init : goal.loop-row-init
+loop-row-init c =
+    let asked = c.args.asked.now in
+    let commands = c.args.commands.now in
+    let it = c.start_runas-runas.ensures in
+    record {
+      standing = it.standing;
+      noted = noted_at_start c.args.counted.now c.start_runas-runas.new.counted c.args.who.now c.start_runas-runas.result it.same it.has_users it.has_hosts it.no_users it.no_groups c.requires.users c.requires.hosts;
+      so_far = commands_none asked.policy.now asked.request.now asked.scopes.now (members_of_view c.args.who.now.users) (members_of_view c.args.who.now.hosts) (map (command_in_tables commands.tables.now) commands.rows.now)
+          c.args.counted.now c.start_runas-runas.new.counted it.same c.make_empty_settings-head.result c.start_runas-runas.result.runas c.make_empty_settings-head.ensures it.runas;
+    }
 
 pub loop-row-preserved : goal.loop-row-preserved
 loop-row-preserved c =
@@ -39,7 +51,7 @@ loop-row-preserved c =
           (subst (HasNotedLists c.count_lists_of_command.new.counted) same c.in_ok-count_lists_of_command.ensures.noted);
       so_far = commands_more lines r scopes (members_of_view who.users) (members_of_view who.hosts) (map (command_in_tables t) c.args.commands.now.rows.now) c.args.counted.now c.loop-row.counted c.count_lists_of_command.new.counted
           c.loop-row.row-index cmd at c.loop-row.head c.apply_settings_of_command.new.self c.loop-row.runas.runas runas.runas s is runas_are
-          (λ i j rows p. counts_after_growth lines r scopes c.loop-row.counted c.go_on_to_runas-runas.new.counted c.count_lists_of_command.new.counted rows c.go_on_to_runas-runas.ensures.grown
+          (λ i j rows p. counts_after_same_lists lines r scopes c.loop-row.counted c.go_on_to_runas-runas.new.counted c.count_lists_of_command.new.counted rows c.go_on_to_runas-runas.ensures.same
           (c.in_ok-count_lists_of_command.ensures.counts (settings_after_command s.head cmd) are cmd.member alone i j c.loop-row.row-index rows
           (subst (λ (l : CommandLists). AreRowsPerFlatAtomOfCommand lines i j (members_of_view l.users) (members_of_view l.hosts) c.loop-row.row-index (settings_after_command s.head cmd, cmd.member) rows) (sym same) p)));
     }

@@ -4,7 +4,7 @@ use Rattle.sudoers_line_rows.specs.View.{host_group_of_view, members_of_view}
 use Rattle.sudoers_undecided.specs.MatchTests.{match_tests_of_request, undecided_by_files_or_paths}
 use Rattle.sudoers_undecided.specs.internal.Counted.{IsHostsStanding}
 use Rattle.sudoers_undecided.specs.internal.Decided.{IsStandingOfList, matched_by, undecided_by}
-use Rattle.sudoers_undecided.proofs.Loops.{counts_after_growth, unfit_host_counts, unfit_user_counts}
+use Rattle.sudoers_undecided.proofs.Loops.{counts_after_same_lists, unfit_host_counts, unfit_user_counts}
 use Rattle.sudoers_undecided.proofs.Standings.{list_stands}
 use Rattle.sudoers_undecided.proofs.spec_rows.count_lists_of_host_group.Goals as goal
 
@@ -41,5 +41,5 @@ count_lists_of_commands-requires-clause-who c =
 pub returns-clause-counts : goal.returns-clause-counts
 returns-clause-counts c i j rows are =
     let asked = c.args.asked.now in
-    counts_after_growth asked.policy.now asked.request.now asked.scopes.now c.args.counted.now (record c.args.counted.now { has_hosts = false }) c.count_lists_of_commands.new.counted rows
-    (record { users = λ x y. y; hosts = λ x y. y; runas_users = λ x y. y; runas_groups = λ x y. y; commands = λ x y. y; default = λ x. x }) (c.in_ok-count_lists_of_commands.ensures.counts i j rows are)
+    counts_after_same_lists asked.policy.now asked.request.now asked.scopes.now c.args.counted.now (record c.args.counted.now { has_hosts = false }) c.count_lists_of_commands.new.counted rows
+    (record { users = refl; hosts = refl; runas_users = refl; runas_groups = refl; commands = refl; default = refl }) (c.in_ok-count_lists_of_commands.ensures.counts i j rows are)

@@ -1,6 +1,6 @@
 use Rattle.std.proofs.Common.{drop, map}
-use Rattle.sudoers_match.specs.declared.specs_for_command.SpecOnLine.{SpecOnLine}
-use Rattle.sudoers_match.specs.ForCommand.{numbered_spec_of_view}
+use Rattle.sudoers_match.specs.declared.specs_for_users.SpecOnLine.{SpecOnLine}
+use Rattle.sudoers_match.specs.ForRequest.{numbered_spec_of_view}
 use Rattle.sudoers_match.specs.Rows.{AreRowsPerFlatAtomOfSpec}
 use Rattle.sudoers_undecided.specs.internal.Counted.{CountsPartsSoFar}
 use Rattle.sudoers_undecided.proofs.spec_rows.count_lists_of_policy.Given as goal

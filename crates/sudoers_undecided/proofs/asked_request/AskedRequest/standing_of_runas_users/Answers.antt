@@ -17,4 +17,5 @@ returns-in-None c =
     let asked = c.args.self.now in
     let st : PartStanding = record { holds = c.is_same_name_ignoring_case.result; could_turn = c.have_lists.result } in
     subst (λ o. IsRunasUsersStanding asked.policy.now asked.request.now asked.scopes.now o st) (sym c.in-None.is)
-    (default_user_stands asked.policy.now asked.request.now asked.scopes.now asked.default.now st c.requires.default c.requires.scopes (c.is_same_name_ignoring_case.ensures ∙ ap (is_name_equal_ignoring_case asked.default.now) c.as_slice.ensures) (c.have_lists.ensures asked.policy.now asked.request.now))
+    (default_user_stands asked.policy.now asked.request.now asked.scopes.now asked.default.now st c.requires.default (λ s. (c.requires.scopes s, c.requires.only_scopes s)) (c.is_same_name_ignoring_case.ensures ∙ ap (is_name_equal_ignoring_case asked.default.now) c.as_slice.ensures)
+    (c.have_lists.ensures.wanted asked.policy.now asked.request.now) (c.have_lists.ensures.turned asked.policy.now asked.request.now c.requires.turned_scopes))

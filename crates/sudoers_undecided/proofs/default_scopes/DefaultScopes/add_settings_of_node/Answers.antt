@@ -20,6 +20,6 @@ returns-in-None c r a =
     let lines = c.args.numbers.now.walk in
     let xs = runas_defaults_in_params (parameters_of_view c.in-Defaults.params) in
     let it : CountsSettings lines r c.args.self.now c.clear.new.self (map (setting_with_scope None) xs) =
-    named_settings lines r c.args.self.now c.clear.new.self None xs (sym c.has_runas_default_setting-sets.ensures ∙ c.if-not-sets.false) (settings_for_all_count lines r c.args.self.now c.clear.new.self) in
+    named_settings lines r c.args.self.now c.clear.new.self None xs (sym c.has_runas_default_setting-sets.ensures ∙ c.if-not-sets.false) (settings_for_all_count lines r c.args.self.now c.clear.new.self c.clear.ensures.users c.clear.ensures.hosts) in
     subst (λ (n : NodeView). CountsSettings lines r c.args.self.now c.clear.new.self (runas_defaults_in_node (node_of_view n))) (sym c.in-Defaults.is)
     (subst (λ o. CountsSettings lines r c.args.self.now c.clear.new.self (map (setting_with_scope (option_map scope_of_view o)) xs)) (sym c.in-None.is) it)

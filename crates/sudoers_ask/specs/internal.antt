@@ -1,0 +1,2 @@
+-- Devices of the proofs. No contract of an exported function cites them.
+pub mod Asked
