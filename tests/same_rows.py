@@ -161,6 +161,8 @@ ROOTS = (
     ("links_where_no_rule_matches", MERGED, f"why {FILES} bob /usr/bin/sh", BOTH + NONE, 1),
     ("links_that_begin_at_the_root", {**MERGED, "bin": Link("/usr/bin"), "sbin": Link("/usr/sbin")}, ASK, BOTH + DENIED, 1),
     ("links_that_end_in_a_slash", {**MERGED, "bin": Link("/usr/bin/"), "sbin": Link("usr/sbin/")}, ASK, BOTH + DENIED, 1),
+    ("links_that_begin_with_dots", {**MERGED, "bin": Link("../usr/bin"), "sbin": Link("./usr/sbin")}, ASK, BOTH + DENIED, 1),
+    ("a_link_to_a_folder_of_the_same_name_elsewhere", {**APART, "bin": Link("opt/usr/bin")}, ASK, ALLOWED, 0),
     ("a_link_that_leads_nowhere", {"etc/sudoers": DENY, "bin": Link("usr/bin")}, ASK, BIN + DENIED, 1),
     ("one_link", {**MERGED, "bin": EMPTY_FOLDER}, ASK, "same folders: /sbin=/usr/sbin\n" + ALLOWED, 0),
     ("folders", APART, ASK, ALLOWED, 0),

@@ -19,52 +19,43 @@ mod kept_files;
 mod list_command;
 mod machine;
 mod same_folders;
+mod subcommands;
 mod terminal;
 
-use crate::all_errors::{make_all_flag, print_all_errors};
+use crate::all_errors::print_all_errors;
 use crate::ask_command::{is_list_with_same_folders, run_ask_command, run_list_with_same_folders};
 use crate::ask_json::run_ask_as_json;
-use crate::ask_subcommands::{
-    is_ask_command, make_what_subcommand, make_who_subcommand, make_why_subcommand,
-    policy_name_of_ask_words,
-};
-use crate::convert_command::{make_convert_subcommand, run_convert_command};
+use crate::ask_subcommands::{is_ask_command, policy_name_of_ask_words};
+use crate::convert_command::run_convert_command;
 use crate::edit_command::{
     EDIT, apply_script_to_policy_both_from_stdin, edit_policy_or_stdin, find_edit_usage_error,
-    make_edit_subcommand,
 };
 use crate::explaining::{
-    add_error_options, are_errors_explained, are_files_read_again, error_status_of_words,
-    explain_outcome, print_explanation,
+    are_errors_explained, are_files_read_again, error_status_of_words, explain_outcome,
+    print_explanation,
 };
 use crate::explaining_edits::EditExplanation;
 use crate::file_trouble::FileTrouble;
 use crate::files::{KeptDisk, STDIN, find_trouble_with_folder, open_disk_files};
 use crate::json_output::{
-    is_json_asked, make_json_flag, print_error_document, run_check_as_json, run_show_as_json,
+    is_json_asked, print_error_document, run_check_as_json, run_show_as_json,
 };
 use crate::kept_files::KeptFiles;
-use crate::list_command::{make_list_subcommand, run_list_command};
+use crate::list_command::run_list_command;
 use crate::same_folders::find_mistake_in_same_folders;
+use crate::subcommands::{make_command_for_usage, make_top_level_command};
 use crate::terminal::{open_standard_error, open_standard_output, print_error_line};
 use clap::error::ErrorKind;
-use clap::{Arg, ArgAction, ArgMatches, Command, Error};
+use clap::{ArgMatches, Error};
 use std::alloc::{AllocError, Global};
 use std::io;
 use std::io::{IsTerminal, Write};
 use std::process::ExitCode;
 use sudoers_run::{CheckWords, Counted, ToolFault, run_check, run_show};
 
-/// What `--version` prints after the program's name.
-const VERSION: &str = "0.8.0";
-
 /// What is printed before the program waits for a terminal.
 const BEFORE_WAITING: &[u8] =
     b"waiting for SCRIPT, `%%` and POLICY on standard input; `sudoers_tool --help` prints the commands";
-
-/// What help prints last.
-const EXIT_STATUS: &str =
-    "Exit status: 0 success; 1 an error, a policy that `check` does not pass, or a command that `list` does not allow; 2 a wrong command line; 3 an error of `who`, `what` or `why`. See sudoers_tool(8).";
 
 /// The exit status of an error of the commands that ask the policy of a machine.
 const ASK_ERROR_STATUS: u8 = 3;
@@ -144,17 +135,6 @@ fn find_usage_error_of_files(words: &ArgMatches<'_>) -> Option<&'static str> {
         return Some("standard input can be one policy only");
     }
     None
-}
-
-/// Returns the command line whose usage an error of `matches` shows.
-fn make_command_for_usage<'a>(
-    alloc: Global,
-    matches: &ArgMatches<'_>,
-) -> Result<Command<'a>, AllocError> {
-    match matches.subcommand() {
-        Some((EDIT, _)) => make_edit_subcommand(alloc, make_root_folder_option(alloc)),
-        _ => make_top_level_command(alloc),
-    }
 }
 
 /// Runs the command of a command line that was understood, and prints its error.
@@ -314,97 +294,6 @@ fn print_error_of_outcome_and_get_status(
         }
         Err(trouble) => report_fault(rt, &trouble, error_status, explanation),
     }
-}
-
-/// Returns the command line of `show`.
-fn make_show_subcommand<'a>(alloc: Global) -> Result<Command<'a>, AllocError> {
-    Command::new(alloc, "show")
-        .about("Print the logical lines of a policy and its alias definitions, with their numbers")
-        .arg(make_json_flag(alloc))?
-        .arg(make_root_folder_option(alloc))?
-        .arg(make_policy_file_or_stdin_argument(alloc))
-}
-
-/// Returns the command line that is understood.
-fn make_top_level_command<'a>(alloc: Global) -> Result<Command<'a>, AllocError> {
-    Command::new(alloc, "sudoers_tool")
-        .version(VERSION)
-        .about(
-            "Check, show, edit, convert and list sudoers policies. Without a command, do what `edit` does",
-        )
-        .after_help(EXIT_STATUS)
-        .subcommand(add_error_options(alloc, make_check_subcommand(alloc)?)?)?
-        .subcommand(add_error_options(
-            alloc,
-            make_convert_subcommand(
-                alloc,
-                make_root_folder_option(alloc),
-                make_policy_file_or_stdin_argument(alloc),
-            )?,
-        )?)?
-        .subcommand(make_edit_subcommand(alloc, make_root_folder_option(alloc))?)?
-        .subcommand(add_error_options(
-            alloc,
-            make_list_subcommand(
-                alloc,
-                make_root_folder_option(alloc),
-                make_policy_file_or_stdin_argument(alloc),
-            )?,
-        )?)?
-        .subcommand(add_error_options(alloc, make_show_subcommand(alloc)?)?)?
-        .subcommand(make_what_subcommand(alloc, make_root_folder_option(alloc))?)?
-        .subcommand(make_who_subcommand(alloc, make_root_folder_option(alloc))?)?
-        .subcommand(make_why_subcommand(alloc, make_root_folder_option(alloc))?)
-}
-
-/// Returns the command line of `check`.
-fn make_check_subcommand<'a>(alloc: Global) -> Result<Command<'a>, AllocError> {
-    let quiet = Arg::new(alloc, "quiet")
-        .short('q')
-        .action(ArgAction::SetTrue)
-        .help("Print no report; only set the exit status");
-    let strict = Arg::new(alloc, "strict")
-        .short('s')
-        .action(ArgAction::SetTrue)
-        .help("Treat undefined and cyclic aliases as errors");
-    let skipped = Arg::new(alloc, "skipped")
-        .long("skipped")
-        .action(ArgAction::SetTrue)
-        .help(
-            "After the report, list the folders and the files in included folders that are not read",
-        );
-    Command::new(alloc, "check")
-        .about(
-            "Check the syntax of a policy with the files that it includes, and report undefined, cyclic and unused aliases; names of Defaults are not checked",
-        )
-        .arg(quiet)?
-        .arg(strict)?
-        .arg(skipped)?
-        .arg(make_all_flag(alloc))?
-        .arg(make_json_flag(alloc))?
-        .arg(make_root_folder_option(alloc))?
-        .arg(make_policy_files_argument(alloc))
-}
-
-/// Returns the argument that names policy files, each of a policy of its own.
-fn make_policy_files_argument<'a>(alloc: Global) -> Arg<'a> {
-    Arg::new(alloc, "FILE").required(true).num_args(1..).help(
-        "Policy files, each of a policy of its own, or `-` for standard input",
-    )
-}
-
-/// Returns the option with the folder below which absolute names are read.
-fn make_root_folder_option<'a>(alloc: Global) -> Arg<'a> {
-    Arg::new(alloc, "DIR").long("root").help(
-        "Read FILE and included files as a system does whose root is this folder, as an image; messages name them without it",
-    )
-}
-
-/// Returns the argument that names a policy file.
-fn make_policy_file_or_stdin_argument<'a>(alloc: Global) -> Arg<'a> {
-    Arg::new(alloc, "FILE")
-        .required(true)
-        .help("Policy file, or `-` for standard input")
 }
 
 /// Returns the words of the command line.

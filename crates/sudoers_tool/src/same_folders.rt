@@ -121,7 +121,7 @@ fn is_link_of_machine(
     match fs::read_link(rt, path.as_str()) {
         Ok(link) => {
             let link = link.as_os_str().trim_end_matches('/');
-            Ok(link == target || link == target.trim_start_matches('/'))
+            Ok(is_link_to_folder(link, target))
         }
         Err(error) if error.kind() == io::ErrorKind::OutOfMemory => {
             Err(FileTrouble::from(AllocError))
@@ -133,6 +133,16 @@ fn is_link_of_machine(
             ToolFault::Read,
         )),
     }
+}
+
+/// Returns whether the text `link` of a link in the root leads to the folder `target`: it is the name, with or without its `/`, or `./` or
+/// `../` in place of this.
+fn is_link_to_folder(link: &str, target: &str) -> bool {
+    let name = target.trim_start_matches('/');
+    link == target
+        || link == name
+        || link.strip_prefix("./") == Some(name)
+        || link.strip_prefix("../") == Some(name)
 }
 
 /// Returns whether an error of the kind `kind` says that there is no link, or one to a name that is not UTF-8.
