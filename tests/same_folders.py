@@ -54,7 +54,7 @@ def run_usages(stand):
 
 def run_machine(stand):
     """The links of the system on which the program runs: its first line names them."""
-    links = [f"{name}=/usr{name}" for name in ("/bin", "/sbin") if os.path.islink(name) and os.readlink(name).strip("/") == f"usr{name}"]
+    links = [f"{name}=/usr{name}" for name in ("/bin", "/sbin") if os.path.islink(name) and os.readlink(name).lstrip("./").rstrip("/") == f"usr{name}"]
     first = f"same folders: {', '.join(links)}\n" if links else ""
     with Folder({**PEOPLE, "main": "ann ALL = /bin/a\n"}) as folder:
         stand.note("the links of this system", f"who {P} /bin/a", Wanted(f"{first}ann: main:1:11: allowed by: (root) /bin/a\n".encode()), folder)
