@@ -2,7 +2,8 @@
 
 Each case has a policy, a request and the members that were not decided and could have changed the answer. `why` has to print a
 line for each place of one, in the order of the lines. `who` has to print the same lines of the user of the request, with his
-name. `what` has to print those that could have changed where he has rules. The rows of EXACT are whole answers.
+name. `what` has to print those that could have changed where he has rules, or which Defaults lines hold of him. The rows of
+EXACT are whole answers.
 """
 
 import re
@@ -67,6 +68,16 @@ EXACT = (
         "what --policy main PEOPLE --host h ann",
         "ann may run nothing on h.\nnot decided: main:1:1: +ops: netgroups are not looked up\n",
         1,
+    ),
+    (
+        "a_listing_names_scopes_of_defaults_lines",
+        "ann ALL = /bin/a\nDefaults:+web !authenticate\nDefaults:+web,ann lecture\nDefaults@10.0.0.1 env_reset\nDefaults>+web insults\nDefaults!/bin/a noexec\n",
+        "what --policy main PEOPLE --host h ann",
+        "ann on h:\n    main:1:11: (root) /bin/a\nDefaults:\n    main:3:1: Defaults:+web, ann lecture\n"
+        "Defaults for some commands or runas users:\n    main:5:1: Defaults>+web insults\n    main:6:1: Defaults!/bin/a noexec\n"
+        "not decided: main:2:10: +web: netgroups are not looked up\n"
+        "not decided: main:4:10: 10.0.0.1: no interface of the host is named\n",
+        0,
     ),
     (
         "who_names_the_user",

@@ -369,8 +369,12 @@ class Model:
         return sorted(found, key=in_order)
 
     def undecided_in_rights(self):
-        """Returns the undecided members that could have changed where the user has rules, in order."""
+        """Returns the undecided members that could have changed where the user has rules, or which Defaults lines hold of him."""
         found = set()
+        for scope in (setting.scope for setting in self.policy.settings):
+            if scope and scope.kind != "runas":
+                part, test = {"user": ("Users", self.user), "host": ("Hosts", self.host)}[scope.kind]
+                found.update(part_of_list(self.policy, part, scope.kind, scope.members, test).turns)
         for spec in self.policy.specs:
             users = part_of_list(self.policy, "Users", "user", spec.users.members, self.user)
             found.update(users.turns)
@@ -401,7 +405,7 @@ def random_request(chance):
 
 
 def random_case(chance):
-    """Returns a policy, a request, and the members that are undecided, in its answer and where the user's rules are listed."""
+    """Returns a policy, a request, and the members that are undecided, in its answer and where the user's rights are listed."""
     policy = Writer(chance).policy()
     request = random_request(chance)
     model = Model(policy, request)
@@ -411,7 +415,7 @@ def random_case(chance):
 def main():
     """Prints the case of a seed."""
     policy, request, found, in_rights = random_case(Random(int(sys.argv[1]) if len(sys.argv) > 1 else 0))
-    print(policy.text, request, *found, "where rules are:", *in_rights, sep="\n")
+    print(policy.text, request, *found, "in rights:", *in_rights, sep="\n")
 
 
 if __name__ == "__main__":

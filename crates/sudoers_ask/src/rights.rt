@@ -42,7 +42,8 @@ struct Listing<'a, 'b, 'c> {
 pub struct RightsText {
     pub text: Vec<u8>,
     pub has_any: bool,
-    /// The members that were not decided and could have changed where the user has rules, a line for each.
+    /// The members that were not decided and could have changed where the user has rules, or which Defaults lines hold of him, a line for
+    /// each.
     pub undecided: Vec<u8>,
 }
 
@@ -52,7 +53,7 @@ pub struct Rights<'a> {
     pub commands: Vec<PlacedText>,
     pub defaults: DefaultsOfUser,
     pub has_any: bool,
-    /// The members that were not decided and could have changed where the user has rules.
+    /// The members that were not decided and could have changed where the user has rules, or which Defaults lines hold of him.
     pub undecided: Vec<UndecidedMember<'a>>,
 }
 

@@ -34,9 +34,9 @@ module _ (lines : List Line) (r : Request) where
   for_list Runas ms = ((λ x. x), (λ x. x))
   for_list Cmnd ms = ((λ x. x), (λ x. x))
 
-  for_scope : (scope : Option Scope) → IsScopeForUserOnHostByTests lines (match_tests_of_request r) scope ↔ IsForHeld lines r.who scope
-  for_scope None = ((λ x. x), (λ x. x))
-  for_scope (Some s) = for_list s.kind s.members
+  pub scope_by_request_tests : (scope : Option Scope) → IsScopeForUserOnHostByTests lines (match_tests_of_request r) scope ↔ IsForHeld lines r.who scope
+  scope_by_request_tests None = ((λ x. x), (λ x. x))
+  scope_by_request_tests (Some s) = for_list s.kind s.members
 
   pub runas_default_by_request_tests : (name : List ℕ) → IsRunasDefaultByTests lines (match_tests_of_request r) name ↔ IsRunasDefault lines r.who name
   runas_default_by_request_tests name = (there, back)
@@ -45,7 +45,7 @@ module _ (lines : List Line) (r : Request) where
       there d = record {
         last = d.last;
         is_last = last_of_equivalent_is_same (λ (setting : Option Scope × List ℕ). IsScopeForUserOnHostByTests lines (match_tests_of_request r) setting.0) (λ setting. IsForHeld lines r.who setting.0) (runas_defaults_of_lines lines)
-            (λ before after x e none. ((for_scope x.0).1, (for_scope x.0).0)) d.last d.is_last;
+            (λ before after x e none. ((scope_by_request_tests x.0).1, (scope_by_request_tests x.0).0)) d.last d.is_last;
         says = d.says;
       }
 
@@ -53,7 +53,7 @@ module _ (lines : List Line) (r : Request) where
       back d = record {
         last = d.last;
         is_last = last_of_equivalent_is_same (λ (setting : Option Scope × List ℕ). IsForHeld lines r.who setting.0) (λ setting. IsScopeForUserOnHostByTests lines (match_tests_of_request r) setting.0) (runas_defaults_of_lines lines)
-            (λ before after x e none. for_scope x.0) d.last d.is_last;
+            (λ before after x e none. scope_by_request_tests x.0) d.last d.is_last;
         says = d.says;
       }
 

@@ -51,9 +51,9 @@ module _ (one : FlatListIsUnique) (lines : List Line) (flats : HasFlatListOrNone
   for_list Runas ms = alike_by_all_tests (inr (λ lost. lost))
   for_list Cmnd ms = alike_by_all_tests (inr (λ lost. lost))
 
-  for_scope : (scope : Option Scope) → HoldsAlikeOrCouldTurn (IsScopeForUserOnHostByTests lines tests scope) (IsScopeForUserOnHostByTests lines other scope) (CouldTurnScope lines undecided tests scope)
-  for_scope None = alike_by_all_tests (inl tt)
-  for_scope (Some s) = for_list s.kind s.members
+  pub scope_alike_or_could_turn : (scope : Option Scope) → HoldsAlikeOrCouldTurn (IsScopeForUserOnHostByTests lines tests scope) (IsScopeForUserOnHostByTests lines other scope) (CouldTurnScope lines undecided tests scope)
+  scope_alike_or_could_turn None = alike_by_all_tests (inl tt)
+  scope_alike_or_could_turn (Some s) = for_list s.kind s.members
 
   abbrev Loosened : Type 0
   Loosened = (s : SignedAtom) × CouldTurnRunasDefault lines undecided tests s
@@ -64,7 +64,7 @@ module _ (one : FlatListIsUnique) (lines : List Line) (flats : HasFlatListOrNone
     where
       each : (before after : List (Option Scope × List ℕ)) (x : Option Scope × List ℕ) → runas_defaults_of_lines lines ≡ before ++ x ∷ after
           → AllByRecursion (λ (y : Option Scope × List ℕ). IsScopeForUserOnHostByTests lines tests y.0 → ⊥) after → Loosened ⊎ (IsScopeForUserOnHostByTests lines other x.0 ↔ IsScopeForUserOnHostByTests lines tests x.0)
-      each before after x e none = elim (for_scope x.0).same as (λ _. Loosened ⊎ (IsScopeForUserOnHostByTests lines other x.0 ↔ IsScopeForUserOnHostByTests lines tests x.0)) [
+      each before after x e none = elim (scope_alike_or_could_turn x.0).same as (λ _. Loosened ⊎ (IsScopeForUserOnHostByTests lines other x.0 ↔ IsScopeForUserOnHostByTests lines tests x.0)) [
         | inl l ↦ inl (l.0, record { setting = x; before = before; after = after; stands = e; none_behind = none; turns = l.1 })
         | inr f ↦ inr f
       ]

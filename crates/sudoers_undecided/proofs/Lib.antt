@@ -24,5 +24,7 @@ pub mod SettingCounts
 pub mod Listed
 mod SpecLines
 mod UserAndHostLists
+mod ScopeLists
+mod RightsLists
 mod OpenMembers
 mod ClosedAnswers

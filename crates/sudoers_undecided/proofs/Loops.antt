@@ -35,7 +35,7 @@ use Rattle.sudoers_match.proofs.Lasts.{all_append}
 use Rattle.sudoers_match.proofs.Rowed.{joined_all}
 use Rattle.sudoers_undecided.specs.declared.counted_lists.CountedLists.{CountedLists}
 use Rattle.sudoers_undecided.specs.declared.decided_aliases.PartStanding.{PartStanding}
-use Rattle.sudoers_undecided.specs.declared.default_scopes.DefaultScopes.{DefaultScopes}
+use Rattle.sudoers_undecided.specs.declared.user_and_host_lists.UserAndHostLists.{UserAndHostLists}
 use Rattle.sudoers_undecided.specs.declared.request_part.RequestPart.{RequestPart}
 use Rattle.sudoers_undecided.specs.declared.request_part.RequestPart.TheVariants as part
 use Rattle.sudoers_undecided.specs.declared.wanted_members.CountedList.{CountedList}
@@ -70,7 +70,7 @@ lists_grow : (k : Kind) (lines : List Line) (undecided : SignedAtom → Bool) (t
     → IsWantedOfLists k lines undecided test xs s → IsWantedOfLists k lines undecided test ys s
 lists_grow k lines undecided test xs ys s grow w = record { list = w.list; stands = grow w.list w.stands; is_wanted = w.is_wanted }
 
-module _ (lines : List Line) (r : Request) (scopes : DefaultScopes) where
+module _ (lines : List Line) (r : Request) (scopes : UserAndHostLists) where
   group_lists_grow : (g : Option Group) (xs ys : List CountedList) (s : SignedAtom) → ((l : CountedList) → ListHasElement xs l → ListHasElement ys l) → IsWantedOfGroupLists lines r g xs s → IsWantedOfGroupLists lines r g ys s
   group_lists_grow None xs ys s grow w = w
   group_lists_grow (Some g) xs ys s grow w = record { list = w.list; stands = grow w.list w.stands; is_wanted = w.is_wanted }
@@ -268,7 +268,7 @@ module _ (lines : List Line) (r : Request) (scopes : DefaultScopes) where
       neither false false e (inr h) = let clash : false ≡ true = h in cc
 
 -- every row is counted with what stands behind it
-pub covers_at : (lines : List Line) (r : Request) (scopes : DefaultScopes) (c : CountedLists) (before after : List PrivilegeRow) (row : PrivilegeRow) → CoversRows lines r scopes c (before ++ row ∷ after) → AllByRecursion (FitsNot lines r) after
+pub covers_at : (lines : List Line) (r : Request) (scopes : UserAndHostLists) (c : CountedLists) (before after : List PrivilegeRow) (row : PrivilegeRow) → CoversRows lines r scopes c (before ++ row ∷ after) → AllByRecursion (FitsNot lines r) after
     → (p : RequestPart) (s : SignedAtom) → CouldChangeWhetherRowFits lines (undecided_by_files_or_paths r) (match_tests_of_request r) r row p s → CoversAtom lines r scopes c p s
 covers_at lines r scopes c [] after row h none = h.0 none
 covers_at lines r scopes c (x ∷ before) after row h none = covers_at lines r scopes c before after row h.1 none
@@ -295,18 +295,18 @@ noted_at_start c e who runas s users hosts no_users no_groups u h = record {
   runas_groups = λ has. let clash : true ≡ false = sym has ∙ no_groups in absurd cc;
 }
 
-pub are_lists_of_command : (lines : List Line) (r : Request) (scopes : DefaultScopes) (who : UsersAndHosts) (runas : RunasOfCommands) (head : AccumulatedCommandSettings) (l : CommandLists)
+pub are_lists_of_command : (lines : List Line) (r : Request) (scopes : UserAndHostLists) (who : UsersAndHosts) (runas : RunasOfCommands) (head : AccumulatedCommandSettings) (l : CommandLists)
     → IsWhoStanding lines r who → IsRunasStanding lines r scopes runas → option_map runas_of_view runas.runas ≡ head.runas → l ≡ lists_of who runas l.standing.is_in_time
     → l.standing.is_in_time ≡ is_in_option_time_bounds r.moment (final_values_of_options head.options) → AreListsOfCommand lines r scopes head l
 are_lists_of_command lines r scopes who runas head l w s are e time =
     subst (AreListsOfCommand lines r scopes head) (sym e) (record { users = w.users; hosts = w.hosts; runas_are = are; runas_users = s.users; runas_groups = s.groups; moment = time })
 
-pub unfit_user_counts : (lines : List Line) (r : Request) (scopes : DefaultScopes) (c : CountedLists) (users : RowsOfTable MemberRow) (st : PartStanding) → IsUsersStanding lines r users st → may_part_hold st ≡ false
+pub unfit_user_counts : (lines : List Line) (r : Request) (scopes : UserAndHostLists) (c : CountedLists) (users : RowsOfTable MemberRow) (st : PartStanding) → IsUsersStanding lines r users st → may_part_hold st ≡ false
     → (i j : ℕ) (g : HostGroup) (rows : List PrivilegeRow) → AreRowsPerFlatAtomOfHostGroup lines i (members_of_view users) j g rows → CountsRows lines r scopes c c rows
 unfit_user_counts lines r scopes c users st h e i j g rows are =
     unfit_group_counts lines r scopes c i (members_of_view users) j g rows (λ k head s may. may_hold_or_turn lines r scopes st h e (may part.Users)) are
 
-pub unfit_host_counts : (lines : List Line) (r : Request) (scopes : DefaultScopes) (c : CountedLists) (us : List Member) (hosts : RowsOfTable MemberRow) (st : PartStanding) → IsHostsStanding lines r hosts st → may_part_hold st ≡ false
+pub unfit_host_counts : (lines : List Line) (r : Request) (scopes : UserAndHostLists) (c : CountedLists) (us : List Member) (hosts : RowsOfTable MemberRow) (st : PartStanding) → IsHostsStanding lines r hosts st → may_part_hold st ≡ false
     → (i j : ℕ) (g : HostGroup) → g.hosts ≡ members_of_view hosts → (rows : List PrivilegeRow) → AreRowsPerFlatAtomOfHostGroup lines i us j g rows → CountsRows lines r scopes c c rows
 unfit_host_counts lines r scopes c us hosts st h e i j g same rows are =
     unfit_group_counts lines r scopes c i us j g rows

@@ -23,7 +23,7 @@ use Rattle.sudoers_undecided.specs.declared.asked_request.CountedParts.{CountedP
 use Rattle.sudoers_undecided.specs.declared.asked_request.RowStanding.{RowStanding}
 use Rattle.sudoers_undecided.specs.declared.counted_lists.CountedLists.{CountedLists}
 use Rattle.sudoers_undecided.specs.declared.decided_aliases.PartStanding.{PartStanding}
-use Rattle.sudoers_undecided.specs.declared.default_scopes.DefaultScopes.{DefaultScopes}
+use Rattle.sudoers_undecided.specs.declared.user_and_host_lists.UserAndHostLists.{UserAndHostLists}
 use Rattle.sudoers_undecided.specs.declared.list_sway.ListSway.{ListSway}
 use Rattle.sudoers_undecided.specs.declared.request_part.RequestPart.{RequestPart}
 use Rattle.sudoers_undecided.specs.declared.request_part.RequestPart.TheVariants as part
@@ -164,7 +164,7 @@ stands_in before after xs x e = subst (λ ys. ListHasElement ys x) (sym e) (in_m
 
 -- ---- rows of a command
 
-module _ (lines : List Line) (r : Request) (scopes : DefaultScopes) (head : AccumulatedCommandSettings) (l : CommandLists) (h : AreListsOfCommand lines r scopes head l) (i j k : ℕ) where
+module _ (lines : List Line) (r : Request) (scopes : UserAndHostLists) (head : AccumulatedCommandSettings) (l : CommandLists) (h : AreListsOfCommand lines r scopes head l) (i j k : ℕ) where
   abbrev row : SignedAtom → PrivilegeRow
   row = privilege_row_of i j (members_of_view l.users) (members_of_view l.hosts) k head
 

@@ -25,7 +25,7 @@ use Rattle.sudoers_undecided.specs.declared.asked_request.CountedParts.{CountedP
 use Rattle.sudoers_undecided.specs.declared.asked_request.RowStanding.{RowStanding}
 use Rattle.sudoers_undecided.specs.declared.counted_lists.CountedLists.{CountedLists}
 use Rattle.sudoers_undecided.specs.declared.decided_aliases.PartStanding.{PartStanding}
-use Rattle.sudoers_undecided.specs.declared.default_scopes.DefaultScopes.{DefaultScopes}
+use Rattle.sudoers_undecided.specs.declared.user_and_host_lists.UserAndHostLists.{UserAndHostLists}
 use Rattle.sudoers_undecided.specs.declared.request_part.RequestPart.{RequestPart}
 use Rattle.sudoers_undecided.specs.declared.request_part.RequestPart.TheVariants as part
 use Rattle.sudoers_undecided.specs.declared.wanted_members.CountedList.{CountedList}
@@ -60,7 +60,7 @@ module _ (lines : List Line) (r : Request) where
       of_groups None = tt
       of_groups (Some g) = λ x h. absurd (no_list_is_there c.runas_groups.items n.runas_groups x h)
 
-  pub no_lists_name_no_atom : (scopes : DefaultScopes) (c : CountedLists) → AreNoLists c → (p : RequestPart) (s : SignedAtom) → CoversAtom lines r scopes c p s → ⊥
+  pub no_lists_name_no_atom : (scopes : UserAndHostLists) (c : CountedLists) → AreNoLists c → (p : RequestPart) (s : SignedAtom) → CoversAtom lines r scopes c p s → ⊥
   no_lists_name_no_atom scopes c n part.Users s w = no_list_is_there c.users.items n.users w.list w.stands
   no_lists_name_no_atom scopes c n part.Hosts s w = no_list_is_there c.hosts.items n.hosts w.list w.stands
   no_lists_name_no_atom scopes c n part.RunasUsers s (inl w) = no_list_is_there c.runas_users.items n.runas_users w.list w.stands
@@ -73,7 +73,7 @@ module _ (lines : List Line) (r : Request) where
   no_lists_name_no_atom scopes c n part.Moment s w = w
   no_lists_name_no_atom scopes c n part.Command s w = no_list_is_there c.commands.items n.commands w.list w.stands
 
-  pub first_lists_name_none : (scopes : DefaultScopes) (c : CountedLists) → AreNoLists c → (rows : List PrivilegeRow) (p : RequestPart) (s : SignedAtom)
+  pub first_lists_name_none : (scopes : UserAndHostLists) (c : CountedLists) → AreNoLists c → (rows : List PrivilegeRow) (p : RequestPart) (s : SignedAtom)
       → (CoversAtom lines r scopes c p s × AllByRecursion (FitsNot lines r) rows) ⊎ CouldChangeOneOfRows lines r rows p s → CouldChangeOneOfRows lines r rows p s
   first_lists_name_none scopes c n rows p s w = elim w as (λ _. CouldChangeOneOfRows lines r rows p s) [ inl old ↦ absurd (no_lists_name_no_atom scopes c n p s old.0) | inr one ↦ one ]
 
@@ -95,7 +95,7 @@ module _ (lines : List Line) (r : Request) where
 
 -- ---- rows of a command
 
-module _ (lines : List Line) (r : Request) (scopes : DefaultScopes) (head : AccumulatedCommandSettings) (l : CommandLists) (h : AreListsOfCommand lines r scopes head l) (i j k : ℕ) where
+module _ (lines : List Line) (r : Request) (scopes : UserAndHostLists) (head : AccumulatedCommandSettings) (l : CommandLists) (h : AreListsOfCommand lines r scopes head l) (i j k : ℕ) where
   abbrev row : SignedAtom → PrivilegeRow
   row = privilege_row_of i j (members_of_view l.users) (members_of_view l.hosts) k head
 

@@ -19,7 +19,7 @@ use Rattle.sudoers_match.specs.Rows.{AreRowsPerFlatAtomOfCommand, PrivilegeRow, 
 use Rattle.sudoers_undecided.specs.declared.asked_request.CommandLists.{CommandLists}
 use Rattle.sudoers_undecided.specs.declared.counted_lists.CountedLists.{CountedLists}
 use Rattle.sudoers_undecided.specs.declared.decided_aliases.DecidedAliases.{DecidedAliases}
-use Rattle.sudoers_undecided.specs.declared.default_scopes.DefaultScopes.{DefaultScopes}
+use Rattle.sudoers_undecided.specs.declared.user_and_host_lists.UserAndHostLists.{UserAndHostLists}
 use Rattle.sudoers_undecided.specs.declared.list_sway.ListSway.{ListSway}
 use Rattle.sudoers_undecided.specs.declared.request_part.RequestPart.TheVariants as part
 use Rattle.sudoers_undecided.specs.declared.wanted_members.CountedList.{CountedList}
@@ -47,7 +47,7 @@ decided_sway lines k undecided test d a ms sway h =
     (subst (λ (u : SignedAtom → Bool). IsSwayOfList d.kind lines u test ms sway) a.undecided_are
     (subst (λ (t : Atom → Bool). IsSwayOfList d.kind lines (undecided_by d) t ms sway) a.matched_are h))
 
-module _ (lines : List Line) (r : Request) (scopes : DefaultScopes) (head : AccumulatedCommandSettings) (l : CommandLists) (h : AreListsOfCommand lines r scopes head l)
+module _ (lines : List Line) (r : Request) (scopes : UserAndHostLists) (head : AccumulatedCommandSettings) (l : CommandLists) (h : AreListsOfCommand lines r scopes head l)
     (member : RowsOfTable MemberRow) (m : Member) (alone : members_of_view member ≡ m ∷ []) (i j k : ℕ) (rows : List PrivilegeRow)
     (are : AreRowsPerFlatAtomOfCommand lines i j (members_of_view l.users) (members_of_view l.hosts) k (head, m) rows) where
   abbrev test : Atom → Bool

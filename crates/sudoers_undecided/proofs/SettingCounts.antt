@@ -9,12 +9,11 @@ use Rattle.sudoers_line_rows.specs.declared.view.Scope.{Scope as ScopeView}
 use Rattle.sudoers_line_rows.specs.View.{members_of_view, scope_of_view}
 use Rattle.sudoers_tree.specs.Line.{Line}
 use Rattle.sudoers_check.specs.Chain.{ListHasElement}
-use Rattle.sudoers_check.proofs.Lists.{Has_push}
 use Rattle.sudoers_match_member.specs.declared.request.Request.{Request}
 use Rattle.sudoers_match_list.specs.Flat.{SignedAtom}
 use Rattle.sudoers_match.specs.Default.{runas_defaults_in_node, runas_defaults_of_lines, setting_with_scope}
 use Rattle.sudoers_undecided.specs.declared.decided_aliases.PartStanding.{PartStanding}
-use Rattle.sudoers_undecided.specs.declared.default_scopes.DefaultScopes.{DefaultScopes}
+use Rattle.sudoers_undecided.specs.declared.user_and_host_lists.UserAndHostLists.{UserAndHostLists}
 use Rattle.sudoers_undecided.specs.declared.wanted_members.CountedList.{CountedList}
 use Rattle.sudoers_undecided.specs.ListSway.{is_bare_and_undecided}
 use Rattle.sudoers_undecided.specs.MatchTests.{match_tests_of_request, undecided_by_files_or_paths}
@@ -26,10 +25,10 @@ use Rattle.sudoers_undecided.specs.internal.Settings.{AddsOnlyScopeList, CouldTu
 abbrev pub Setting : Type 0
 Setting = Option Scope × List ℕ
 
-pub scopes_grown_on : (c d e : DefaultScopes) → HaveScopesGrown c d → HaveScopesGrown d e → HaveScopesGrown c e
+pub scopes_grown_on : (c d e : UserAndHostLists) → HaveScopesGrown c d → HaveScopesGrown d e → HaveScopesGrown c e
 scopes_grown_on c d e a b = record { users = λ x y. b.users x (a.users x y); hosts = λ x y. b.hosts x (a.hosts x y) }
 
-pub scopes_stay : (c : DefaultScopes) → HaveScopesGrown c c
+pub scopes_stay : (c : UserAndHostLists) → HaveScopesGrown c c
 scopes_stay c = record { users = λ x y. y; hosts = λ x y. y }
 
 all_of_append : {X : Type 0} (P : X → Type 0) (xs ys : List X) → AllByRecursion P (xs ++ ys) → AllByRecursion P xs × AllByRecursion P ys
@@ -54,11 +53,11 @@ has_none [] e = refl
 has_none (x ∷ xs) e = absurd cc
 
 module _ (lines : List Line) (r : Request) where
-  named_stays : (c e : DefaultScopes) → HaveScopesGrown c e → (s : SignedAtom) → IsWantedOfScopes lines r c s → IsWantedOfScopes lines r e s
+  named_stays : (c e : UserAndHostLists) → HaveScopesGrown c e → (s : SignedAtom) → IsWantedOfScopes lines r c s → IsWantedOfScopes lines r e s
   named_stays c e g s (inl w) = inl (record { list = w.list; stands = g.users w.list w.stands; is_wanted = w.is_wanted })
   named_stays c e g s (inr w) = inr (record { list = w.list; stands = g.hosts w.list w.stands; is_wanted = w.is_wanted })
 
-  covers_on : (d e : DefaultScopes) (xs ys : List Setting) → CoversSettings lines r d xs → (AllByRecursion (CountsNot lines r) ys → ⊥) ⊎ HaveScopesGrown d e → CoversSettings lines r e ys → CoversSettings lines r e (xs ++ ys)
+  covers_on : (d e : UserAndHostLists) (xs ys : List Setting) → CoversSettings lines r d xs → (AllByRecursion (CountsNot lines r) ys → ⊥) ⊎ HaveScopesGrown d e → CoversSettings lines r e ys → CoversSettings lines r e (xs ++ ys)
   covers_on d e [] ys a f b = b
   covers_on d e (x ∷ xs) ys a f b = (
     (λ none s w.
@@ -90,7 +89,7 @@ module _ (lines : List Line) (r : Request) where
     turns = o.turns;
   }
 
-  names_only_on : (c d e : DefaultScopes) (xs ys : List Setting) → NamesOnlyAtomsOfSettings lines r c d xs → NamesOnlyAtomsOfSettings lines r d e ys → NamesOnlyAtomsOfSettings lines r c e (xs ++ ys)
+  names_only_on : (c d e : UserAndHostLists) (xs ys : List Setting) → NamesOnlyAtomsOfSettings lines r c d xs → NamesOnlyAtomsOfSettings lines r d e ys → NamesOnlyAtomsOfSettings lines r c e (xs ++ ys)
   names_only_on c d e xs ys a b s w = elim (b s w) as (λ _. (IsWantedOfScopes lines r c s × AllByRecursion (CountsNot lines r) (xs ++ ys)) ⊎ CouldTurnOneOfSettings lines r (xs ++ ys) s) [
     | inl old ↦ elim (a s old.0) as (λ _. (IsWantedOfScopes lines r c s × AllByRecursion (CountsNot lines r) (xs ++ ys)) ⊎ CouldTurnOneOfSettings lines r (xs ++ ys) s) [
       | inl first ↦ inl (first.0, append_all (CountsNot lines r) xs ys first.1 old.1)
@@ -99,7 +98,7 @@ module _ (lines : List Line) (r : Request) where
     | inr one ↦ inr (turned_after xs ys s one)
   ]
 
-  pub settings_on : (c d e : DefaultScopes) (xs ys : List Setting) → CountsSettings lines r c d xs → CountsSettings lines r d e ys → CountsSettings lines r c e (xs ++ ys)
+  pub settings_on : (c d e : UserAndHostLists) (xs ys : List Setting) → CountsSettings lines r c d xs → CountsSettings lines r d e ys → CountsSettings lines r c e (xs ++ ys)
   settings_on c d e xs ys a b = record {
     counts = elim b.counts as (λ _. (AllByRecursion (CountsNot lines r) (xs ++ ys) → ⊥) ⊎ HaveScopesGrown c e) [
       | inl one ↦ inl (λ none. one (all_of_append (CountsNot lines r) xs ys none).1)
@@ -113,18 +112,18 @@ module _ (lines : List Line) (r : Request) where
     turned = λ t. b.turned (a.turned t);
   }
 
-  pub no_settings_count : (c : DefaultScopes) → CountsSettings lines r c c []
+  pub no_settings_count : (c : UserAndHostLists) → CountsSettings lines r c c []
   no_settings_count c = record { counts = inr (scopes_stay c); covers = tt; only = λ s w. inl (w, tt); turned = λ t. t }
 
   -- ---- the settings of a line
 
-  named_by_list : (e : DefaultScopes) (line : ℕ) (scope : ScopeView) (k : Kind) (st : PartStanding) (s : SignedAtom) → HasScopeList e line scope k st → IsWantedOfScopeList lines r scope k st s → IsWantedOfScopes lines r e s
+  named_by_list : (e : UserAndHostLists) (line : ℕ) (scope : ScopeView) (k : Kind) (st : PartStanding) (s : SignedAtom) → HasScopeList e line scope k st → IsWantedOfScopeList lines r scope k st s → IsWantedOfScopes lines r e s
   named_by_list e line scope User st s x w = inl (record { list = counted_list line scope.members st.holds; stands = x; is_wanted = w })
   named_by_list e line scope Host st s x w = inr (record { list = counted_list line scope.members st.holds; stands = x; is_wanted = w })
   named_by_list e line scope Runas st s x w = absurd w
   named_by_list e line scope Cmnd st s x w = absurd w
 
-  scope_covers : (e : DefaultScopes) (line : ℕ) (scope : ScopeView) (st : PartStanding) → IsScopeStanding lines r scope st → (st.could_turn ≡ true → HasScopeList e line scope scope.kind st) → (names : List (List ℕ))
+  scope_covers : (e : UserAndHostLists) (line : ℕ) (scope : ScopeView) (st : PartStanding) → IsScopeStanding lines r scope st → (st.could_turn ≡ true → HasScopeList e line scope scope.kind st) → (names : List (List ℕ))
       → CoversSettings lines r e (map (setting_with_scope (Some (scope_of_view scope))) names)
   scope_covers e line scope st h has [] = tt
   scope_covers e line scope st h has (name ∷ names) = ((λ _ s w. named_by_list e line scope scope.kind st s (has (h.turns s w)) (h.wanted s w)), scope_covers e line scope st h has names)
@@ -140,16 +139,16 @@ module _ (lines : List Line) (r : Request) where
   none_counts scope n [] = tt
   none_counts scope n (name ∷ names) = (n, none_counts scope n names)
 
-  pub nothing_wanted_of_no_lists : (c : DefaultScopes) → c.users.items ≡ [] → c.hosts.items ≡ [] → (s : SignedAtom) → IsWantedOfScopes lines r c s → ⊥
+  pub nothing_wanted_of_no_lists : (c : UserAndHostLists) → c.users.items ≡ [] → c.hosts.items ≡ [] → (s : SignedAtom) → IsWantedOfScopes lines r c s → ⊥
   nothing_wanted_of_no_lists c e f s (inl w) = subst (λ ls. ListHasElement ls w.list) e w.stands
   nothing_wanted_of_no_lists c e f s (inr w) = subst (λ ls. ListHasElement ls w.list) f w.stands
 
-  pub no_lists_are_turned : (c : DefaultScopes) → c.users.items ≡ [] → c.hosts.items ≡ [] → AreScopeListsTurned lines r c
+  pub no_lists_are_turned : (c : UserAndHostLists) → c.users.items ≡ [] → c.hosts.items ≡ [] → AreScopeListsTurned lines r c
   no_lists_are_turned c e f = record { users = λ l h. absurd (subst (λ ls. ListHasElement ls l) e h); hosts = λ l h. absurd (subst (λ ls. ListHasElement ls l) f h) }
 
   -- a list that is added
 
-  wanted_before_or_of_scope : (c e : DefaultScopes) (line : ℕ) (scope : ScopeView) (st : PartStanding) → AddsOnlyScopeList c e line scope scope.kind st → (s : SignedAtom) → IsWantedOfScopes lines r e s
+  wanted_before_or_of_scope : (c e : UserAndHostLists) (line : ℕ) (scope : ScopeView) (st : PartStanding) → AddsOnlyScopeList c e line scope scope.kind st → (s : SignedAtom) → IsWantedOfScopes lines r e s
       → IsWantedOfScopes lines r c s ⊎ IsWantedOfScopeList lines r scope scope.kind st s
   wanted_before_or_of_scope c e line scope st h s (inl w) = elim (h.users w.list w.stands) as (λ _. IsWantedOfScopes lines r c s ⊎ IsWantedOfScopeList lines r scope scope.kind st s) [
     | inl old ↦ inl (inl (record { list = w.list; stands = old; is_wanted = w.is_wanted }))
@@ -162,7 +161,7 @@ module _ (lines : List Line) (r : Request) where
         (subst (λ (l : CountedList). IsWantedOfList Host lines (is_bare_and_undecided (undecided_by_files_or_paths r).host) (match_tests_of_request r).host (members_of_view l.members) l.wanted s) new.1.is w.is_wanted))
   ]
 
-  lists_stay_turned : (c e : DefaultScopes) (line : ℕ) (scope : ScopeView) (st : PartStanding) → IsScopeStanding lines r scope st → AddsOnlyScopeList c e line scope scope.kind st → AreScopeListsTurned lines r c → AreScopeListsTurned lines r e
+  lists_stay_turned : (c e : UserAndHostLists) (line : ℕ) (scope : ScopeView) (st : PartStanding) → IsScopeStanding lines r scope st → AddsOnlyScopeList c e line scope scope.kind st → AreScopeListsTurned lines r c → AreScopeListsTurned lines r e
   lists_stay_turned c e line scope st h adds t = record {
     users = λ l stands. elim (adds.users l stands) as (λ _. (s : SignedAtom) × IsWantedOfList User lines (is_bare_and_undecided (undecided_by_files_or_paths r).user) (match_tests_of_request r).user (members_of_view l.members) l.wanted s) [
       | inl old ↦ t.users l old
@@ -184,7 +183,7 @@ module _ (lines : List Line) (r : Request) where
     ];
   }
 
-  pub counting_scope_counts : (c d e : DefaultScopes) (line : ℕ) (scope : ScopeView) (st : PartStanding) → IsScopeStanding lines r scope st → (st.could_turn ≡ true → HasScopeList e line scope scope.kind st) → st.holds ≡ true
+  pub counting_scope_counts : (c d e : UserAndHostLists) (line : ℕ) (scope : ScopeView) (st : PartStanding) → IsScopeStanding lines r scope st → (st.could_turn ≡ true → HasScopeList e line scope scope.kind st) → st.holds ≡ true
       → d.users.items ≡ [] → d.hosts.items ≡ [] → AddsOnlyScopeList d e line scope scope.kind st
       → (name : List ℕ) (names : List (List ℕ)) → CountsSettings lines r c e (map (setting_with_scope (Some (scope_of_view scope))) (name ∷ names))
   counting_scope_counts c d e line scope st h has holds users hosts adds name names = record {
@@ -197,7 +196,7 @@ module _ (lines : List Line) (r : Request) where
     turned = λ _. lists_stay_turned d e line scope st h adds (no_lists_are_turned d users hosts);
   }
 
-  pub added_scope_counts : (c e : DefaultScopes) (line : ℕ) (scope : ScopeView) (st : PartStanding) → IsScopeStanding lines r scope st → (st.could_turn ≡ true → HasScopeList e line scope scope.kind st) → st.holds ≡ false
+  pub added_scope_counts : (c e : UserAndHostLists) (line : ℕ) (scope : ScopeView) (st : PartStanding) → IsScopeStanding lines r scope st → (st.could_turn ≡ true → HasScopeList e line scope scope.kind st) → st.holds ≡ false
       → HaveScopesGrown c e → AddsOnlyScopeList c e line scope scope.kind st
       → (name : List ℕ) (names : List (List ℕ)) → CountsSettings lines r c e (map (setting_with_scope (Some (scope_of_view scope))) (name ∷ names))
   added_scope_counts c e line scope st h has fails grown adds name names = record {
@@ -211,7 +210,7 @@ module _ (lines : List Line) (r : Request) where
     turned = lists_stay_turned c e line scope st h adds;
   }
 
-  pub settings_for_all_count : (c e : DefaultScopes) → e.users.items ≡ [] → e.hosts.items ≡ [] → (name : List ℕ) (names : List (List ℕ)) → CountsSettings lines r c e (map (setting_with_scope None) (name ∷ names))
+  pub settings_for_all_count : (c e : UserAndHostLists) → e.users.items ≡ [] → e.hosts.items ≡ [] → (name : List ℕ) (names : List (List ℕ)) → CountsSettings lines r c e (map (setting_with_scope None) (name ∷ names))
   settings_for_all_count c e users hosts name names = record {
     counts = inl (λ none. none.0 tt);
     covers = covers (name ∷ names);
@@ -223,19 +222,19 @@ module _ (lines : List Line) (r : Request) where
       covers [] = tt
       covers (x ∷ xs) = ((λ _ s w. absurd w), covers xs)
 
-  pub named_settings : (c e : DefaultScopes) (scope : Option Scope) (xs : List (List ℕ)) → has_item xs ≡ true
+  pub named_settings : (c e : UserAndHostLists) (scope : Option Scope) (xs : List (List ℕ)) → has_item xs ≡ true
       → ((name : List ℕ) (names : List (List ℕ)) → CountsSettings lines r c e (map (setting_with_scope scope) (name ∷ names))) → CountsSettings lines r c e (map (setting_with_scope scope) xs)
   named_settings c e scope xs some each = let first = has_first xs some in subst (λ ys. CountsSettings lines r c e (map (setting_with_scope scope) ys)) (sym first.2) (each first.0 first.1)
 
-  pub unnamed_settings : (c : DefaultScopes) (scope : Option Scope) (xs : List (List ℕ)) → has_item xs ≡ false → CountsSettings lines r c c (map (setting_with_scope scope) xs)
+  pub unnamed_settings : (c : UserAndHostLists) (scope : Option Scope) (xs : List (List ℕ)) → has_item xs ≡ false → CountsSettings lines r c c (map (setting_with_scope scope) xs)
   unnamed_settings c scope xs e = subst (λ ys. CountsSettings lines r c c (map (setting_with_scope scope) ys)) (sym (has_none xs e)) (no_settings_count c)
 
   -- ---- one line more
 
-  abbrev pub CountsBefore : DefaultScopes → DefaultScopes → List Line → List Line → Type 0
+  abbrev pub CountsBefore : UserAndHostLists → UserAndHostLists → List Line → List Line → Type 0
   CountsBefore c e all left = (before : List Setting) × (runas_defaults_of_lines all ≡ before ++ runas_defaults_of_lines left) × CountsSettings lines r c e before
 
-  pub one_line_more_counts : {X : Type 0} (f : X → Line) (rows : List X) (n : ℕ) (x : X) → n < length rows → (c d e : DefaultScopes) (all : List Line) → CountsBefore c d all (map f (drop n rows))
+  pub one_line_more_counts : {X : Type 0} (f : X → Line) (rows : List X) (n : ℕ) (x : X) → n < length rows → (c d e : UserAndHostLists) (all : List Line) → CountsBefore c d all (map f (drop n rows))
       → (says : Node) → says ≡ (f (get_or rows n x)).node → CountsSettings lines r d e (runas_defaults_in_node says) → CountsBefore c e all (map f (drop (n + 1) rows))
   one_line_more_counts f rows n x within c d e all w says is more = (
     w.0 ++ runas_defaults_in_node (f (get_or rows n x)).node,
@@ -244,12 +243,12 @@ module _ (lines : List Line) (r : Request) where
     settings_on c d e w.0 (runas_defaults_in_node (f (get_or rows n x)).node) w.2 (subst (λ (m : Node). CountsSettings lines r d e (runas_defaults_in_node m)) is more),
   )
 
-  pub setting_is_named : (e : DefaultScopes) (before after : List Setting) (x : Setting) → CoversSettings lines r e (before ++ x ∷ after) → AllByRecursion (CountsNot lines r) after
+  pub setting_is_named : (e : UserAndHostLists) (before after : List Setting) (x : Setting) → CoversSettings lines r e (before ++ x ∷ after) → AllByRecursion (CountsNot lines r) after
       → (s : SignedAtom) → CouldTurnScope lines (undecided_by_files_or_paths r) (match_tests_of_request r) x.0 s → IsWantedOfScopes lines r e s
   setting_is_named e [] after x h none = h.0 none
   setting_is_named e (y ∷ before) after x h none = setting_is_named e before after x h.1 none
 
-  pub only_turning_atoms_are_named : (c e : DefaultScopes) (xs : List Setting) → NamesOnlyAtomsOfSettings lines r c e xs → c.users.items ≡ [] → c.hosts.items ≡ [] → runas_defaults_of_lines lines ≡ xs
+  pub only_turning_atoms_are_named : (c e : UserAndHostLists) (xs : List Setting) → NamesOnlyAtomsOfSettings lines r c e xs → c.users.items ≡ [] → c.hosts.items ≡ [] → runas_defaults_of_lines lines ≡ xs
       → (s : SignedAtom) → IsWantedOfScopes lines r e s → CouldTurnRunasDefault lines (undecided_by_files_or_paths r) (match_tests_of_request r) s
   only_turning_atoms_are_named c e xs only users hosts all s w = elim (only s w) as (λ _. CouldTurnRunasDefault lines (undecided_by_files_or_paths r) (match_tests_of_request r) s) [
     | inl old ↦ absurd (nothing_wanted_of_no_lists c users hosts s old.0)
@@ -257,12 +256,6 @@ module _ (lines : List Line) (r : Request) where
   ]
 
 -- ---- an atom of some list
-
-pub pushed_splits : {X : Type 0} (xs ys : List X) (x : X) → ys ≡ xs ++ x ∷ [] → (y : X) → ListHasElement ys y → ListHasElement xs y ⊎ (y ≡ x)
-pushed_splits xs ys x e y h = elim (Has_push xs x y (subst (λ zs. ListHasElement zs y) e h)) as (λ _. ListHasElement xs y ⊎ (y ≡ x)) [
-  | inl old ↦ inl old
-  | inr same ↦ inr (sym same)
-]
 
 pub record HasSomeItem {X : Type 0} (xs : List X) : Type 0 where
   pub item : X

@@ -18,7 +18,7 @@ use Rattle.sudoers_match.specs.Default.{runas_defaults_of_lines, runas_name_or_r
 use Rattle.sudoers_match.proofs.Lasts.{last_one}
 use Rattle.sudoers_undecided.specs.declared.decided_aliases.DecidedAliases.{DecidedAliases}
 use Rattle.sudoers_undecided.specs.declared.decided_aliases.PartStanding.{PartStanding}
-use Rattle.sudoers_undecided.specs.declared.default_scopes.DefaultScopes.{DefaultScopes}
+use Rattle.sudoers_undecided.specs.declared.user_and_host_lists.UserAndHostLists.{UserAndHostLists}
 use Rattle.sudoers_undecided.specs.declared.member_question.MemberQuestion.{MemberQuestion}
 use Rattle.sudoers_undecided.specs.MemberQuestions.{is_atom_matched_by_question, is_undecided_by_question}
 use Rattle.sudoers_undecided.specs.ListSway.{is_bare_and_undecided}
@@ -231,7 +231,7 @@ stands_for_group lines r g e us gs st h =
     subst (λ o. IsPartStanding (RunasListsAllowGroupByTests lines (match_tests_of_request r) r.who.user r.target o us gs)
     (CouldTurnRunasGroupList lines (undecided_by_files_or_paths r) (match_tests_of_request r) r.target o gs) (IsWantedGroupOf lines r o st gs) st) (sym e) h
 
-pub default_user_stands : (lines : List Line) (r : Request) (scopes : DefaultScopes) (name : List ℕ) (st : PartStanding) → IsRunasDefaultByTests lines (match_tests_of_request r) name
+pub default_user_stands : (lines : List Line) (r : Request) (scopes : UserAndHostLists) (name : List ℕ) (st : PartStanding) → IsRunasDefaultByTests lines (match_tests_of_request r) name
     → ((s : SignedAtom) → CouldTurnRunasDefault lines (undecided_by_files_or_paths r) (match_tests_of_request r) s ↔ IsWantedOfScopes lines r scopes s)
     → st.holds ≡ is_name_equal_ignoring_case name r.target.name → ((s : SignedAtom) → IsWantedOfScopes lines r scopes s → st.could_turn ≡ true) → (st.could_turn ≡ true → (s : SignedAtom) × IsWantedOfScopes lines r scopes s)
     → IsRunasUsersStanding lines r scopes None st

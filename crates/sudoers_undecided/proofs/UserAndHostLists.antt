@@ -5,7 +5,6 @@ use Rattle.std.proofs.lemmas.Option.{slice_get-get_or, slice_get_within}
 use Rattle.sudoers_grammar.specs.declared.node.Atom.{Atom}
 use Rattle.sudoers_grammar.specs.declared.node.Kind.{Kind}
 use Rattle.sudoers_grammar.specs.declared.node.Kind.TheVariants.{User, Host}
-use Rattle.sudoers_grammar.specs.Node.{HostGroup}
 use Rattle.sudoers_line_rows.specs.declared.row_lists.RowsOfTable.{RowsOfTable}
 use Rattle.sudoers_line_rows.specs.declared.rows.MemberRow.{MemberRow}
 use Rattle.sudoers_line_rows.specs.View.{members_of_view}
@@ -18,25 +17,19 @@ use Rattle.sudoers_match_member.specs.declared.people_and_commands.Who.{Who}
 use Rattle.sudoers_match_member.specs.Hits.{is_host_atom_match, is_user_atom_match}
 use Rattle.sudoers_match_list.specs.Flat.{SignedAtom}
 use Rattle.sudoers_match.specs.Allows.{ListAllows}
-use Rattle.sudoers_match.specs.Specs.{UserSpec, user_specs_of_lines}
+use Rattle.sudoers_match.specs.Specs.{UserSpec}
 use Rattle.sudoers_undecided.specs.declared.decided_aliases.DecidedAliases.{DecidedAliases}
 use Rattle.sudoers_undecided.specs.declared.decided_aliases.PartStanding.{PartStanding}
 use Rattle.sudoers_undecided.specs.declared.member_question.MemberQuestion.TheVariants as question
-use Rattle.sudoers_undecided.specs.declared.request_part.RequestPart.{RequestPart}
-use Rattle.sudoers_undecided.specs.declared.rights.UserAndHostLists.{UserAndHostLists}
-use Rattle.sudoers_undecided.specs.declared.undecided_member.UndecidedMember.{UndecidedMember}
 use Rattle.sudoers_undecided.specs.declared.wanted_members.CountedList.{CountedList}
-use Rattle.sudoers_undecided.specs.FoundMembers.{IsUndecidedMemberOfRights}
 use Rattle.sudoers_undecided.specs.ListSway.{is_bare_and_undecided}
 use Rattle.sudoers_undecided.specs.MatchTests.{match_tests_of_request, undecided_by_files_or_paths}
 use Rattle.sudoers_undecided.specs.MemberQuestions.{is_host_atom_undecided}
 use Rattle.sudoers_undecided.specs.TurningMembers.{CouldTurnList}
-use Rattle.sudoers_undecided.specs.internal.Collected.{IsMemberOfLists}
-use Rattle.sudoers_undecided.specs.internal.Counted.{IsPartStanding, counted_list}
+use Rattle.sudoers_undecided.specs.internal.Counted.{AreHostAliases, AreUserAliases, IsPartStanding, counted_list}
 use Rattle.sudoers_undecided.specs.internal.Decided.{DecidesAllAliases}
-use Rattle.sudoers_undecided.specs.internal.Rights.{AddsListsOfGroups, AddsTurningAtoms, AreHostAliases, AreUserAliases, CouldTurnHostsOfGroup, CouldTurnHostsOfSpec, CouldTurnOneOf, CouldTurnUsersOfSpec, HoldsListsOfSpecs}
+use Rattle.sudoers_undecided.specs.internal.Rights.{AddsListsOfGroups, AddsTurningAtoms, CouldTurnHostsOfGroup, CouldTurnHostsOfSpec, CouldTurnOneOf}
 use Rattle.sudoers_undecided.specs.internal.Wanted.{AreFlat, HasFlatList, IsWantedOfList, IsWantedOfLists, wanted_of_sign}
-use Rattle.sudoers_undecided.proofs.Listed.{wanted_as_decided}
 use Rattle.sudoers_undecided.proofs.Standings.{aliases_decided_by}
 
 -- ---- the first things of a list
@@ -59,6 +52,10 @@ module _ (k : Kind) (lines : List Line) (undecided test : Atom → Bool) where
 
   pub nothing_added : (Turns : SignedAtom → Type 0) (lists : List CountedList) → ((s : SignedAtom) → Turns s → ⊥) → Adds Turns lists lists
   nothing_added Turns lists none = record { kept = λ l h. h; each = λ s t. absurd (none s t); only = λ s w. inl w; flats = λ f. f }
+
+  pub no_new_list_added : (Turns : SignedAtom → Type 0) (old new : List CountedList) → ((l : CountedList) → ListHasElement old l → ListHasElement new l) → ((l : CountedList) → ListHasElement new l → ListHasElement old l)
+      → ((s : SignedAtom) → Turns s → ⊥) → Adds Turns old new
+  no_new_list_added Turns old new kept back none = record { kept = kept; each = λ s t. absurd (none s t); only = λ s w. inl (wanted_of_more new old s back w); flats = λ f l h. f l (back l h) }
 
   -- the list of a part that stands so was added, if it could be turned
   pub list_added : (old new : List CountedList) (line : ℕ) (members : RowsOfTable MemberRow) (st : PartStanding)
@@ -84,7 +81,7 @@ module _ (k : Kind) (lines : List Line) (undecided test : Atom → Bool) where
     ];
   }
 
-  added_on : (T U V : SignedAtom → Type 0) (a b c : List CountedList) → ((s : SignedAtom) → V s → T s ⊎ U s) → ((s : SignedAtom) → T s → V s) → ((s : SignedAtom) → U s → V s) → Adds T a b → Adds U b c → Adds V a c
+  pub added_on : (T U V : SignedAtom → Type 0) (a b c : List CountedList) → ((s : SignedAtom) → V s → T s ⊎ U s) → ((s : SignedAtom) → T s → V s) → ((s : SignedAtom) → U s → V s) → Adds T a b → Adds U b c → Adds V a c
   added_on T U V a b c splits first second m n = record {
     kept = λ l h. n.kept l (m.kept l h);
     each = λ s v. elim (splits s v) as (λ _. IsWanted c s) [
@@ -112,12 +109,12 @@ module _ (k : Kind) (lines : List Line) (undecided test : Atom → Bool) where
     flats = h.flats;
   }
 
-  pub added_lists_flat : (Turns : SignedAtom → Type 0) (lists : List CountedList) → Adds Turns [] lists → AreFlat k lines lists
-  added_lists_flat Turns lists h = h.flats (λ l none. absurd none)
+  pub added_lists_flat : (Turns : SignedAtom → Type 0) (empty lists : List CountedList) → empty ≡ [] → Adds Turns empty lists → AreFlat k lines lists
+  added_lists_flat Turns empty lists e h = h.flats (λ l at. absurd (subst (λ ls. ListHasElement ls l) e at))
 
-  pub added_atom_turns : (Turns : SignedAtom → Type 0) (lists : List CountedList) → Adds Turns [] lists → (s : SignedAtom) → IsWanted lists s → Turns s
-  added_atom_turns Turns lists h s w = elim (h.only s w) as (λ _. Turns s) [
-    | inl old ↦ absurd old.stands
+  pub added_atom_turns : (Turns : SignedAtom → Type 0) (empty lists : List CountedList) → empty ≡ [] → Adds Turns empty lists → (s : SignedAtom) → IsWanted lists s → Turns s
+  added_atom_turns Turns empty lists e h s w = elim (h.only s w) as (λ _. Turns s) [
+    | inl old ↦ absurd (subst (λ ls. ListHasElement ls old.list) e old.stands)
     | inr t ↦ t
   ]
 
@@ -162,38 +159,3 @@ module _ (lines : List Line) (r : Request) where
   pub host_aliases_of_who : (who : Bor Who) (d : DecidedAliases) → r.who ≡ who.now → DecidesAllAliases lines d → d.kind ≡ Host → d.question ≡ question.Host who → AreHostAliases lines r d
   host_aliases_of_who who d e all kind same =
       aliases_decided_by lines Host _ _ d (question.Host who) all kind same (ap (λ (w : Who). is_bare_and_undecided (is_host_atom_undecided w)) (sym e)) (ap (λ (w : Who). is_host_atom_match w) (sym e))
-
-  module _ (lists : UserAndHostLists) (holds : HoldsListsOfSpecs lines r (user_specs_of_lines lines) lists) where
-    pub user_atom_is_wanted : (spec : UserSpec) (s : SignedAtom) → ListHasElement (user_specs_of_lines lines) spec → CouldTurnUsersOfSpec lines r spec s
-        → IsWantedOfLists User lines (is_bare_and_undecided (undecided_by_files_or_paths r).user) (match_tests_of_request r).user lists.users.items s
-    user_atom_is_wanted spec s h t = holds.users.each s (record { item = spec; stands = h; turns = t })
-
-    pub host_atom_is_wanted : (spec : UserSpec) (s : SignedAtom) → ListHasElement (user_specs_of_lines lines) spec → ListAllows User lines (match_tests_of_request r).user spec.users
-        → (g : HostGroup) → ListHasElement spec.groups g → CouldTurnHostsOfGroup lines r g s
-        → IsWantedOfLists Host lines (is_bare_and_undecided (undecided_by_files_or_paths r).host) (match_tests_of_request r).host lists.hosts.items s
-    host_atom_is_wanted spec s h allows g at t = holds.hosts.each s (record { item = spec; stands = h; turns = record { allows = allows; turns = record { item = g; stands = at; turns = t } } })
-
-    pub user_member_is_undecided : (d : DecidedAliases) → AreUserAliases lines r d → (others : List CountedList) → others ≡ lists.users.items → (p : RequestPart) (u : UndecidedMember) → IsMemberOfLists lines d p others u
-        → IsUndecidedMemberOfRights lines r u
-    user_member_is_undecided d a others same p u m =
-        let t = added_atom_turns User lines (undecided_by_files_or_paths r).user (match_tests_of_request r).user (CouldTurnOneOf (CouldTurnUsersOfSpec lines r) (user_specs_of_lines lines)) lists.users.items holds.users m.atom
-        (wanted_as_decided lines User _ _ d a lists.users.items others same m.atom m.is_wanted) in
-        record {
-          spec = t.item;
-          atom = m.atom;
-          is_undecided = record { stands = t.stands; turns = inl t.turns };
-          is = record { part = refl; atom = m.is.atom; digests = m.is.digests };
-        }
-
-    pub host_member_is_undecided : (d : DecidedAliases) → AreHostAliases lines r d → (others : List CountedList) → others ≡ lists.hosts.items → (p : RequestPart) (u : UndecidedMember) → IsMemberOfLists lines d p others u
-        → IsUndecidedMemberOfRights lines r u
-    host_member_is_undecided d a others same p u m =
-        let t = added_atom_turns Host lines (undecided_by_files_or_paths r).host (match_tests_of_request r).host (CouldTurnOneOf (CouldTurnHostsOfSpec lines r) (user_specs_of_lines lines)) lists.hosts.items holds.hosts m.atom
-        (wanted_as_decided lines Host _ _ d a lists.hosts.items others same m.atom m.is_wanted) in
-        let g = t.turns.turns in
-        record {
-          spec = t.item;
-          atom = m.atom;
-          is_undecided = record { stands = t.stands; turns = inr (t.turns.allows, (g.item, g.stands, g.turns)) };
-          is = record { part = refl; atom = m.is.atom; digests = m.is.digests };
-        }

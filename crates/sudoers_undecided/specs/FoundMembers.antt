@@ -6,13 +6,12 @@ use Rattle.sudoers_line_rows.specs.View.{member_of_view}
 use Rattle.sudoers_match_member.specs.declared.request.Request.{Request}
 use Rattle.sudoers_match_list.specs.Flat.{SignedAtom}
 use Rattle.sudoers_match.specs.Rows.{PrivilegeRow}
-use Rattle.sudoers_match.specs.Specs.{UserSpec}
 use Rattle.sudoers_undecided.specs.declared.request_part.RequestPart.{RequestPart}
 use Rattle.sudoers_undecided.specs.declared.request_part.RequestPart.TheVariants.{Users, Hosts}
 use Rattle.sudoers_undecided.specs.declared.undecided_member.UndecidedMember.{UndecidedMember}
 use Rattle.sudoers_undecided.specs.MatchTests.{match_tests_of_request, undecided_by_files_or_paths}
 use Rattle.sudoers_undecided.specs.UndecidedAnswer.{IsUndecidedInAnswer}
-use Rattle.sudoers_undecided.specs.UndecidedListing.{IsUndecidedInListing}
+use Rattle.sudoers_undecided.specs.UndecidedListing.{IsUndecidedInRights}
 
 -- The member is this atom, with its digests, in this part of a request.
 pub record IsAtomInPart (p : RequestPart) (s : SignedAtom) (u : UndecidedMember) : Type 0 where
@@ -43,16 +42,14 @@ pub record IsUndecidedMember (lines : List Line) (r : Request) (u : UndecidedMem
 abbrev pub AreUndecidedMembers : List Line → Request → List UndecidedMember → Type 0
 AreUndecidedMembers lines r found = (u : UndecidedMember) → ListHasElement found u → IsUndecidedMember lines r u
 
--- Each atom that was not decided where the user of the request has rules, and could have changed that, is one of the members.
+-- Each atom that was not decided in the listing of what the user of the request may run, and could have changed it, is one of the members.
 abbrev pub HasEachAtomOfRights : List Line → Request → List UndecidedMember → Type 0
-HasEachAtomOfRights lines r found = (spec : UserSpec) (s : SignedAtom) → IsUndecidedInListing lines (undecided_by_files_or_paths r) (match_tests_of_request r) spec s
-    → HasAtomInPart found Users s ⊎ HasAtomInPart found Hosts s
+HasEachAtomOfRights lines r found = (s : SignedAtom) → IsUndecidedInRights lines (undecided_by_files_or_paths r) (match_tests_of_request r) s → HasAtomInPart found Users s ⊎ HasAtomInPart found Hosts s
 
 -- The member is such an atom.
 pub record IsUndecidedMemberOfRights (lines : List Line) (r : Request) (u : UndecidedMember) : Type 0 where
-  pub spec : UserSpec
   pub atom : SignedAtom
-  pub is_undecided : IsUndecidedInListing lines (undecided_by_files_or_paths r) (match_tests_of_request r) spec atom
+  pub is_undecided : IsUndecidedInRights lines (undecided_by_files_or_paths r) (match_tests_of_request r) atom
   pub is : IsAtomInPart u.part atom u
 
 abbrev pub AreUndecidedMembersOfRights : List Line → Request → List UndecidedMember → Type 0

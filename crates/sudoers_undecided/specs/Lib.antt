@@ -4,8 +4,8 @@ pub mod TurningMembers
 pub mod TurningAtoms
 pub mod ListSway
 pub mod PlacedAtoms
-pub mod UndecidedListing
 pub mod RowParts
+pub mod UndecidedListing
 pub mod UndecidedAnswer
 pub mod FoundMembers
 pub mod internal

@@ -7,8 +7,8 @@ ghost use Rattle.sudoers_match.specs.Moment.{is_in_option_time_bounds};
 ghost use Rattle.sudoers_match.specs.Values.{option_values_of_view};
 
 use crate::decided_aliases::PartStanding;
-use crate::default_scopes::DefaultScopes;
 use crate::request_aliases::{RequestAliases, is_group_absent_or_one_of};
+use crate::user_and_host_lists::UserAndHostLists;
 use sudoers_line_rows::RunasSpec;
 use sudoers_match::CommandOptions;
 use sudoers_match_list::AcyclicWalk;
@@ -26,7 +26,7 @@ pub struct AskedRequest<'a, 'b> {
     /// As whom a command runs without a Runas_Spec.
     pub default: &'b [u8],
     /// The scopes that could turn that.
-    pub scopes: &'b DefaultScopes<'a>,
+    pub scopes: &'b UserAndHostLists<'a>,
 }
 
 /// How the parts of a row stand to a request, its command aside.

@@ -3,14 +3,14 @@
 ghost use Rattle.std.specs.Prelude.{◌≡◌, ◌↔◌, ◌||◌, ◌++◌, map, not, Bool, ℕ, List, Option, true, false};
 ghost use Rattle.sudoers_grammar.specs.declared.node.Atom.{Atom as AtomOf};
 ghost use Rattle.sudoers_grammar.specs.declared.node.Kind.{Kind as KindOf};
-ghost use Rattle.sudoers_grammar.specs.Node.{Member as MemberOf};
+ghost use Rattle.sudoers_grammar.specs.Node.{Defaults, Member as MemberOf, Param as ParamOf, Scope as ScopeOf};
 ghost use Rattle.sudoers_tree.specs.Line.{Line as LineOf};
 ghost use Rattle.sudoers_tree.specs.Policy.{AreValidWalkLines};
 ghost use Rattle.sudoers_check.specs.Chain.{ListHasElement};
 ghost use Rattle.sudoers_match_member.specs.declared.request.Request.{Request as RequestOf};
 ghost use Rattle.sudoers_match_list.specs.Flat.{IsFlatListOf, SignedAtom, last_hit_of_list, signed_atom_under_negation};
 ghost use Rattle.sudoers_match.specs.Answer.{Answer as AnswerOf, IsAnswerToRequest};
-ghost use Rattle.sudoers_match.specs.Default.{IsRunasDefault};
+ghost use Rattle.sudoers_match.specs.Default.{IsRunasDefault, IsScopeForUserOnHost};
 ghost use Rattle.sudoers_match.specs.Groups.{ArePlacesOfMatchingHostGroups};
 ghost use Rattle.sudoers_match.specs.Rows.{PrivilegeRow};
 ghost use Rattle.sudoers_match.specs.Specs.{UserSpec};
@@ -19,10 +19,11 @@ ghost use Rattle.sudoers_undecided.specs.declared.request_part.RequestPart.{Requ
 ghost use Rattle.sudoers_undecided.specs.ListSway.{could_be_swayed_from, sway_of_flat_list, sway_of_joined_lists, sway_under_negation};
 ghost use Rattle.sudoers_undecided.specs.MatchTests.{AgreesOnDecidedAtoms, MatchTests, MatchesNoUndecidedAtom, match_tests_of_request, undecided_by_files, undecided_by_files_or_paths};
 ghost use Rattle.sudoers_undecided.specs.PlacedAtoms.{IsFlatListWithPlaces, PlacedAtom, signed_atom_of_placed};
+ghost use Rattle.sudoers_undecided.specs.RowParts.{IsScopeForUserOnHostByTests};
 ghost use Rattle.sudoers_undecided.specs.TurningAtoms.{atoms_that_could_turn};
 ghost use Rattle.sudoers_undecided.specs.TurningMembers.{CouldTurnFlatList, is_allowed_by_hit_or_else};
 ghost use Rattle.sudoers_undecided.specs.UndecidedAnswer.{IsAnswerByTests, IsUndecidedInAnswer};
-ghost use Rattle.sudoers_undecided.specs.UndecidedListing.{ArePlacesOfMatchingHostGroupsByTests, IsUndecidedInListing};
+ghost use Rattle.sudoers_undecided.specs.UndecidedListing.{ArePlacesOfMatchingHostGroupsByTests, IsUndecidedInDefaults, IsUndecidedInListing};
 
 use sudoers_match_list::laws::{flat_or_cycle, flat_then_no_cycle, one_flat};
 
@@ -65,6 +66,20 @@ pub fn nothing_undecided_then_same_host_groups()
         → MatchesNoUndecidedAtom undecided (match_tests_of_request request) → AgreesOnDecidedAtoms undecided (match_tests_of_request request) other
         → ((spec : UserSpec) (atom : SignedAtom) → IsUndecidedInListing lines undecided (match_tests_of_request request) spec atom → ⊥)
         → (places : List GroupPlaceOf) → ArePlacesOfMatchingHostGroups lines request.who places → ArePlacesOfMatchingHostGroupsByTests lines other places }
+{
+    flat_or_cycle();
+    flat_then_no_cycle();
+    one_flat();
+}
+
+/// Where no member could have changed which Defaults lines hold of a user, a Defaults line holds of him, or not, however such members are
+/// decided.
+pub fn nothing_undecided_then_same_defaults()
+    ensures { (lines : List LineOf) (request : RequestOf) (undecided other : MatchTests) → AreValidWalkLines lines
+        → MatchesNoUndecidedAtom undecided (match_tests_of_request request) → AgreesOnDecidedAtoms undecided (match_tests_of_request request) other
+        → ((line : LineOf) (atom : SignedAtom) → IsUndecidedInDefaults lines undecided (match_tests_of_request request) line atom → ⊥)
+        → (line : LineOf) → ListHasElement lines line → (scope : Option ScopeOf) (params : List ParamOf) → line.node ≡ Defaults scope params
+        → IsScopeForUserOnHost lines request.who scope ↔ IsScopeForUserOnHostByTests lines other scope }
 {
     flat_or_cycle();
     flat_then_no_cycle();

@@ -20,6 +20,7 @@ mod request_part;
 mod rights;
 mod spec_rows;
 mod undecided_member;
+mod user_and_host_lists;
 mod wanted_members;
 
 pub use listing::list_undecided_members;

@@ -3,7 +3,7 @@
 ghost use Rattle.std.specs.Prelude.{◌≡◌, Some, None, IfOk};
 ghost use Rattle.sudoers_match.specs.Answer.{command_with_joined_arguments_of_request};
 ghost use Rattle.sudoers_match.specs.Runas.{is_group_absent_or_among};
-ghost use Rattle.sudoers_undecided.specs.declared.default_scopes.DefaultScopes.{DefaultScopes as ScopesOf};
+ghost use Rattle.sudoers_undecided.specs.declared.user_and_host_lists.UserAndHostLists.{UserAndHostLists as ScopesOf};
 ghost use Rattle.sudoers_undecided.specs.internal.Counted.{AreAliasesOfRequest, IsGroupQuestion, IsRunasGroupsStanding, IsRunasUsersStanding};
 ghost use Rattle.sudoers_undecided.specs.internal.Definitions.{HoldsDefinitions};
 

@@ -109,7 +109,8 @@ pub fn list_only_undecided<'a>(
     Ok(found)
 }
 
-/// Returns the members that were not decided where the rules of `who` are listed, and could have changed where he has rules.
+/// Returns the members that were not decided where the rights of `who` are listed, and could have changed where he has rules, or which
+/// Defaults lines hold of him.
 ///
 /// # Errors
 ///

@@ -31,7 +31,7 @@ use Rattle.sudoers_undecided.specs.declared.asked_request.CountedParts.{CountedP
 use Rattle.sudoers_undecided.specs.declared.counted_lists.CountedLists.{CountedLists}
 use Rattle.sudoers_undecided.specs.declared.decided_aliases.DecidedAliases.{DecidedAliases}
 use Rattle.sudoers_undecided.specs.declared.decided_aliases.PartStanding.{PartStanding}
-use Rattle.sudoers_undecided.specs.declared.default_scopes.DefaultScopes.{DefaultScopes}
+use Rattle.sudoers_undecided.specs.declared.user_and_host_lists.UserAndHostLists.{UserAndHostLists}
 use Rattle.sudoers_undecided.specs.declared.member_question.MemberQuestion.{MemberQuestion}
 use Rattle.sudoers_undecided.specs.MemberQuestions.{is_atom_matched_by_question, is_undecided_by_question}
 use Rattle.sudoers_undecided.specs.declared.request_aliases.RequestAliases.{RequestAliases}
@@ -56,6 +56,14 @@ pub record AreDecidedBy (lines : List Line) (k : Kind) (undecided : SignedAtom �
   pub undecided_are : undecided_by d ≡ undecided
   pub matched_are : matched_by d ≡ test
 
+-- the aliases of users and of hosts, as the request asks
+
+abbrev pub AreUserAliases : List Line → Request → DecidedAliases → Type 0
+AreUserAliases lines r d = AreDecidedBy lines User (is_bare_and_undecided (undecided_by_files_or_paths r).user) (match_tests_of_request r).user d
+
+abbrev pub AreHostAliases : List Line → Request → DecidedAliases → Type 0
+AreHostAliases lines r d = AreDecidedBy lines Host (is_bare_and_undecided (undecided_by_files_or_paths r).host) (match_tests_of_request r).host d
+
 abbrev pub IsGroupQuestion : Option Group → MemberQuestion → Type 0
 IsGroupQuestion None q = (s : SignedAtom) → is_undecided_by_question q s ≡ false
 IsGroupQuestion (Some g) q = (is_undecided_by_question q ≡ is_bare_and_undecided is_netgroup_or_non_unix_group_atom) × (is_atom_matched_by_question q ≡ is_runas_group_atom_match g)
@@ -65,15 +73,15 @@ AreGroupAliases lines r None d = DecidesAllAliases lines d × ((s : SignedAtom) 
 AreGroupAliases lines r (Some g) d = AreDecidedBy lines Runas (is_bare_and_undecided ((undecided_by_files_or_paths r).group g)) ((match_tests_of_request r).group g) d
 
 pub record AreAliasesOfRequest (lines : List Line) (r : Request) (a : RequestAliases) : Type 0 where
-  pub users : AreDecidedBy lines User (is_bare_and_undecided (undecided_by_files_or_paths r).user) (match_tests_of_request r).user a.users
-  pub hosts : AreDecidedBy lines Host (is_bare_and_undecided (undecided_by_files_or_paths r).host) (match_tests_of_request r).host a.hosts
+  pub users : AreUserAliases lines r a.users
+  pub hosts : AreHostAliases lines r a.hosts
   pub targets : AreDecidedBy lines Runas (is_bare_and_undecided (undecided_by_files_or_paths r).target) (match_tests_of_request r).target a.targets
   pub groups : AreGroupAliases lines r r.target_group a.groups
   pub commands : AreDecidedBy lines Cmnd (undecided_by_files_or_paths r).command (is_command_atom_match (command_with_joined_arguments_of_request r)) a.commands
 
 -- ---- which atoms the lists name
 
-abbrev pub IsWantedOfScopes : List Line → Request → DefaultScopes → SignedAtom → Type 0
+abbrev pub IsWantedOfScopes : List Line → Request → UserAndHostLists → SignedAtom → Type 0
 IsWantedOfScopes lines r scopes s =
     IsWantedOfLists User lines (is_bare_and_undecided (undecided_by_files_or_paths r).user) (match_tests_of_request r).user scopes.users.items s
     ⊎ IsWantedOfLists Host lines (is_bare_and_undecided (undecided_by_files_or_paths r).host) (match_tests_of_request r).host scopes.hosts.items s
@@ -83,7 +91,7 @@ IsWantedOfGroupLists lines r None lists s = ⊥
 IsWantedOfGroupLists lines r (Some g) lists s = IsWantedOfLists Runas lines (is_bare_and_undecided ((undecided_by_files_or_paths r).group g)) ((match_tests_of_request r).group g) lists s
 
 -- The lists name the atom in this part of a row.
-abbrev pub CoversAtom : List Line → Request → DefaultScopes → CountedLists → RequestPart → SignedAtom → Type 0
+abbrev pub CoversAtom : List Line → Request → UserAndHostLists → CountedLists → RequestPart → SignedAtom → Type 0
 CoversAtom lines r scopes c part.Users s = IsWantedOfLists User lines (is_bare_and_undecided (undecided_by_files_or_paths r).user) (match_tests_of_request r).user c.users.items s
 CoversAtom lines r scopes c part.Hosts s = IsWantedOfLists Host lines (is_bare_and_undecided (undecided_by_files_or_paths r).host) (match_tests_of_request r).host c.hosts.items s
 CoversAtom lines r scopes c part.RunasUsers s =
@@ -106,7 +114,7 @@ pub record AreCountedListsFlat (lines : List Line) (r : Request) (c : CountedLis
   pub commands : AreFlat Cmnd lines c.commands.items
 
 -- Of each list of a scope an atom is wanted.
-pub record AreScopeListsTurned (lines : List Line) (r : Request) (scopes : DefaultScopes) : Type 0 where
+pub record AreScopeListsTurned (lines : List Line) (r : Request) (scopes : UserAndHostLists) : Type 0 where
   pub users : (l : CountedList) → ListHasElement scopes.users.items l
       → (s : SignedAtom) × IsWantedOfList User lines (is_bare_and_undecided (undecided_by_files_or_paths r).user) (match_tests_of_request r).user (members_of_view l.members) l.wanted s
   pub hosts : (l : CountedList) → ListHasElement scopes.hosts.items l
@@ -219,12 +227,12 @@ IsHostsStanding lines r hosts st = IsPartStanding (ListAllows Host lines (match_
     (CouldTurnList Host lines (undecided_by_files_or_paths r).host (match_tests_of_request r).host false (members_of_view hosts))
     (IsWantedOfList Host lines (is_bare_and_undecided (undecided_by_files_or_paths r).host) (match_tests_of_request r).host (members_of_view hosts) (wanted_of_sign (not st.holds))) st
 
-abbrev pub IsWantedRunasUser : List Line → Request → DefaultScopes → PartStanding → Option RunasView → SignedAtom → Type 0
+abbrev pub IsWantedRunasUser : List Line → Request → UserAndHostLists → PartStanding → Option RunasView → SignedAtom → Type 0
 IsWantedRunasUser lines r scopes st None s = IsWantedOfScopes lines r scopes s
 IsWantedRunasUser lines r scopes st (Some spec) s =
     IsWantedOfList Runas lines (is_bare_and_undecided (undecided_by_files_or_paths r).target) (match_tests_of_request r).target (members_of_view spec.users) (wanted_of_sign (not st.holds)) s
 
-abbrev pub IsRunasUsersStanding : List Line → Request → DefaultScopes → Option RunasView → PartStanding → Type 0
+abbrev pub IsRunasUsersStanding : List Line → Request → UserAndHostLists → Option RunasView → PartStanding → Type 0
 IsRunasUsersStanding lines r scopes runas st =
     IsPartStanding (RunasSpecAllowsUserByTests lines (match_tests_of_request r) r.who.user r.target (option_map runas_of_view runas))
     (CouldTurnRunasSpecUsers lines (undecided_by_files_or_paths r) (match_tests_of_request r) (option_map runas_of_view runas)) (IsWantedRunasUser lines r scopes st runas) st
@@ -243,7 +251,7 @@ IsRunasGroupsStanding lines r runas st =
     (CouldTurnRunasSpecGroups lines (undecided_by_files_or_paths r) (match_tests_of_request r) r.target r.target_group (option_map runas_of_view runas)) (IsWantedRunasGroup lines r st runas) st
 
 -- The lists are those of commands with this head, and it is known how they stand.
-pub record AreListsOfCommand (lines : List Line) (r : Request) (scopes : DefaultScopes) (head : AccumulatedCommandSettings) (l : CommandLists) : Type 0 where
+pub record AreListsOfCommand (lines : List Line) (r : Request) (scopes : UserAndHostLists) (head : AccumulatedCommandSettings) (l : CommandLists) : Type 0 where
   pub users : IsUsersStanding lines r l.users l.standing.users
   pub hosts : IsHostsStanding lines r l.hosts l.standing.hosts
   pub runas_are : option_map runas_of_view l.runas ≡ head.runas
@@ -268,7 +276,7 @@ abbrev pub FitsNot : List Line → Request → PrivilegeRow → Type 0
 FitsNot lines r row = RowFitsRequestByTests lines (match_tests_of_request r) r row → ⊥
 
 -- Of each row behind which none of these fits the atoms are named that could have changed whether it fits.
-abbrev pub CoversRows : List Line → Request → DefaultScopes → CountedLists → List PrivilegeRow → Type 0
+abbrev pub CoversRows : List Line → Request → UserAndHostLists → CountedLists → List PrivilegeRow → Type 0
 CoversRows lines r scopes c [] = Unit {0}
 CoversRows lines r scopes c (row ∷ rows) =
     (AllByRecursion (FitsNot lines r) rows → (p : RequestPart) (s : SignedAtom) → CouldChangeWhetherRowFits lines (undecided_by_files_or_paths r) (match_tests_of_request r) r row p s → CoversAtom lines r scopes c p s)
@@ -284,24 +292,24 @@ pub record CouldChangeOneOfRows (lines : List Line) (r : Request) (rows : List P
   pub could : CouldChangeWhetherRowFits lines (undecided_by_files_or_paths r) (match_tests_of_request r) r row p s
 
 -- An atom is named only if it was before and none of the rows fits, or if it could have changed whether one of them fits.
-abbrev pub NamesOnlyAtomsOfRows : List Line → Request → DefaultScopes → CountedLists → CountedLists → List PrivilegeRow → Type 0
+abbrev pub NamesOnlyAtomsOfRows : List Line → Request → UserAndHostLists → CountedLists → CountedLists → List PrivilegeRow → Type 0
 NamesOnlyAtomsOfRows lines r scopes c e rows = (p : RequestPart) (s : SignedAtom) → CoversAtom lines r scopes e p s
     → (CoversAtom lines r scopes c p s × AllByRecursion (FitsNot lines r) rows) ⊎ CouldChangeOneOfRows lines r rows p s
 
 -- The rows were counted: one of them fits, or the lists before are still there.
-pub record CountsRows (lines : List Line) (r : Request) (scopes : DefaultScopes) (c e : CountedLists) (rows : List PrivilegeRow) : Type 0 where
+pub record CountsRows (lines : List Line) (r : Request) (scopes : UserAndHostLists) (c e : CountedLists) (rows : List PrivilegeRow) : Type 0 where
   pub fits : (AllByRecursion (FitsNot lines r) rows → ⊥) ⊎ HaveGrown c e
   pub covers : CoversRows lines r scopes e rows
   pub only : NamesOnlyAtomsOfRows lines r scopes c e rows
   pub flats : AreCountedListsFlat lines r c → AreCountedListsFlat lines r e
 
 -- The rows of the things before this one were counted.
-abbrev pub CountsPartsSoFar : {X : Type 0} → (ℕ → X → List PrivilegeRow → Type 0) → List Line → Request → DefaultScopes → CountedLists → CountedLists → List X → ℕ → List X → Type 0
+abbrev pub CountsPartsSoFar : {X : Type 0} → (ℕ → X → List PrivilegeRow → Type 0) → List Line → Request → UserAndHostLists → CountedLists → CountedLists → List X → ℕ → List X → Type 0
 CountsPartsSoFar Part lines r scopes c e all i left = (rows : List PrivilegeRow) → IsConcatenationOfParts Part 0 all rows
     → (before rest : List PrivilegeRow) × (rows ≡ before ++ rest) × CountsRows lines r scopes c e before × IsConcatenationOfParts Part i left rest
 
 -- The same of the commands of a list.
-pub record CountsCommandsSoFar (lines : List Line) (r : Request) (scopes : DefaultScopes) (c e : CountedLists) (users hosts : List Member) (cs : List CmdSpec) (i : ℕ) (held : HeadHeld) (runas : Option RunasView) : Type 0 where
+pub record CountsCommandsSoFar (lines : List Line) (r : Request) (scopes : UserAndHostLists) (c e : CountedLists) (users hosts : List Member) (cs : List CmdSpec) (i : ℕ) (held : HeadHeld) (runas : Option RunasView) : Type 0 where
   pub head : AccumulatedCommandSettings
   pub runas_are : option_map runas_of_view runas ≡ head.runas
   pub is_head : HoldsCommandSettings held head

@@ -4,7 +4,7 @@ use Rattle.sudoers_tree.specs.Line.{Line}
 use Rattle.std.specs.Prelude.{List}
 use Rattle.sudoers_match_member.specs.declared.request.Request.{Request}
 use Rattle.sudoers_undecided.specs.declared.asked_request.CommandLists.{CommandLists}
-use Rattle.sudoers_undecided.specs.declared.default_scopes.DefaultScopes.{DefaultScopes}
+use Rattle.sudoers_undecided.specs.declared.user_and_host_lists.UserAndHostLists.{UserAndHostLists}
 use Rattle.sudoers_undecided.specs.declared.spec_rows.RunasOfCommands.{RunasOfCommands}
 use Rattle.sudoers_undecided.specs.declared.spec_rows.UsersAndHosts.{UsersAndHosts}
 use Rattle.sudoers_undecided.specs.internal.Counted.{IsHostsStanding, IsRunasGroupsStanding, IsRunasUsersStanding, IsUsersStanding}
@@ -13,7 +13,7 @@ pub record IsWhoStanding (lines : List Line) (r : Request) (who : UsersAndHosts)
   pub users : IsUsersStanding lines r who.users who.users_standing
   pub hosts : IsHostsStanding lines r who.hosts who.hosts_standing
 
-pub record IsRunasStanding (lines : List Line) (r : Request) (scopes : DefaultScopes) (runas : RunasOfCommands) : Type 0 where
+pub record IsRunasStanding (lines : List Line) (r : Request) (scopes : UserAndHostLists) (runas : RunasOfCommands) : Type 0 where
   pub users : IsRunasUsersStanding lines r scopes runas.runas runas.users
   pub groups : IsRunasGroupsStanding lines r runas.runas runas.groups
 

@@ -1,31 +1,23 @@
--- A device of the proof, which no public contract cites: the lists that could be turned where the rules of a user are listed.
-use Rattle.std.specs.Prelude.{◌⊎◌, Bool, false, List, []}
+-- A device of the proof, which no public contract cites: the lists that could be turned where the rights of a user are listed.
+use Rattle.std.specs.Prelude.{◌≡◌, ◌⊎◌, Bool, false, List, Option, Some, None}
 use Rattle.sudoers_grammar.specs.declared.node.Atom.{Atom}
 use Rattle.sudoers_grammar.specs.declared.node.Kind.{Kind}
 use Rattle.sudoers_grammar.specs.declared.node.Kind.TheVariants.{User, Host}
-use Rattle.sudoers_grammar.specs.Node.{HostGroup}
+use Rattle.sudoers_grammar.specs.Node.{HostGroup, Member, Node, Scope}
+use Rattle.sudoers_grammar.specs.Node as node
 use Rattle.sudoers_tree.specs.Line.{Line}
 use Rattle.sudoers_check.specs.Chain.{ListHasElement}
 use Rattle.sudoers_match_member.specs.declared.request.Request.{Request}
 use Rattle.sudoers_match_list.specs.Flat.{SignedAtom}
 use Rattle.sudoers_match.specs.Allows.{ListAllows}
-use Rattle.sudoers_match.specs.Specs.{UserSpec}
-use Rattle.sudoers_undecided.specs.declared.decided_aliases.DecidedAliases.{DecidedAliases}
-use Rattle.sudoers_undecided.specs.declared.rights.UserAndHostLists.{UserAndHostLists}
+use Rattle.sudoers_match.specs.Specs.{UserSpec, user_specs_of_lines}
+use Rattle.sudoers_undecided.specs.declared.user_and_host_lists.UserAndHostLists.{UserAndHostLists}
 use Rattle.sudoers_undecided.specs.declared.wanted_members.CountedList.{CountedList}
 use Rattle.sudoers_undecided.specs.ListSway.{is_bare_and_undecided}
 use Rattle.sudoers_undecided.specs.MatchTests.{match_tests_of_request, undecided_by_files_or_paths}
+use Rattle.sudoers_undecided.specs.RowParts.{CouldTurnScopeList}
 use Rattle.sudoers_undecided.specs.TurningMembers.{CouldTurnList}
-use Rattle.sudoers_undecided.specs.internal.Counted.{AreDecidedBy}
 use Rattle.sudoers_undecided.specs.internal.Wanted.{AreFlat, IsWantedOfLists}
-
--- ---- the aliases of users and of hosts, as a request asks
-
-abbrev pub AreUserAliases : List Line → Request → DecidedAliases → Type 0
-AreUserAliases lines r d = AreDecidedBy lines User (is_bare_and_undecided (undecided_by_files_or_paths r).user) (match_tests_of_request r).user d
-
-abbrev pub AreHostAliases : List Line → Request → DecidedAliases → Type 0
-AreHostAliases lines r d = AreDecidedBy lines Host (is_bare_and_undecided (undecided_by_files_or_paths r).host) (match_tests_of_request r).host d
 
 -- ---- lists that are added
 
@@ -62,7 +54,55 @@ abbrev pub AddsListsOfGroups : List Line → Request → List HostGroup → List
 AddsListsOfGroups lines r groups old new =
     AddsTurningAtoms Host lines (undecided_by_files_or_paths r).host (match_tests_of_request r).host (CouldTurnOneOf (CouldTurnHostsOfGroup lines r) groups) old new
 
--- The lists are those of these user specifications.
-pub record HoldsListsOfSpecs (lines : List Line) (r : Request) (specs : List UserSpec) (lists : UserAndHostLists) : Type 0 where
-  pub users : AddsTurningAtoms User lines (undecided_by_files_or_paths r).user (match_tests_of_request r).user (CouldTurnOneOf (CouldTurnUsersOfSpec lines r) specs) [] lists.users.items
-  pub hosts : AddsTurningAtoms Host lines (undecided_by_files_or_paths r).host (match_tests_of_request r).host (CouldTurnOneOf (CouldTurnHostsOfSpec lines r) specs) [] lists.hosts.items
+-- ---- which atoms could turn which Defaults lines hold of the user
+
+-- The list is one of this kind, and the atom could turn it.
+abbrev pub CouldTurnScopeListOfKind : Kind → List Line → Request → Kind → List Member → SignedAtom → Type 0
+CouldTurnScopeListOfKind wanted lines r k ms s = (k ≡ wanted) × CouldTurnScopeList lines (undecided_by_files_or_paths r) (match_tests_of_request r) k ms s
+
+abbrev pub CouldTurnScopeOfKind : Kind → List Line → Request → Option Scope → SignedAtom → Type 0
+CouldTurnScopeOfKind wanted lines r None s = ⊥
+CouldTurnScopeOfKind wanted lines r (Some scope) s = CouldTurnScopeListOfKind wanted lines r scope.kind scope.members s
+
+-- It is a Defaults line with a scope of this kind, and the atom could turn that.
+abbrev pub CouldTurnDefaultsOfKind : Kind → List Line → Request → Node → SignedAtom → Type 0
+CouldTurnDefaultsOfKind wanted lines r (node.Defaults scope params) s = CouldTurnScopeOfKind wanted lines r scope s
+CouldTurnDefaultsOfKind wanted lines r (node.Spec users groups) s = ⊥
+CouldTurnDefaultsOfKind wanted lines r (node.Alias k defs) s = ⊥
+CouldTurnDefaultsOfKind wanted lines r node.Blank s = ⊥
+CouldTurnDefaultsOfKind wanted lines r node.Comment s = ⊥
+CouldTurnDefaultsOfKind wanted lines r (node.Include dir path) s = ⊥
+
+abbrev pub CouldTurnLineOfKind : Kind → List Line → Request → Line → SignedAtom → Type 0
+CouldTurnLineOfKind wanted lines r line s = CouldTurnDefaultsOfKind wanted lines r line.node s
+
+-- ---- lists of users and of hosts
+
+-- Lists of users were added that these atoms could turn, and lists of hosts that those could turn.
+pub record AddsLists (lines : List Line) (r : Request) (TurnsUsers TurnsHosts : SignedAtom → Type 0) (old new : UserAndHostLists) : Type 0 where
+  pub users : AddsTurningAtoms User lines (undecided_by_files_or_paths r).user (match_tests_of_request r).user TurnsUsers old.users.items new.users.items
+  pub hosts : AddsTurningAtoms Host lines (undecided_by_files_or_paths r).host (match_tests_of_request r).host TurnsHosts old.hosts.items new.hosts.items
+
+-- Lists were added of these user specifications.
+abbrev pub AddsListsOfSpecs : List Line → Request → List UserSpec → UserAndHostLists → UserAndHostLists → Type 0
+AddsListsOfSpecs lines r specs old new = AddsLists lines r (CouldTurnOneOf (CouldTurnUsersOfSpec lines r) specs) (CouldTurnOneOf (CouldTurnHostsOfSpec lines r) specs) old new
+
+-- The list of the scope was added, if this is a Defaults line that has one.
+abbrev pub AddsListOfNode : List Line → Request → Node → UserAndHostLists → UserAndHostLists → Type 0
+AddsListOfNode lines r n old new = AddsLists lines r (CouldTurnDefaultsOfKind User lines r n) (CouldTurnDefaultsOfKind Host lines r n) old new
+
+-- Lists were added of the scopes of Defaults lines among these lines.
+abbrev pub AddsListsOfLines : List Line → Request → List Line → UserAndHostLists → UserAndHostLists → Type 0
+AddsListsOfLines lines r some old new = AddsLists lines r (CouldTurnOneOf (CouldTurnLineOfKind User lines r) some) (CouldTurnOneOf (CouldTurnLineOfKind Host lines r) some) old new
+
+-- ---- all lists of the rights of a user
+
+abbrev pub CouldTurnUsersOfRights : List Line → Request → SignedAtom → Type 0
+CouldTurnUsersOfRights lines r s = CouldTurnOneOf (CouldTurnUsersOfSpec lines r) (user_specs_of_lines lines) s ⊎ CouldTurnOneOf (CouldTurnLineOfKind User lines r) lines s
+
+abbrev pub CouldTurnHostsOfRights : List Line → Request → SignedAtom → Type 0
+CouldTurnHostsOfRights lines r s = CouldTurnOneOf (CouldTurnHostsOfSpec lines r) (user_specs_of_lines lines) s ⊎ CouldTurnOneOf (CouldTurnLineOfKind Host lines r) lines s
+
+-- The lists are those.
+abbrev pub AreListsOfRights : List Line → Request → UserAndHostLists → UserAndHostLists → Type 0
+AreListsOfRights lines r empty lists = AddsLists lines r (CouldTurnUsersOfRights lines r) (CouldTurnHostsOfRights lines r) empty lists

@@ -11,7 +11,7 @@ use Rattle.sudoers_check.specs.Chain.{ListHasElement}
 use Rattle.sudoers_match_member.specs.declared.request.Request.{Request}
 use Rattle.sudoers_match_list.specs.Flat.{SignedAtom}
 use Rattle.sudoers_undecided.specs.declared.decided_aliases.PartStanding.{PartStanding}
-use Rattle.sudoers_undecided.specs.declared.default_scopes.DefaultScopes.{DefaultScopes}
+use Rattle.sudoers_undecided.specs.declared.user_and_host_lists.UserAndHostLists.{UserAndHostLists}
 use Rattle.sudoers_undecided.specs.declared.wanted_members.CountedList.{CountedList}
 use Rattle.sudoers_undecided.specs.ListSway.{is_bare_and_undecided}
 use Rattle.sudoers_undecided.specs.MatchTests.{match_tests_of_request, undecided_by_files_or_paths}
@@ -37,7 +37,7 @@ abbrev pub IsScopeStanding : List Line → Request → ScopeView → PartStandin
 IsScopeStanding lines r scope st = IsScopeStandingOfKind lines r scope scope.kind st
 
 -- The list of the scope is there.
-abbrev pub HasScopeList : DefaultScopes → ℕ → ScopeView → Kind → PartStanding → Type 0
+abbrev pub HasScopeList : UserAndHostLists → ℕ → ScopeView → Kind → PartStanding → Type 0
 HasScopeList c line scope User st = ListHasElement c.users.items (counted_list line scope.members st.holds)
 HasScopeList c line scope Host st = ListHasElement c.hosts.items (counted_list line scope.members st.holds)
 HasScopeList c line scope Runas st = Unit {0}
@@ -49,11 +49,11 @@ pub record IsListOfScope (line : ℕ) (scope : ScopeView) (st : PartStanding) (l
   pub could_turn : st.could_turn ≡ true
 
 -- No list is new but that of the scope.
-pub record AddsOnlyScopeList (c e : DefaultScopes) (line : ℕ) (scope : ScopeView) (k : Kind) (st : PartStanding) : Type 0 where
+pub record AddsOnlyScopeList (c e : UserAndHostLists) (line : ℕ) (scope : ScopeView) (k : Kind) (st : PartStanding) : Type 0 where
   pub users : (l : CountedList) → ListHasElement e.users.items l → ListHasElement c.users.items l ⊎ ((k ≡ User) × IsListOfScope line scope st l)
   pub hosts : (l : CountedList) → ListHasElement e.hosts.items l → ListHasElement c.hosts.items l ⊎ ((k ≡ Host) × IsListOfScope line scope st l)
 
-pub record HaveScopesGrown (c e : DefaultScopes) : Type 0 where
+pub record HaveScopesGrown (c e : UserAndHostLists) : Type 0 where
   pub users : (l : CountedList) → ListHasElement c.users.items l → ListHasElement e.users.items l
   pub hosts : (l : CountedList) → ListHasElement c.hosts.items l → ListHasElement e.hosts.items l
 
@@ -61,7 +61,7 @@ abbrev pub CountsNot : List Line → Request → (Option Scope × List ℕ) → 
 CountsNot lines r setting = IsScopeForUserOnHostByTests lines (match_tests_of_request r) setting.0 → ⊥
 
 -- Of each setting behind which none of these counts the atoms are named that could turn whether it counts.
-abbrev pub CoversSettings : List Line → Request → DefaultScopes → List (Option Scope × List ℕ) → Type 0
+abbrev pub CoversSettings : List Line → Request → UserAndHostLists → List (Option Scope × List ℕ) → Type 0
 CoversSettings lines r c [] = Unit {0}
 CoversSettings lines r c (x ∷ xs) =
     (AllByRecursion (CountsNot lines r) xs → (s : SignedAtom) → CouldTurnScope lines (undecided_by_files_or_paths r) (match_tests_of_request r) x.0 s → IsWantedOfScopes lines r c s)
@@ -77,12 +77,12 @@ pub record CouldTurnOneOfSettings (lines : List Line) (r : Request) (xs : List (
   pub turns : CouldTurnScope lines (undecided_by_files_or_paths r) (match_tests_of_request r) setting.0 s
 
 -- An atom is named only if it was before and none of the settings counts, or if it could turn whether one of them does.
-abbrev pub NamesOnlyAtomsOfSettings : List Line → Request → DefaultScopes → DefaultScopes → List (Option Scope × List ℕ) → Type 0
+abbrev pub NamesOnlyAtomsOfSettings : List Line → Request → UserAndHostLists → UserAndHostLists → List (Option Scope × List ℕ) → Type 0
 NamesOnlyAtomsOfSettings lines r c e xs = (s : SignedAtom) → IsWantedOfScopes lines r e s
     → (IsWantedOfScopes lines r c s × AllByRecursion (CountsNot lines r) xs) ⊎ CouldTurnOneOfSettings lines r xs s
 
 -- The settings were counted: one of them counts, or the lists before are still there.
-pub record CountsSettings (lines : List Line) (r : Request) (c e : DefaultScopes) (xs : List (Option Scope × List ℕ)) : Type 0 where
+pub record CountsSettings (lines : List Line) (r : Request) (c e : UserAndHostLists) (xs : List (Option Scope × List ℕ)) : Type 0 where
   pub counts : (AllByRecursion (CountsNot lines r) xs → ⊥) ⊎ HaveScopesGrown c e
   pub covers : CoversSettings lines r e xs
   pub only : NamesOnlyAtomsOfSettings lines r c e xs

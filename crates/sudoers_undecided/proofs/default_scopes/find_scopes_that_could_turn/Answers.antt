@@ -16,10 +16,10 @@ loop-line-preserved c r a =
     let lines = c.args.policy.now in
     let walk = c.lines-lines.result in
     let says = node_of_view c.node_of_row-node.result in
-    let more : CountsSettings lines r c.loop-line.scopes c.add_settings_of_node.new.self (runas_defaults_in_node says) =
-    subst (λ ls. CountsSettings ls r c.loop-line.scopes c.add_settings_of_node.new.self (runas_defaults_in_node says)) c.definition_numbers-numbers.ensures
+    let more : CountsSettings lines r c.loop-line.scopes c.add_settings_of_node.new.lists (runas_defaults_in_node says) =
+    subst (λ ls. CountsSettings ls r c.loop-line.scopes c.add_settings_of_node.new.lists (runas_defaults_in_node says)) c.definition_numbers-numbers.ensures
     (c.in_ok-add_settings_of_node.ensures r (subst (λ ls. AreAliasesOfRequest ls r c.args.aliases.now) (sym c.definition_numbers-numbers.ensures) a)) in
-    one_line_more_counts lines r (line_of_row walk.tables.now) walk.rows.now c.loop-line.line _ c.loop-line-test.true _ c.loop-line.scopes c.add_settings_of_node.new.self (map (line_of_row walk.tables.now) walk.rows.now)
+    one_line_more_counts lines r (line_of_row walk.tables.now) walk.rows.now c.loop-line.line _ c.loop-line-test.true _ c.loop-line.scopes c.add_settings_of_node.new.lists (map (line_of_row walk.tables.now) walk.rows.now)
     (c.loop-line.invariant r a) says c.node_of_row-node.ensures more
 
 pub returns-clause-scopes : goal.returns-clause-scopes

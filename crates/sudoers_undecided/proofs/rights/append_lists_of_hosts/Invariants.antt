@@ -1,7 +1,8 @@
 use Rattle.std.proofs.Common.{map, take}
 use Rattle.sudoers_line_rows.specs.Tables.{host_group_in_tables}
 use Rattle.sudoers_match_member.specs.declared.request.Request.{Request}
-use Rattle.sudoers_undecided.specs.internal.Rights.{AddsListsOfGroups, AreHostAliases}
+use Rattle.sudoers_undecided.specs.internal.Counted.{AreHostAliases}
+use Rattle.sudoers_undecided.specs.internal.Rights.{AddsListsOfGroups}
 use Rattle.sudoers_undecided.proofs.rights.append_lists_of_hosts.Given as goal
 
 abbrev pub invariant-loop-row : goal.invariant-loop-row

@@ -8,7 +8,7 @@ use Rattle.sudoers_match.proofs.Gathered.{list_from_index_is_element_and_rest, m
 use Rattle.sudoers_tree.specs.Line.{Line}
 use Rattle.sudoers_match_member.specs.declared.request.Request.{Request}
 use Rattle.sudoers_undecided.specs.declared.counted_lists.CountedLists.{CountedLists}
-use Rattle.sudoers_undecided.specs.declared.default_scopes.DefaultScopes.{DefaultScopes}
+use Rattle.sudoers_undecided.specs.declared.user_and_host_lists.UserAndHostLists.{UserAndHostLists}
 use Rattle.sudoers_undecided.specs.internal.Counted.{CountsPartsSoFar, CountsRows}
 use Rattle.sudoers_undecided.proofs.Loops.{parts_all, parts_more}
 use Rattle.sudoers_undecided.proofs.SpecLines.{are_specs, spec_of}
@@ -27,7 +27,7 @@ loop-spec-preserved c =
     (drop k all) (drop (k + 1) all) (list_from_index_is_element_and_rest all k (spec_of item) (mapped_list_has_mapped_element_at_index spec_of items k item at)) c.loop-spec.invariant
     (λ rows p. c.in_ok-count_lists_of_spec.ensures k rows p)
 
-policy_counts : (lines : List Line) (r : Request) (scopes : DefaultScopes) (c e : CountedLists) (items : List SpecOnLine) (k : ℕ) → map spec_of items ≡ user_specs_of_lines lines → length items ≤ k
+policy_counts : (lines : List Line) (r : Request) (scopes : UserAndHostLists) (c e : CountedLists) (items : List SpecOnLine) (k : ℕ) → map spec_of items ≡ user_specs_of_lines lines → length items ≤ k
     → CountsPartsSoFar (AreRowsPerFlatAtomOfSpec lines) lines r scopes c e (map spec_of items) k (drop k (map spec_of items)) → (rows : List PrivilegeRow) → AreRowsPerFlatAtomOfPolicy lines rows → CountsRows lines r scopes c e rows
 policy_counts lines r scopes c e items k same end so_far rows are =
     parts_all lines r scopes (AreRowsPerFlatAtomOfSpec lines) (map spec_of items) c e k (drop k (map spec_of items)) (drop_all k (map spec_of items) (omega (arith, end, length-map items spec_of))) so_far rows

@@ -1,6 +1,6 @@
 use Rattle.std.proofs.Common.{◌==◌, ◌≡◌, ◌∙◌, Bool, true, false, not, inl, inr, length, vec_len, rules, ap, sym, refl}
 use Rattle.sudoers_undecided.proofs.SettingCounts.{list_with_length_has_item}
-use Rattle.sudoers_undecided.proofs.default_scopes.DefaultScopes.have_lists.Goals as goal
+use Rattle.sudoers_undecided.proofs.user_and_host_lists.UserAndHostLists.have_lists.Goals as goal
 
 is_false : (b : Bool) → not b ≡ true → b ≡ false
 is_false true e = absurd cc

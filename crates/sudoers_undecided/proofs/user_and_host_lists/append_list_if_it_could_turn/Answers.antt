@@ -1,6 +1,6 @@
 use Rattle.std.proofs.Common.{inl, inr}
 use Rattle.sudoers_undecided.proofs.Counting.{pushed_has, pushed_keeps, pushed_only, pushed_with_wanted}
-use Rattle.sudoers_undecided.proofs.rights.append_list_if_it_could_turn.Goals as goal
+use Rattle.sudoers_undecided.proofs.user_and_host_lists.append_list_if_it_could_turn.Goals as goal
 
 pub returns-in_ok-push-clause-kept : goal.returns-in_ok-push-clause-kept
 returns-in_ok-push-clause-kept c = pushed_keeps c.args.lists.now.items c.push.new.self.items _ c.in_ok-push.ensures.items
