@@ -25,7 +25,12 @@ SECONDS = 60
 
 FILES = ("policy", "web team", "a file with blanks")
 FOLDER = "sub"
-COMMANDS = ("check", "convert", "edit", "help", "list", "show", "what", "who", "why")
+COMMANDS = ("apply", "check", "convert", "edit", "help", "list", "place", "show", "what", "who", "why")
+WITH_OPTIONS = tuple(name for name in COMMANDS if name != "help")
+OPTIONS_OF_APPLY = (
+    *("--allow-undefined", "--also", "--dry-run", "--explain", "-h", "--help"),
+    *("--plain", "--root", "--undo-file"),
+)
 OPTIONS_OF_LIST = (
     *("-U", "--other-user", "-u", "--user", "-g", "--group", "--passwd", "--group-file"),
     *("--host", "--moment", "--interfaces", "--root", "--why", "-h", "--help", "--error-status", "--explain", "--plain"),
@@ -48,6 +53,7 @@ KEYS = ("group=", "host=", "user=")
 
 ROWS = (
     (("",), COMMANDS),
+    (("a",), ("apply",)),
     (("c",), ("check", "convert")),
     (("ch",), ("check",)),
     (("sho",), ("show",)),
@@ -187,6 +193,46 @@ ROWS = (
     (("edit", "--r"), ("--redo", "--root")),
     (("edit", "--undo", ""), ()),
     (("edit", "--undo", "1", "--re"), ("--redo",)),
+    (("p",), ("place",)),
+    (("place", ""), ALL_FILES),
+    (("place", "w"), ("web team",)),
+    (("place", "-"), ("--explain", "-h", "--help", "--plain", "--root", "--undo")),
+    (("place", "--e"), ("--explain",)),
+    (("place", "--p"), ("--plain",)),
+    (("place", "--u"), ("--undo",)),
+    (("place", "--undo", ""), ALL_FILES),
+    (("place", "--undo", "--plain", "w"), ("web team",)),
+    (("place", "--root", ""), (FOLDER,)),
+    (("place", "--root=s"), (FOLDER,)),
+    (("place", "--root", "p"), ()),
+    (("place", "--undo", "--root", "sub", "p"), ("policy",)),
+    (("place", "policy", "w"), ()),
+    (("place", "policy", "--u"), ("--undo",)),
+    (("apply", ""), ALL_FILES),
+    (("apply", "w"), ("web team",)),
+    (("apply", "-"), OPTIONS_OF_APPLY),
+    (("apply", "--a"), ("--allow-undefined", "--also")),
+    (("apply", "--d"), ("--dry-run",)),
+    (("apply", "--e"), ("--explain",)),
+    (("apply", "--p"), ("--plain",)),
+    (("apply", "--u"), ("--undo-file",)),
+    (("apply", "--undo-file", ""), ALL_FILES),
+    (("apply", "--undo-file=w"), ("web team",)),
+    (("apply", "--undo-file", "new", "p"), ("policy",)),
+    (("apply", "--also", ""), ALL_FILES),
+    (("apply", "--also=w"), ("web team",)),
+    (("apply", "--also", "policy", "--also", "p"), ("policy",)),
+    (("apply", "--also", "policy", "--al"), ("--allow-undefined", "--also")),
+    (("apply", "--root", ""), (FOLDER,)),
+    (("apply", "--root=s"), (FOLDER,)),
+    (("apply", "--root", "p"), ()),
+    (("apply", "--dry-run", "--root", "sub", "w"), ("web team",)),
+    (("apply", "policy", ""), ALL_FILES),
+    (("apply", "policy", "--allow-undefined", "w"), ("web team",)),
+    (("apply", "--undo-file", "new", "policy", "--also=sub", "p"), ("policy",)),
+    (("apply", "-", "p"), ("policy",)),
+    (("apply", "policy", "policy", "w"), ()),
+    (("apply", "policy", "policy", "--dr"), ("--dry-run",)),
     (("wh",), ("what", "who", "why")),
     (("who",), ("who",)),
     (("who", ""), ALL_FILES),
@@ -236,18 +282,21 @@ ROWS = (
     (("why", "root", "w"), ("web team",)),
     (("why", "root", "/bin/ls", "p"), ("policy",)),
     (("why", "root", "/bin/ls", "-"), ()),
-    (("help", ""), ("check", "convert", "edit", "list", "show", "what", "who", "why")),
+    (("help", ""), WITH_OPTIONS),
+    (("help", "a"), ("apply",)),
     (("help", "wh"), ("what", "who", "why")),
+    (("help", "p"), ("place",)),
     (("help", "s"), ("show",)),
     (("help", "show", ""), ()),
 )
 
-# zsh offers the options if there is nothing else to offer.
+# zsh offers the options if there is nothing else to offer, and no option a second time.
 ZSH_ROWS = {
     ("convert", "-f", "sudoers", "policy", ""): (
         *("-e", "--expand-aliases", "-h", "--help"),
         *("-m", "--match", "-p", "--prune-matches", "--root", "--error-status", "--explain", "--plain"),
     ),
+    ("what", "--json", "--j"): (),
 }
 
 
@@ -400,15 +449,21 @@ def run_rows(shell, offers, folder, tally):
         tally.note(f"{shell} completes {words}", difference("offers", sorted(wanted), sorted(came)))
 
 
+def listed_options(text):
+    """Returns the options that a help text lists, without those of other commands that it names."""
+    lines = [line.strip() for line in text.partition("\nOptions:\n")[2].splitlines() if line.startswith(" ")]
+    return options_of_help("\n".join(line.partition("  ")[0] for line in lines))
+
+
 def run_lists(program, tally):
     """The rows have the commands and the options of the help texts."""
     whole, each = helps(program)
     tally.note("completed commands", difference("commands", commands_of_help(whole), set(COMMANDS)))
     options = dict(ROWS)
-    wanted = {name: set(options[name, "-"]) for name in ("check", "convert", "edit", "list", "show", "what", "who", "why")}
-    tally.note("completed options", difference("options", options_of_help(whole.partition("\nOptions:\n")[2]), set(options[("-",)])))
+    wanted = {name: set(options[name, "-"]) for name in WITH_OPTIONS}
+    tally.note("completed options", difference("options", listed_options(whole), set(options[("-",)])))
     for name, text in each.items():
-        tally.note(f"completed options of {name}", difference("options", options_of_help(text), wanted.get(name)))
+        tally.note(f"completed options of {name}", difference("options", listed_options(text), wanted.get(name)))
 
 
 def make_files(folder):

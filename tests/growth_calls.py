@@ -289,6 +289,10 @@ BY_PROGRAM = {
         "report::make_show_error_document",
         "report::make_text_value",
     ),
+    "placing": (
+        "place::place",
+        "run::read_output_files",
+    ),
     "asking_machine": (
         "ask::explain_user_answer",
         "ask::list_rights",

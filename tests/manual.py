@@ -6,7 +6,8 @@ sessions run in order in one shell and one folder. The folder /etc/sudoers.d of
 the page is a scratch folder.
 
 DIAGNOSTICS has to list each error that the program can print: each variant of
-the fault types, with the text that FaultText.antt states for it. The advices of
+the fault types, with the text that FaultText.antt states for it. Its errors of
+`place` and `apply` are the words that their sources print. The advices of
 an item are those that scripts/diagnostics puts there: the words of the hints that
 the item names. Each hint is named, and an item names just the hints that the
 tables of explanations show below its error.
@@ -68,6 +69,11 @@ TERMS = (
     (r"\w+_fault_(?:message|name) .*", "ERROR"),
 )
 CARRIED = "ERROR"
+
+# The sources with the words of the errors of `place` and `apply`, their list, and the errors of a bundle, which `place` prints of OUTPUT.
+SOURCES_OF_PLACE = ("crates/sudoers_tool/src/place*.rt", "crates/sudoers_tool/src/apply_command.rt")
+LIST_OF_PLACE = ".Ss Errors of place and apply\n"
+OF_BUNDLE = ("BadBundle", "SameName")
 
 # The files that PEOPLE stands for in a text.
 PEOPLE = ("passwd", "group")
@@ -234,6 +240,17 @@ def notes():
     return [f"FILE:LINE:COL: {word} KIND NAME" for word in words] + ["FILE" + verdict for verdict in verdicts]
 
 
+def errors_of_place():
+    """Returns the words of the errors of `place` and `apply`."""
+    paths = [path for form in SOURCES_OF_PLACE for path in sorted(glob.glob(os.path.join(TOP, form)))]
+    return {*re.findall(r'\bb"([A-Z][a-z]\w*)"', "".join(map(read, paths))), *OF_BUNDLE}
+
+
+def items_of(lines):
+    """Returns the items of some lines of DIAGNOSTICS."""
+    return [line[len(".It ") :].replace('"', "") for line in lines if line.startswith(".It ")]
+
+
 def run_errors(tally):
     """DIAGNOSTICS lists each error and each note, and nothing else; an error of several types at most once for each."""
     declared = variants()
@@ -242,13 +259,17 @@ def run_errors(tally):
     named = sorted((name, variant) for name, names in declared.items() for variant in names)
     tally.note("manual page, variants", difference("variants", named, sorted(known)))
     printed = Counter(text.replace("PEOPLE", file) for text in known.values() for file in PEOPLE[: 1 + ("PEOPLE" in text)])
+    printed.update(errors_of_place())
     wanted = set(printed) - {CARRIED} | set(notes())
-    items = [line[len(".It ") :].replace('"', "") for line in section("DIAGNOSTICS") if line.startswith(".It ")]
+    lines = section("DIAGNOSTICS")
+    items = items_of(lines)
     problems = [f"{item!r} is missing" for item in sorted(wanted - set(items))]
     problems += [f"nothing prints {item!r}" for item in sorted(set(items) - wanted)]
     twice = sorted(item for item in wanted if items.count(item) > max(printed[item], 1))
     problems += [f"{item!r} is there too often" for item in twice]
     tally.note("manual page, DIAGNOSTICS", problems)
+    below = items_of("\n".join(lines).partition(LIST_OF_PLACE)[2].partition("\n.El")[0].splitlines())
+    tally.note("manual page, errors of place", difference("items", sorted(errors_of_place()), sorted(below)))
     refusals = [item for item in items if item.startswith("edit N: ")]
     order = [known.get(("EditFault", variant)) for variant in declared["EditFault"]]
     order = [item for item in order if item in refusals]

@@ -17,6 +17,7 @@ mod unread_includes;
 
 pub use counting_devices::{Counted, DeviceFailed, PulledBytesOrInterrupted, Sink, Source};
 pub use device_counts::DeviceFailureAndEndlessFileCounts;
+pub use disk_path::resolve_path_below;
 pub use fault::{FileFault, GatherFault};
 pub use files_in_memory::FilesInMemory;
 pub use files_on_disk::{FilesOnDisk, STREAM_NAME};

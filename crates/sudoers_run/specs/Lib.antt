@@ -4,6 +4,7 @@ pub mod Policy
 pub mod FaultText
 pub mod Shown
 pub mod Edit
+pub mod OutputFiles
 pub mod Faults
 pub mod Show
 pub mod Check

@@ -89,7 +89,7 @@ fn edit_input(alloc: Global, input: &[u8], undo: u32, redo: u32) -> Result<Vec<u
 
 /// Returns the script before the first line of `input` that is the mark or a header, the shape in which the policy is given, and its text.
 /// Returns nothing if there is no such line.
-fn split_script_shape_and_policy(input: &[u8]) -> Option<(&[u8], EditInputShape, &[u8])>
+pub fn split_script_shape_and_policy(input: &[u8]) -> Option<(&[u8], EditInputShape, &[u8])>
     ensures { option_map (λ parts. (parts.0.now, parts.1, parts.2.now)) result ≡ script_shape_and_policy_text input.now }
 {
     let mut at = 0;
@@ -115,7 +115,7 @@ fn is_bundle_header(line: &[u8]) -> bool
 }
 
 /// Returns the files that are given in the shape `shape` by the text `text`.
-fn read_files_of_text_in_shape(
+pub fn read_files_of_text_in_shape(
     alloc: Global,
     shape: EditInputShape,
     text: &[u8],

@@ -3,6 +3,7 @@
 use crate::also_option::{
     ALSO, add_also_files, make_also_option, print_files_not_included, trouble_of_gather_fault,
 };
+use crate::apply_command::UNDO_FILE;
 use crate::explaining::add_error_options;
 use crate::explaining_edits::EditExplanation;
 use crate::file_trouble::FileTrouble;
@@ -36,7 +37,7 @@ const REDO: &str = "redo";
 pub const SCRIPT: &str = "SCRIPT";
 
 /// The argument that names the policy.
-const POLICY: &str = "POLICY";
+pub const POLICY: &str = "POLICY";
 
 /// Returns the command line of `edit`.
 pub fn make_edit_subcommand<'a>(alloc: Global, top: Arg<'a>) -> Result<Command<'a>, AllocError> {
@@ -95,6 +96,9 @@ pub fn find_edit_usage_error(words: &ArgMatches<'_>) -> Option<&'static str> {
     }
     if words.get_str(SCRIPT) == Some(STDIN) && files.first() == Some(&STDIN) {
         return Some("standard input cannot be both SCRIPT and POLICY");
+    }
+    if words.get_str(UNDO_FILE) == Some("") {
+        return Some("invalid value '' for '--undo-file <OUTPUT>': a file has a name");
     }
     if has_empty_word(words.get_strs(ALSO)) {
         return Some("invalid value '' for '--also <NAME>': a file has a name");
@@ -188,7 +192,7 @@ pub fn apply_script_to_policy_both_from_stdin(
 }
 
 /// Returns the bytes of the script `script`.
-fn read_script_file(rt: &HostRuntime, script: &str) -> Result<Vec<u8>, FileTrouble> {
+pub fn read_script_file(rt: &HostRuntime, script: &str) -> Result<Vec<u8>, FileTrouble> {
     let read = if script == STDIN {
         read_reader_within_input_limit(rt, rt.stdin())
     } else {
@@ -224,7 +228,7 @@ fn read_reader_within_input_limit<R: Read + Drop>(
 
 /// Returns the files of the policy that `words` name, in the order of `show`, and those of `--also`. `used` bytes of the input are read
 /// already.
-fn gather_files_to_edit(
+pub fn gather_files_to_edit(
     rt: &HostRuntime,
     words: &ArgMatches<'_>,
     used: usize,

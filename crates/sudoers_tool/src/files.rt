@@ -79,6 +79,9 @@ pub fn words_of_error_kind(kind: io::ErrorKind) -> &'static str {
         io::ErrorKind::IsADirectory => "it is a folder",
         io::ErrorKind::FilesystemLoop => "its links lead in a circle",
         io::ErrorKind::InvalidFilename => "its name is too long",
+        io::ErrorKind::StorageFull => "no space is left",
+        io::ErrorKind::ReadOnlyFilesystem => "the file system is read-only",
+        io::ErrorKind::FileTooLarge => "it is too large",
         _ => "the device failed",
     }
 }

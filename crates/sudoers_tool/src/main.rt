@@ -3,10 +3,12 @@
 
 mod all_errors;
 mod also_option;
+mod apply_command;
 mod ask_command;
 mod ask_json;
 mod ask_subcommands;
 mod ask_values;
+mod changed_lines;
 mod convert_command;
 mod edit_command;
 mod explaining;
@@ -18,11 +20,17 @@ mod json_output;
 mod kept_files;
 mod list_command;
 mod machine;
+mod new_faults;
+mod place_command;
+mod place_trouble;
+mod placed_files;
+mod placed_paths;
 mod same_folders;
 mod subcommands;
 mod terminal;
 
 use crate::all_errors::print_all_errors;
+use crate::apply_command::{APPLY, run_apply_command};
 use crate::ask_command::{is_list_with_same_folders, run_ask_command, run_list_with_same_folders};
 use crate::ask_json::run_ask_as_json;
 use crate::ask_subcommands::{is_ask_command, policy_name_of_ask_words};
@@ -42,6 +50,7 @@ use crate::json_output::{
 };
 use crate::kept_files::KeptFiles;
 use crate::list_command::run_list_command;
+use crate::place_command::{PLACE, run_place_command};
 use crate::same_folders::find_mistake_in_same_folders;
 use crate::subcommands::{make_command_for_usage, make_top_level_command};
 use crate::terminal::{open_standard_error, open_standard_output, print_error_line};
@@ -114,7 +123,7 @@ fn find_usage_error(
         )?;
         return Ok(Some(message));
     }
-    let mistake = if name == EDIT {
+    let mistake = if name == EDIT || name == APPLY {
         find_edit_usage_error(words)
     } else {
         find_usage_error_of_files(words)
@@ -141,6 +150,8 @@ fn find_usage_error_of_files(words: &ArgMatches<'_>) -> Option<&'static str> {
 fn run_matched_command(rt: &HostRuntime, matches: &ArgMatches<'_>) -> ExitCode {
     let status = match matches.subcommand() {
         Some((EDIT, words)) => run_edit_and_print_error(rt, words),
+        Some((APPLY, words)) => run_apply_command(rt, words),
+        Some((PLACE, words)) => run_place_command(rt, words),
         Some((name, words)) if is_ask_command(name) => {
             let file = policy_name_of_ask_words(words);
             run_named_command_and_print_error(rt, name, file, ASK_ERROR_STATUS, words)

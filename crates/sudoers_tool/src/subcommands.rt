@@ -1,12 +1,14 @@
 //! The command line that the program understands.
 
 use crate::all_errors::make_all_flag;
+use crate::apply_command::make_apply_subcommand;
 use crate::ask_subcommands::{make_what_subcommand, make_who_subcommand, make_why_subcommand};
 use crate::convert_command::make_convert_subcommand;
 use crate::edit_command::{EDIT, make_edit_subcommand};
 use crate::explaining::add_error_options;
 use crate::json_output::make_json_flag;
 use crate::list_command::make_list_subcommand;
+use crate::place_command::make_place_subcommand;
 use clap::{Arg, ArgAction, ArgMatches, Command};
 use std::alloc::{AllocError, Global};
 
@@ -15,7 +17,7 @@ const VERSION: &str = "0.8.0";
 
 /// What help prints last.
 const EXIT_STATUS: &str =
-    "Exit status: 0 success; 1 an error, a policy that `check` does not pass, or a command that `list` does not allow; 2 a wrong command line; 3 an error of `who`, `what` or `why`. See sudoers_tool(8).";
+    "Exit status: 0 success; 1 an error, a policy that `check` does not pass, or a command that `list` does not allow; 2 a wrong command line; 3 an error of `apply`, `place`, `who`, `what` or `why`. See sudoers_tool(8).";
 
 /// Returns the command line of `show`.
 fn make_show_subcommand<'a>(alloc: Global) -> Result<Command<'a>, AllocError> {
@@ -31,9 +33,10 @@ pub fn make_top_level_command<'a>(alloc: Global) -> Result<Command<'a>, AllocErr
     Command::new(alloc, "sudoers_tool")
         .version(VERSION)
         .about(
-            "Check, show, edit, convert and list sudoers policies. Without a command, do what `edit` does",
+            "Check, show, edit, apply, place, convert and list sudoers policies. Without a command, do what `edit` does",
         )
         .after_help(EXIT_STATUS)
+        .subcommand(make_apply_subcommand(alloc, make_root_folder_option(alloc))?)?
         .subcommand(add_error_options(alloc, make_check_subcommand(alloc)?)?)?
         .subcommand(add_error_options(
             alloc,
@@ -52,6 +55,7 @@ pub fn make_top_level_command<'a>(alloc: Global) -> Result<Command<'a>, AllocErr
                 make_policy_file_or_stdin_argument(alloc),
             )?,
         )?)?
+        .subcommand(make_place_subcommand(alloc, make_root_folder_option(alloc))?)?
         .subcommand(add_error_options(alloc, make_show_subcommand(alloc)?)?)?
         .subcommand(make_what_subcommand(alloc, make_root_folder_option(alloc))?)?
         .subcommand(make_who_subcommand(alloc, make_root_folder_option(alloc))?)?

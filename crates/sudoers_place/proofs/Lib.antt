@@ -1,0 +1,10 @@
+mod Apart
+mod Files
+mod Log
+mod Moves
+mod Noted
+mod Paths
+mod Prepared
+mod Promise
+mod Steps
+mod Temps

@@ -1,0 +1,7 @@
+use Rattle.std.proofs.Common.{[], ◌∷◌}
+use Rattle.sudoers_place.specs.Disk.{SameBut}
+use Rattle.sudoers_place.proofs.Log.{log_goes_on}
+use Rattle.sudoers_place.proofs.memory.MemoryWritableDisk.create.Goals as goal
+
+pub returns-clause-goes_on : goal.returns-clause-goes_on
+returns-clause-goes_on c = log_goes_on (SameBut (c.args.path.now ∷ [])) _ _ _ _ c.count.ensures.counted c.create-created.ensures.goes_on
