@@ -1,9 +1,9 @@
-"""Runs examples/install-edited in folders of their own: what it installs and what it refuses.
+"""Runs examples/install-edited in folders of their own: what it puts in place and what it refuses.
 
-A case has the files of a folder, one of which is POLICY, and an edit script. `edit` makes the output of them, or of other
-texts, and examples/install-edited gets that output. A refusal has to leave each file as it was, and to name the reason on
-standard error. What is installed has mode 0440, with its undo script beside the output. The way back of the output is
-installed after it. In a mount namespace the files are those of /etc, and sudo says what a user may run.
+A case has the files of a folder and an edit script. `edit` makes the output of them, or of other texts, and
+examples/install-edited gets that output. A refusal has to leave each file as it was, and to name the reason on standard
+error. `place --undo` has to put back what was put in place. In a mount namespace the files are those of /etc, and sudo says
+what a user may run.
 """
 
 import os
@@ -18,7 +18,6 @@ from tally import difference
 
 TOP = os.path.dirname(os.path.dirname(os.path.abspath(__file__)))
 SCRIPT = os.path.join(TOP, "examples", "install-edited")
-MARK = b"%%\n"
 PATH = "/usr/bin:/bin"
 PATH_OF_VISUDO = PATH + ":/usr/sbin:/sbin"
 
@@ -26,102 +25,97 @@ MAIN = "Cmnd_Alias SHELLS = /bin/sh\nroot ALL = (ALL : ALL) ALL\n@includedir sud
 BOB = "bob ALL = ALL, !SHELLS\n"
 SITE = {"sudoers": MAIN, "sudoers.d/bob": BOB, "sudoers.d/web": "# web\n"}
 WEB = "# web\nbob ALL = ALL\n"
-OPS = "User_Alias OPS = ann"
 ONE = {"web": WEB}
 EXTRA = {**ONE, "extra/x": "bob ALL = NONE\n", "extra/x.old": "no policy\n"}
-UP = {"etc/sudoers": "@includedir \"my files\"\n@include ../opt/x\n", "opt/x": "Cmnd_Alias SHELLS = /bin/sh\n"}
+UP = {"etc/sudoers": "@includedir \"my files\"\n@include ../opt/x\n", "etc/my files/a b": BOB, "opt/x": "Cmnd_Alias SHELLS = /bin/sh\n"}
 
 INSERT = "insert 1\n|ann ALL = /bin/true\n"
 ANN = "ann ALL = /bin/true\n"
-LAST = "insert 3\n|bob ALL = ALL, !/bin/su\n"
-EXTRAS = "insert 3\n|@includedir extra\n"
 RENAME = "rename cmnd SHELLS SH\n"
+SHELLS = "insert 1\n|Cmnd_Alias SHELLS = /x\n"
 
-OLD = "was not made from {} as it is now"
-CUT = "out seems to be cut off: its last line has no line end"
-NO_OUTPUT = "out is no whole output of edit"
+OLD = "{}: Changed"
 UNDEFINED = "sudoers.d/bob:1:17: undefined Cmnd_Alias SHELLS"
 
 
 @dataclass(frozen=True)
 class Case:
-    """A run of the script. It installs `wanted` in place of POLICY, or it refuses and says `why`."""
+    """A run of the script. It puts `wanted` in place, or it refuses and says `why`. The names of `output_of` are those in the output."""
 
     name: str
     files: dict
-    policy: str
     script: str
     why: str = ""
-    wanted: str = ""
+    wanted: dict = field(default_factory=dict)
     root: tuple = ()
+    output_of: tuple = ()
     made_from: dict = field(default_factory=dict)
-    is_bundle: bool = False
     cut: int = 0
 
     def words(self):
         """The words of the script."""
-        return ("out", self.policy, *self.root)
+        return ("out", *self.root)
 
     def output(self, program):
         """What `edit` prints, without the bytes that are cut off."""
         texts = {name: text.encode() for name, text in {**self.files, **self.made_from}.items()}
-        files = bundle([(name.encode(), text) for name, text in texts.items()])
-        answer = run(program, ("edit",), self.script.encode() + (files if self.is_bundle else MARK + texts[self.policy]))
+        files = bundle([(name.encode(), texts[name]) for name in self.output_of or texts])
+        answer = run(program, ("edit",), self.script.encode() + files)
         return answer.stdout[: max(len(answer.stdout) - self.cut, 0)]
 
 
 def one(name, script, **more):
     """A case of a policy of one file."""
-    return Case(name, ONE, "web", script, **more)
+    return Case(name, ONE, script, **more)
 
 
-def main(name, script, **more):
-    """A case of the first file of a policy of three files."""
-    return Case(name, SITE, "sudoers", script, **more)
+def site(name, script, **more):
+    """A case of a policy of three files, all of which are in the output."""
+    return Case(name, SITE, script, **more)
 
 
-def bob(name, script, root=("sudoers",), **more):
-    """A case of the second file of that policy."""
-    return Case(name, SITE, "sudoers.d/bob", script, root=root, **more)
+def alone(name, file, script, root=("sudoers",), **more):
+    """A case of an output with one file of that policy."""
+    return Case(name, SITE, script, root=root, output_of=(file,), **more)
 
 
 CASES = (
-    one("an_insert", INSERT, wanted=ANN + WEB),
-    one("a_folder_that_is_missing", EXTRAS, wanted=WEB + "@includedir extra\n"),
-    Case("a_last_line_without_an_end", {"web": WEB[:-1]}, "web", INSERT, wanted=ANN + WEB[:-1]),
-    one("a_last_line_that_loses_its_end", "openend\n", why=CUT),
-    one("no_change", "prune\n", wanted=WEB),
-    one("an_unreadable_policy_and_an_insert", INSERT, made_from={"web": ""}, why=OLD.format("web")),
-    one("an_unreadable_policy_and_a_prune", "prune\n", made_from={"web": ""}, why=OLD.format("web")),
+    one("an_insert", INSERT, wanted={"web": ANN + WEB}),
+    one("a_folder_that_is_missing", "insert 3\n|@includedir extra\n", wanted={"web": WEB + "@includedir extra\n"}),
+    Case("a_last_line_without_an_end", {"web": WEB[:-1]}, INSERT, wanted={"web": ANN + WEB[:-1]}),
+    one("no_change", "prune\n"),
     one("a_change_of_a_colleague", INSERT, made_from={"web": "# web\n"}, why=OLD.format("web")),
-    one("an_output_without_its_last_byte", INSERT, cut=1, why=OLD.format("web")),
-    one("an_output_without_half_a_line", INSERT, cut=10, why=NO_OUTPUT),
-    one("an_output_without_half_an_added_line", LAST, cut=3, why=CUT),
-    one("an_output_without_a_denial", LAST, cut=11, why=CUT),
-    Case("another_output_without_a_denial", {"web": WEB[:-1]}, "web", "endline\n" + LAST, cut=11, why=CUT),
-    Case("an_output_without_half_a_member", {"web": OPS}, "web", "add user OPS 2\n>, bob\n", cut=1, why=CUT),
-    one("an_output_without_its_mark", INSERT, cut=len(ANN + WEB) + 1, why=NO_OUTPUT),
-    one("an_empty_output", INSERT, cut=1_000, why=NO_OUTPUT),
-    Case("a_fault_in_a_folder_that_comes", EXTRA, "web", EXTRAS, why="/extra/x:1:11: undefined Cmnd_Alias NONE"),
-    Case("a_file_that_comes", {**ONE, "x": "# x\n"}, "web", "insert 1\n|@include x\n", is_bundle=True, wanted="@include x\n" + WEB),
-    one("a_file_that_is_missing", "insert 1\n|@include x\n", made_from={"x": "# x\n"}, is_bundle=True, why="x as it is now"),
-    main("an_insert_before_an_includedir", INSERT, wanted=ANN + MAIN),
-    main("a_prune_of_an_alias_of_a_drop_in", "prune\n", why=UNDEFINED),
-    main("a_rename_of_an_alias_of_a_drop_in", RENAME, why=UNDEFINED),
-    bob("an_alias_of_another_file", INSERT, wanted=ANN + BOB),
-    bob("an_alias_of_another_file_without_a_root", INSERT, root=(), why="undefined Cmnd_Alias SHELLS"),
-    bob("a_name_of_another_file", "insert 1\n|Cmnd_Alias SHELLS = /x\n", why="Cmnd_Alias SHELLS defined twice"),
-    bob("another_policy", INSERT, root=("sudoers.d/web",), why="sudoers.d/bob is no file of the policy of"),
-    bob("a_missing_root", INSERT, root=("none",), why="none: no file"),
-    Case("a_name_with_a_dot", {**SITE, "sudoers.d/a.b": BOB}, "sudoers.d/a.b", INSERT, root=("sudoers",), why="is no file of"),
-    Case("blanks_and_folders_up", {**UP, "etc/my files/a b": BOB}, "etc/my files/a b", INSERT, root=("etc/sudoers",), wanted=ANN + BOB),
-    bob("a_bundle", "file 2\n" + INSERT, root=(), is_bundle=True, wanted=ANN + BOB),
-    main("a_bundle_with_a_change_of_its_root", INSERT, is_bundle=True, wanted=ANN + MAIN),
-    main("a_bundle_without_a_change", "", is_bundle=True, wanted=MAIN),
-    main("a_bundle_with_two_changes", RENAME, is_bundle=True, why="out changes sudoers and sudoers.d/bob"),
-    bob("a_bundle_with_a_change_of_another_file", INSERT, is_bundle=True, why="out changes sudoers, not sudoers.d/bob"),
-    main("a_bundle_of_old_files", INSERT, is_bundle=True, made_from={"sudoers.d/web": ""}, why=OLD.format("sudoers.d/web")),
-    main("a_bundle_without_its_last_bytes", INSERT, is_bundle=True, cut=3, why=NO_OUTPUT),
+    one("an_output_without_its_last_byte", INSERT, cut=1, why="out: BadBundle"),
+    one("an_output_without_its_file", INSERT, cut=len(ANN + WEB), why="out: BadBundle"),
+    one("an_output_without_its_mark", INSERT, cut=len(ANN + WEB) + len("%% 44 web\n"), why="it is no output of edit --files"),
+    one("an_empty_output", INSERT, cut=1_000, why="it is no output of edit --files"),
+    Case("a_fault_in_a_folder_that_comes", EXTRA, "insert 3\n|@includedir extra\n", why="undefined Cmnd_Alias NONE", output_of=("web",)),
+    Case("a_file_that_comes", {**ONE, "x": "# x\n"}, "insert 1\n|@include x\n", wanted={"web": "@include x\n" + WEB}),
+    one("a_file_that_is_missing", "insert 1\n|@include x\n", made_from={"x": "# x\n"}, why=OLD.format("x")),
+    site("several_files", RENAME, wanted={"sudoers": MAIN.replace("SHELLS", "SH"), "sudoers.d/bob": BOB.replace("SHELLS", "SH")}),
+    site("no_change_of_several_files", "prune\n"),
+    site("a_file_of_several", "file 2\n" + INSERT, wanted={"sudoers.d/bob": ANN + BOB}),
+    site("an_old_file_of_several", INSERT, made_from={"sudoers.d/web": ""}, why=OLD.format("sudoers.d/web")),
+    site("several_files_that_are_cut", INSERT, cut=3, why="out: BadBundle"),
+    alone("an_insert_before_an_includedir", "sudoers", INSERT, wanted={"sudoers": ANN + MAIN}),
+    alone("a_prune_of_an_alias_of_a_drop_in", "sudoers", "prune\n", why=UNDEFINED),
+    alone("a_rename_of_an_alias_of_a_drop_in", "sudoers", RENAME, why=UNDEFINED),
+    alone("an_alias_of_another_file", "sudoers.d/bob", INSERT, wanted={"sudoers.d/bob": ANN + BOB}),
+    alone("an_alias_of_another_file_without_a_root", "sudoers.d/bob", INSERT, root=(), why="undefined Cmnd_Alias SHELLS"),
+    alone("a_name_of_another_file", "sudoers.d/bob", SHELLS, why="Cmnd_Alias SHELLS defined twice"),
+    alone("another_policy", "sudoers.d/bob", INSERT, root=("sudoers.d/web",), why="sudoers.d/bob is no file of the policy of"),
+    alone("a_missing_root", "sudoers.d/bob", INSERT, root=("none",), why="none: no file"),
+    Case(
+        "a_name_with_a_dot", {**SITE, "sudoers.d/a.b": BOB}, INSERT, root=("sudoers",), output_of=("sudoers.d/a.b",), why="is no file of"
+    ),
+    Case(
+        "blanks_and_folders_up",
+        UP,
+        INSERT,
+        root=("etc/sudoers",),
+        output_of=("etc/my files/a b",),
+        wanted={"etc/my files/a b": ANN + BOB},
+    ),
 )
 
 
@@ -152,21 +146,25 @@ class Folder:
             file.write(text)
 
     def texts(self):
-        """The bytes of each file but the output and its undo script."""
+        """The bytes of each file but the output."""
         held = {}
         for folder, _, names in os.walk(self.path):
             for name in names:
                 path = os.path.join(folder, name)
                 with open(path, "rb") as file:
                     held[os.path.relpath(path, self.path)] = file.read()
-        return {name: text for name, text in held.items() if name not in ("out", "out.undo")}
+        return {name: text for name, text in held.items() if name != "out"}
+
+    def run(self, words, path=PATH_OF_VISUDO):
+        """Runs these words in the folder."""
+        done = subprocess.run(
+            words, capture_output=True, cwd=self.path, env={"PATH": self.commands + path}, timeout=SECONDS, check=False
+        )
+        return Answer(done.stdout, done.stderr, done.returncode)
 
     def install(self, words, path=PATH_OF_VISUDO):
         """Runs the script in the folder."""
-        done = subprocess.run(
-            ["sh", SCRIPT, *words], capture_output=True, cwd=self.path, env={"PATH": self.commands + path}, timeout=SECONDS, check=False
-        )
-        return Answer(done.stdout, done.stderr, done.returncode)
+        return self.run(["sh", SCRIPT, *words], path)
 
 
 def refusal(why):
@@ -174,29 +172,21 @@ def refusal(why):
     return Wanted(b"", None, 1, stderr_has=(b"install-edited: ", why.encode()))
 
 
-def installed_problems(folder, output, policy, wanted):
-    """Where POLICY is not `wanted` with mode 0440, or its undo script is not that of the output."""
-    path = os.path.join(folder.path, policy)
-    with open(os.path.join(folder.path, "out.undo"), "rb") as file:
-        problems = difference("undo script", output[: output.index(b"%%")], file.read())
-    problems += difference("policy", wanted, folder.texts()[policy])
-    return problems + difference("mode", 0o440, os.stat(path).st_mode & 0o7777)
-
-
 def run_case(program, tally, case):
-    """Runs the script on the output, and on its way back if it was installed."""
+    """Runs the script on the output, and takes the edits back if it was put in place."""
     with Folder(program, case.files) as folder:
-        before, output = folder.texts(), case.output(program)
-        folder.write("out", output)
+        before = folder.texts()
+        folder.write("out", case.output(program))
         answer = folder.install(case.words())
         if case.why:
             problems = refusal(case.why).problems(answer) + difference("files", before, folder.texts())
-        elif case.wanted == case.files[case.policy]:
+        elif not case.wanted:
             problems = Wanted(b"out changes nothing\n").problems(answer) + difference("files", before, folder.texts())
         else:
-            problems = Wanted(None, None).problems(answer) or installed_problems(folder, output, case.policy, case.wanted.encode())
-            folder.write("out", run(program, ("edit",), output).stdout)
-            problems += Wanted(None, None).problems(folder.install(case.words()))
+            after = {**before, **{name: text.encode() for name, text in case.wanted.items()}}
+            problems = Wanted(None, None).problems(answer) + difference("files", after, folder.texts())
+            problems += difference("names", set(case.wanted), set(answer.stdout.decode().splitlines()))
+            problems += Wanted(None).problems(folder.run(["sudoers_tool", "place", "--undo", "out"]))
             problems += difference("files after the way back", before, folder.texts())
         tally.note(f"installing edits: {case.name}", problems)
 
@@ -207,22 +197,23 @@ def run_link(program, tally):
         link = os.path.join(folder.path, "sudoers.d", "bob")
         os.remove(link)
         os.symlink("../real/bob", link)
-        folder.write("out", run(program, ("edit",), INSERT.encode() + MARK + BOB.encode()).stdout)
-        problems = Wanted(None, None).problems(folder.install(("out", "sudoers.d/bob", "sudoers")))
+        folder.write("out", run(program, ("edit",), INSERT.encode() + bundle([(b"sudoers.d/bob", BOB.encode())])).stdout)
+        problems = Wanted(None, None).problems(folder.install(("out", "sudoers")))
         problems += difference("link", True, os.path.islink(link))
         problems += difference("policy", (ANN + BOB).encode(), folder.texts()["real/bob"])
         tally.note("installing edits: a_link", problems)
 
 
 def run_words(program, tally):
-    """Wrong words, a missing output and a missing policy."""
+    """Wrong words, a missing output, and a name that leads out of the folder."""
     with Folder(program, ONE) as folder:
-        folder.write("out", MARK + WEB.encode())
-        usage = Wanted(stderr=b"usage: install-edited OUTPUT POLICY [ROOT]\n", status=2)
-        for words in ((), ("out",), ("out", "web", "web", "web")):
+        folder.write("out", bundle([(b"web", WEB.encode())]))
+        usage = Wanted(stderr=b"usage: install-edited OUTPUT [ROOT]\n", status=2)
+        for words in ((), ("out", "web", "web")):
             tally.note(f"installing edits: {len(words)} words", usage.problems(folder.install(words)))
-        tally.note("installing edits: a_missing_output", refusal("none: no file").problems(folder.install(("none", "web"))))
-        tally.note("installing edits: a_missing_policy", refusal("none: no file").problems(folder.install(("out", "none"))))
+        tally.note("installing edits: a_missing_output", refusal("none: no file").problems(folder.install(("none",))))
+        folder.write("out", bundle([(b"web", WEB.encode()), (b"../x", b"")]))
+        tally.note("installing edits: a name outside", refusal("../x leads out of this folder").problems(folder.install(("out",))))
 
 
 def run_visudo(program, tally):
@@ -234,10 +225,10 @@ def run_visudo(program, tally):
             tally.skip(name, "visudo is not installed" if has else "visudo is in the folder of the other commands")
             continue
         with Folder(program, ONE) as folder:
-            folder.write("out", run(program, ("edit",), insert + MARK + WEB.encode()).stdout)
+            folder.write("out", run(program, ("edit",), insert + bundle([(b"web", WEB.encode())])).stdout)
             said = b"install-edited: visudo is not on the PATH, so it has not seen web\n"
-            wanted = refusal("does not pass visudo -c:") if has else Wanted(b"", said)
-            problems = wanted.problems(folder.install(("out", "web"), path))
+            wanted = refusal("does not pass visudo -c:") if has else Wanted(b"web\n", said)
+            problems = wanted.problems(folder.install(("out",), path))
             stays = difference("policy", WEB.encode() if has else b"Defaults nosuch\n" + WEB.encode(), folder.texts()["web"])
             tally.note(name, problems + stays)
 
@@ -278,9 +269,11 @@ def run_system(program, tally):
     for base, script, why, status in rows:
         with Folder(program, files) as folder:
             before = in_system(folder, asked).status
-            folder.write("out", run(program, ("edit",), script.encode() + MARK + files[f"sudoers.d/{base}"].encode()).stdout)
-            answer = in_system(folder, ("sh", SCRIPT, "out", f"/etc/sudoers.d/{base}"))
-            problems = (refusal(why) if why else Wanted(b"", None)).problems(answer)
+            name = f"/etc/sudoers.d/{base}".encode()
+            text = files[f"sudoers.d/{base}"].encode()
+            folder.write("out", run(program, ("edit",), script.encode() + bundle([(name, text)])).stdout)
+            answer = in_system(folder, ("sh", SCRIPT, "out"))
+            problems = (refusal(why) if why else Wanted(name + b"\n", None)).problems(answer)
             problems += difference("sudo before and after", (1, status), (before, in_system(folder, asked).status))
         tally.note(f"installing edits: /etc/sudoers.d/{base}, {script!r}", problems)
 
