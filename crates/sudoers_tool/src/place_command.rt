@@ -1,10 +1,10 @@
 //! The subcommand `place`: puts the files of an output of `edit` in place.
 
 use crate::explaining::{add_explaining_options, are_errors_explained, print_explanation};
-use crate::files::{STDIN, words_of_error_kind};
+use crate::files::STDIN;
 use crate::place_trouble::{PlaceError, make_place_error};
 use crate::placed_files::make_changes;
-use crate::placed_paths::{find_placed_path, make_error_of_file};
+use crate::placed_paths::{find_placed_path, make_error_of_file, make_reason_of_file};
 use crate::terminal::{open_standard_output, print_error_line};
 use clap::{Arg, ArgAction, ArgMatches, Command};
 use std::alloc::{AllocError, Global};
@@ -310,8 +310,22 @@ fn make_error_of_begun_file(
     word: &[u8],
     kind: io::ErrorKind,
 ) -> PlaceError {
-    let reason = words_of_error_kind(kind).as_bytes();
-    make_place_error(alloc, name, word, &[name, b": ", reason, RUN_AGAIN]).into_begun()
+    let error = match make_reason_to_run_again(alloc, name, kind) {
+        Ok(reason) => make_place_error(alloc, name, word, &[reason.as_slice()]),
+        Err(error) => PlaceError::from(error),
+    };
+    error.into_begun()
+}
+
+/// Returns the name `name` of a file, the system's reason, and what to do where some files may be in place.
+fn make_reason_to_run_again(
+    alloc: Global,
+    name: &[u8],
+    kind: io::ErrorKind,
+) -> Result<Vec<u8>, AllocError> {
+    let mut reason = make_reason_of_file(alloc, name, kind)?;
+    reason.extend_from_slice(RUN_AGAIN)?;
+    Ok(reason)
 }
 
 /// Returns the name of the file with the number `number`.

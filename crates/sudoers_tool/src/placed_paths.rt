@@ -44,16 +44,13 @@ pub fn find_placed_path(
     };
     let visudo = format!(in alloc; "{path}{VISUDO}")?;
     if is_there(rt, visudo.as_str()) {
-        return Err(make_place_error(
+        let advice = make_text_around(
             alloc,
+            b"visudo edits it, or has left ",
             name,
-            b"Busy",
-            &[
-                b"visudo edits it, or has left ",
-                name,
-                b".tmp; end visudo, or remove that file",
-            ],
-        ));
+            b".tmp; end visudo, or remove that file",
+        )?;
+        return Err(make_place_error(alloc, name, b"Busy", &[advice.as_slice()]));
     }
     for leftovers in 0..LEFTOVER_LIMIT {
         let temp = make_temp_path(alloc, path.as_str(), leftovers)?;
@@ -65,16 +62,13 @@ pub fn find_placed_path(
             });
         }
     }
-    Err(make_place_error(
+    let advice = make_text_around(
         alloc,
+        b"remove the files ",
         name,
-        b"NotWritten",
-        &[
-            b"remove the files ",
-            name,
-            b".place and so on, which other runs have left",
-        ],
-    ))
+        b".place and so on, which other runs have left",
+    )?;
+    Err(make_place_error(alloc, name, b"NotWritten", &[advice.as_slice()]))
 }
 
 /// Returns the error `word` of the file `name` with the system's reason.
@@ -87,12 +81,32 @@ pub fn make_error_of_file(
     if kind == io::ErrorKind::OutOfMemory {
         return PlaceError::from(AllocError);
     }
-    make_place_error(
-        alloc,
-        name,
-        word,
-        &[name, b": ", words_of_error_kind(kind).as_bytes()],
-    )
+    match make_reason_of_file(alloc, name, kind) {
+        Ok(reason) => make_place_error(alloc, name, word, &[reason.as_slice()]),
+        Err(error) => PlaceError::from(error),
+    }
+}
+
+/// Returns the name `name` of a file and the system's reason.
+pub fn make_reason_of_file(
+    alloc: Global,
+    name: &[u8],
+    kind: io::ErrorKind,
+) -> Result<Vec<u8>, AllocError> {
+    make_text_around(alloc, name, b": ", words_of_error_kind(kind).as_bytes())
+}
+
+/// Returns the text `name` with one text before it and one behind it.
+fn make_text_around(
+    alloc: Global,
+    before: &[u8],
+    name: &[u8],
+    behind: &[u8],
+) -> Result<Vec<u8>, AllocError> {
+    let mut text = Vec::from_slice(alloc, before)?;
+    text.extend_from_slice(name)?;
+    text.extend_from_slice(behind)?;
+    Ok(text)
 }
 
 /// Returns the path at which the new file of `path` is written first, if `leftovers` others are there.
