@@ -1,0 +1,2 @@
+pub mod GivenText
+pub mod Plan
