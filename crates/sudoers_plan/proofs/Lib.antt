@@ -1,1 +1,2 @@
 pub mod NothingWanted
+pub mod PlanOutcomes

@@ -105,8 +105,10 @@ nothing_wanted_if_met (HasMember k alias text) policy =
     members_wanted (member_of_text k text) (members_of_alias_definition k alias policy.walk.lines) true _ (λ m ms. add_if_not (is_member_listed m ms) _)
 nothing_wanted_if_met (LacksMember k alias text) policy =
     members_wanted (member_of_text k text) (members_of_alias_definition k alias policy.walk.lines) false _
-    (λ m ms. ((λ h. (none_passes (is_same_member m) 0 ms).0 ((no_edit_of_numbers (λ at. DropMember k alias at) _).0 h)),
-    (λ h. (no_edit_of_numbers (λ at. DropMember k alias at) _).1 ((none_passes (is_same_member m) 0 ms).1 h))))
+    (λ m ms. (
+      (λ h. (none_passes (is_same_member m) 0 ms).0 ((no_edit_of_numbers (λ at. DropMember k alias at) _).0 h)),
+      (λ h. (no_edit_of_numbers (λ at. DropMember k alias at) _).1 ((none_passes (is_same_member m) 0 ms).1 h)),
+    ))
 nothing_wanted_if_met (HasLine name text place) policy =
     lines_wanted (number_of_file_on_walk name policy) (is_text_of_one_line text) true (line_texts_of_file policy) (is_line_of_text text)
     (λ f lines. if list_any (is_line_of_text text) lines then Ok [] else plan_result_and_then (number_of_new_line place lines) (λ at. Ok (edits_putting_line f at text lines)))
@@ -116,9 +118,10 @@ nothing_wanted_if_met (LacksLine name text even_includes) policy =
     lines_wanted (number_of_file_on_walk name policy) (is_text_of_one_line text) false (line_texts_of_file policy) (is_line_of_text text)
     (λ f lines. if list_any (is_line_of_text text) lines && not even_includes && is_text_of_include_line text then Err IncludeLine
     else Ok (map (λ at. Delete f at) (reverse (numbers_of_passing (is_line_of_text text) 0 lines))))
-    (λ f. take_if_there (list_any (is_line_of_text text) (line_texts_of_file policy f)) (not even_includes) (is_text_of_include_line text) _
-    ((λ h. (none_passes (is_line_of_text text) 0 (line_texts_of_file policy f)).0 ((no_edit_of_numbers (λ at. Delete f at) _).0 h)),
-    (λ h. (no_edit_of_numbers (λ at. Delete f at) _).1 ((none_passes (is_line_of_text text) 0 (line_texts_of_file policy f)).1 h))))
+    (λ f. take_if_there (list_any (is_line_of_text text) (line_texts_of_file policy f)) (not even_includes) (is_text_of_include_line text) _ (
+      (λ h. (none_passes (is_line_of_text text) 0 (line_texts_of_file policy f)).0 ((no_edit_of_numbers (λ at. Delete f at) _).0 h)),
+      (λ h. (no_edit_of_numbers (λ at. Delete f at) _).1 ((none_passes (is_line_of_text text) 0 (line_texts_of_file policy f)).1 h)),
+    ))
 
 nothing_is_ok : (r : Result (List Edit) PlanFault) → is_nothing_wanted r ≡ true → r ≡ Ok []
 nothing_is_ok (Ok []) h = refl
