@@ -29,7 +29,7 @@ AreLeftBesidesGone Gone (d ∷ ds) (e ∷ es) = (Gone d.kind d.def.name × AreLe
 
 -- ---- members
 
-members_are_rewritten_to_themselves : (ms : List Member) → IsPointwiseRelated (IsMemberWithAtomMapped unchanged_atom) ms ms
+pub members_are_rewritten_to_themselves : (ms : List Member) → IsPointwiseRelated (IsMemberWithAtomMapped unchanged_atom) ms ms
 members_are_rewritten_to_themselves [] = tt
 members_are_rewritten_to_themselves (m ∷ ms) = (record { negated = refl; digests = refl; atom = refl }, members_are_rewritten_to_themselves ms)
 

@@ -8,3 +8,6 @@ mod RenamedMembers
 mod RenamedAnswers
 mod OtherFiles
 mod OtherLines
+mod WalkWithoutMember
+mod DroppedMember
+mod EditedMember

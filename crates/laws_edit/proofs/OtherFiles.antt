@@ -59,11 +59,11 @@ replaced_bytes_keep_other_file (suc f) (suc g) bytes (file ∷ files) other =
 -- ---- edits of one file
 
 -- The new policy is loaded, and each file but this one has the lines that it had.
-record KeepsOtherFiles (f : ℕ) (policy new : LoadedPolicy) : Type 0 where
-  loaded : policy_or_load_fault (named_files_of_policy new) ≡ Ok new
-  there : (g : ℕ) → (g ≡ f → ⊥) → lines_of_numbered_file new.files g ≡ lines_of_numbered_file policy.files g
+pub record KeepsOtherFiles (f : ℕ) (policy new : LoadedPolicy) : Type 0 where
+  pub loaded : policy_or_load_fault (named_files_of_policy new) ≡ Ok new
+  pub there : (g : ℕ) → (g ≡ f → ⊥) → lines_of_numbered_file new.files g ≡ lines_of_numbered_file policy.files g
 
-accepted_file_lines_keep_other_files : (policy new : LoadedPolicy) (f : ℕ) (lines : LineTexts)
+pub accepted_file_lines_keep_other_files : (policy new : LoadedPolicy) (f : ℕ) (lines : LineTexts)
     → policy_or_load_fault (named_files_of_policy policy) ≡ Ok policy → policy_with_file_lines policy f lines ≡ Ok new
     → KeepsOtherFiles f policy new
 accepted_file_lines_keep_other_files policy new f lines loaded lands = record { loaded = now; there = there }

@@ -84,7 +84,7 @@ accepted_policies_are_equal : (a b : LoadedPolicy) → (let r : Result LoadedPol
 accepted_policies_are_equal a b is = cc
 
 -- lines that read as they are kept, in place of one
-lines_of_file_are_told_by_texts : (now next : LoadedPolicy) (f : ℕ) (front : List Line) (line : Line) (news after : List Line)
+pub lines_of_file_are_told_by_texts : (now next : LoadedPolicy) (f : ℕ) (front : List Line) (line : Line) (news after : List Line)
     → policy_or_load_fault (named_files_of_policy now) ≡ Ok now → policy_or_load_fault (named_files_of_policy next) ≡ Ok next
     → lines_of_numbered_file now.files f ≡ front ++ line ∷ after → AllByRecursion IsCorrectlyParsed news
     → texts_of_lines (lines_of_numbered_file next.files f) ≡ texts_of_lines (front ++ (news ++ after))

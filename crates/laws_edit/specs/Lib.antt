@@ -1,2 +1,3 @@
 pub mod MayChange
+pub mod MemberEdits
 pub mod Pruned

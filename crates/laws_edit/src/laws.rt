@@ -1,7 +1,7 @@
 //! Laws of edits of policies. Each is the contract of a function that does nothing.
 
 ghost use Rattle.std.specs.List.{filter};
-ghost use Rattle.std.specs.Prelude.{◌≡◌, ◌↔◌, ℕ, List, Option, Ok, true, false};
+ghost use Rattle.std.specs.Prelude.{◌≡◌, ◌↔◌, ◌⊎◌, ℕ, List, Option, Ok, true, false};
 ghost use Rattle.sudoers_text.specs.Renamed.{IsDefinableName};
 ghost use Rattle.sudoers_grammar.specs.declared.node.Kind.{Kind as KindOf};
 ghost use Rattle.sudoers_tree.specs.Definition.{definition_place_of_name};
@@ -19,11 +19,12 @@ ghost use Rattle.sudoers_match.specs.Default.{IsRunasDefault};
 ghost use Rattle.sudoers_match.specs.Groups.{ArePlacesOfMatchingHostGroups};
 ghost use Rattle.sudoers_match.specs.declared.matching_host_groups.HostGroupPlace.{HostGroupPlace as GroupPlaceOf};
 ghost use Rattle.sudoers_edit_script.specs.declared.edit.Edit.{Edit as EditOf};
-ghost use Rattle.sudoers_edit_script.specs.declared.edit.Edit.TheVariants.{Rename};
+ghost use Rattle.sudoers_edit_script.specs.declared.edit.Edit.TheVariants.{AddMember, DropMember, Rename};
 ghost use Rattle.sudoers_edit.specs.Editing.{step as step_of};
 ghost use Rattle.sudoers_edit.specs.Renaming.{is_alias_name_in_use};
 ghost use Rattle.sudoers_edit.specs.Renamed.{lines_after_rename};
 ghost use Rattle.laws_edit.specs.MayChange.{MayChangeFile};
+ghost use Rattle.laws_edit.specs.MemberEdits.{ChangesLineOfAlias, KeepsOtherAliases, ListsOneMemberMore};
 ghost use Rattle.laws_edit.specs.Pruned.{KeepsReachableAliasesOnly, has_no_alias_definition};
 
 use sudoers_check::laws::chains_are;
@@ -124,3 +125,15 @@ pub fn prune_keeps_other_lines_of_each_file()
 {
     edits_keep_other_files();
 }
+
+/// A member that an edit puts into the list of an alias, or takes out of it, leaves the other members as they were, in their order. Of all
+/// lines of the files that one changes that defines the alias. The other aliases keep their members.
+pub fn member_edits_change_one_member()
+    ensures added { (kind : KindOf) (name splice : List ℕ) (at : ℕ) (policy new : LoadedPolicy) → policy_or_load_fault (named_files_of_policy policy) ≡ Ok policy
+        → step_of (AddMember kind name at splice) policy ≡ Ok new → ListsOneMemberMore kind name at new policy × ChangesLineOfAlias kind name policy new }
+    ensures dropped { (kind : KindOf) (name : List ℕ) (at : ℕ) (policy new : LoadedPolicy) → policy_or_load_fault (named_files_of_policy policy) ≡ Ok policy
+        → step_of (DropMember kind name at) policy ≡ Ok new → ListsOneMemberMore kind name at policy new × ChangesLineOfAlias kind name policy new }
+    ensures others { (kind : KindOf) (name splice : List ℕ) (at : ℕ) (policy new : LoadedPolicy) → policy_or_load_fault (named_files_of_policy policy) ≡ Ok policy
+        → (step_of (AddMember kind name at splice) policy ≡ Ok new) ⊎ (step_of (DropMember kind name at) policy ≡ Ok new)
+        → KeepsOtherAliases kind name policy new }
+{}
