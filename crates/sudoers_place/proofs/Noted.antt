@@ -7,10 +7,11 @@ use Rattle.sudoers_place.specs.declared.change.Content.TheVariants.{Bytes, NoFil
 use Rattle.sudoers_place.specs.declared.change.Output.{Output}
 use Rattle.sudoers_place.specs.declared.change.PlaceFault.{PlaceFault}
 use Rattle.sudoers_place.specs.declared.change.PlaceFault.TheVariants.{SamePath, OutputNotKept, OutputChanged, NotWritten, NotRead, Changed, NotMoved, NotKept}
-use Rattle.sudoers_place.specs.Disk.{File, Image, Story, AreDistinct, SameBut, GoesOn, access_of_file, file_with_access_of}
+use Rattle.sudoers_place.specs.Disk.{File, Image, Story, AreDistinct, SameBut, SameWhereSeen, GoesOn, access_of_file, file_with_access_of, free_paths}
 use Rattle.sudoers_place.specs.Placing.{paths_of, temps_of, AreApart, AreSameChanges, HasCause, HasCauseOfPlacing, HasContent, HasNumber, HasOther, HasUnexpected, IsAsBefore, IsAsExpected, IsBeforeOrAfter, IsBeforeOrBegun, IsInPlace, IsKeptInPlace, IsSameChange, expected_content, file_with_content, placed_file, placed_file_if}
-use Rattle.sudoers_place.proofs.Paths.{not_in_none}
-use Rattle.sudoers_place.proofs.Steps.{followed}
+use Rattle.sudoers_place.proofs.Paths.{AreIn, not_in_back, not_in_both, not_in_front, not_in_none}
+use Rattle.sudoers_place.proofs.Steps.{followed, loosened, same_steps}
+use Rattle.sudoers_place.proofs.Free.{free_through, seen_not_free}
 use Rattle.sudoers_place.proofs.Files.{all_through, unexpected_before}
 use Rattle.sudoers_place.proofs.Apart.{path_apart_rest, apart_rest}
 
@@ -134,21 +135,38 @@ all_kept (x ∷ olds) (y ∷ news) f g new same seen expected in_place =
 -- ---- the promise of all
 
 module _ (changes : List Change) (output : Output) where
+  free_from : (f g : Image) → SameBut [] f g → AreIn (free_paths g (temps_of changes)) (free_paths f (temps_of changes))
+  free_from f g seen = free_through (temps_of changes) [] f g (not_in_none (temps_of changes)) seen
+
+  begun_in : (f g : Image) → SameBut [] f g → AreIn (free_paths g (temps_of changes) ++ paths_of changes) (free_paths f (temps_of changes) ++ paths_of changes)
+  begun_in f g seen path h = not_in_both path (free_paths g (temps_of changes)) (paths_of changes) (free_from f g seen path (not_in_front path (free_paths f (temps_of changes)) (paths_of changes) h)) (not_in_back path (free_paths f (temps_of changes)) (paths_of changes) h)
+
   begun_from : (f g d e i : Image) → SameBut [] f g → SameBut [] d e → IsBeforeOrBegun changes output g e i → IsBeforeOrBegun changes output f d i
-  begun_from f g d e i seen same (inl before) = inl (λ path h. before path h ∙ same path tt)
+  begun_from f g d e i seen same (inl before) = inl (λ path h. before path (free_from f g seen path h) ∙ same path tt)
   begun_from f g d e i seen same (inr b) = inr (record {
     output_stands = b.output_stands;
     whole = all_through changes [] f g d e i (not_in_none (paths_of changes)) seen same b.whole;
-    others = λ path h. b.others path h ∙ same path tt;
+    others = λ path h. b.others path (begun_in f g seen path h) ∙ same path tt;
   })
 
   pub begins_noted : (a b c : Story) → b.may_leave b.seen → GoesOn (SameBut []) a b → GoesOn (IsBeforeOrBegun changes output b.seen) b c → GoesOn (IsBeforeOrBegun changes output a.seen) a c
   begins_noted a b c now first second =
       followed (SameBut []) (IsBeforeOrBegun changes output b.seen) (IsBeforeOrBegun changes output a.seen) a b c now first second (λ _ d e same. inl (λ path h. same path tt)) (λ known d e f _ same s. begun_from a.seen b.seen d e f (first.is_step known).shown same s)
 
-  pub as_before_noted : (a b c : Story) → b.may_leave b.seen → GoesOn (SameBut []) a b → GoesOn (IsAsBefore changes) b c → GoesOn (IsAsBefore changes) a c
+  pub as_before_noted : (a b c : Story) → b.may_leave b.seen → GoesOn (SameBut []) a b → GoesOn (IsAsBefore changes b.seen) b c → GoesOn (IsAsBefore changes a.seen) a c
   as_before_noted a b c now first second =
-      followed (SameBut []) (IsAsBefore changes) (IsAsBefore changes) a b c now first second (λ _ d e same path h. same path tt) (λ _ d e f _ same s path h. s path h ∙ same path tt)
+      same_steps [] (free_paths b.seen (temps_of changes)) (free_paths a.seen (temps_of changes)) a b c now (λ _ path h. tt) (λ known. free_from a.seen b.seen (first.is_step known).shown) first second
+
+  -- a file that was seen stays, but for the files to be placed
+  same_where_seen : (f d e : Image) → IsBeforeOrBegun changes output f d e → SameWhereSeen (paths_of changes) f d e
+  same_where_seen f d e (inl before) path file not_in there = before path (seen_not_free f (temps_of changes) path file there)
+  same_where_seen f d e (inr b) path file not_in there = b.others path (not_in_both path (free_paths f (temps_of changes)) (paths_of changes) (seen_not_free f (temps_of changes) path file there) not_in)
+
+  pub kept_now : (a c : Story) → GoesOn (IsBeforeOrBegun changes output a.seen) a c → a.is_known → SameWhereSeen (paths_of changes) a.seen a.seen c.seen
+  kept_now a c goes known = same_where_seen a.seen a.seen c.seen (goes.is_step known).shown
+
+  pub kept_on : (a c : Story) → GoesOn (IsBeforeOrBegun changes output a.seen) a c → GoesOn (SameWhereSeen (paths_of changes) a.seen) a c
+  kept_on a c goes = loosened (IsBeforeOrBegun changes output a.seen) (SameWhereSeen (paths_of changes) a.seen) a c goes (λ _. same_where_seen a.seen)
 
 number_as : (olds news : List Change) (number : ℕ) → AreSameChanges olds news → HasNumber number news → HasNumber number olds
 number_as [] [] number same has = has

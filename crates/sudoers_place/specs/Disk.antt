@@ -46,11 +46,25 @@ abbrev pub AreDistinct : List (List ℕ) → Type 0
 AreDistinct [] = Unit {0}
 AreDistinct (path ∷ paths) = IsNotIn path paths × AreDistinct paths
 
+-- the path before the others, if no file is under it
+abbrev pub with_path_if_free : Option File → List ℕ → List (List ℕ) → List (List ℕ)
+with_path_if_free None path others = path ∷ others
+with_path_if_free (Some file) path others = others
+
+-- those of the paths under which no file is seen
+abbrev pub free_paths : Image → List (List ℕ) → List (List ℕ)
+free_paths seen [] = []
+free_paths seen (path ∷ paths) = with_path_if_free (seen path) path (free_paths seen paths)
+
 -- ---- steps of a disk
 
 -- The same files stand under all paths but these, of which nothing is said.
 abbrev pub SameBut : List (List ℕ) → Image → Image → Type 0
 SameBut paths before after = (path : List ℕ) → IsNotIn path paths → after path ≡ before path
+
+-- Each file that is seen stays, but for those under these paths.
+abbrev pub SameWhereSeen : List (List ℕ) → Image → Image → Image → Type 0
+SameWhereSeen paths seen before after = (path : List ℕ) (file : File) → IsNotIn path paths → seen path ≡ Some file → after path ≡ before path
 
 -- One path has what it had, or this file instead. Of the others among these paths nothing is said.
 pub record IsReplacedOrNot (paths : List (List ℕ)) (path : List ℕ) (file : Option File) (before after : Image) : Type 0 where

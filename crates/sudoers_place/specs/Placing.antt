@@ -7,7 +7,7 @@ use Rattle.sudoers_place.specs.declared.change.Content.TheVariants.{Bytes, NoFil
 use Rattle.sudoers_place.specs.declared.change.Output.{Output}
 use Rattle.sudoers_place.specs.declared.change.PlaceFault.{PlaceFault}
 use Rattle.sudoers_place.specs.declared.change.PlaceFault.TheVariants.{SamePath, OutputNotKept, OutputChanged, NotWritten, NotRead, Changed, NotMoved, NotKept}
-use Rattle.sudoers_place.specs.Disk.{AreDistinct, File, HasFailed, Image, IsWritten, SameBut, Story, file_with_access_of}
+use Rattle.sudoers_place.specs.Disk.{AreDistinct, File, HasFailed, Image, IsWritten, SameBut, Story, file_with_access_of, free_paths}
 
 abbrev pub paths_of : List Change → List (List ℕ)
 paths_of [] = []
@@ -57,18 +57,18 @@ IsAsExpected seen change = HasContent (expected_content change.is_done change) (
 abbrev pub IsOldOrNew : Image → Image → Image → Change → Type 0
 IsOldOrNew seen before after change = (after change.path.items ≡ before change.path.items) ⊎ (after change.path.items ≡ placed_file change (seen change.path.items))
 
--- Each file is as it was, the output too. Only what is written beside files may differ.
-abbrev pub IsAsBefore : List Change → Image → Image → Type 0
-IsAsBefore changes before after = SameBut (temps_of changes) before after
+-- Each file is as it was, the output too. Only what is written beside files may differ, and no more than where nothing was seen.
+abbrev pub IsAsBefore : List Change → Image → Image → Image → Type 0
+IsAsBefore changes seen before after = SameBut (free_paths seen (temps_of changes)) before after
 
 -- The output stands whole, each file is what it was or what it is to be, and all else is as it was.
 pub record HasBegun (changes : List Change) (output : Output) (seen before after : Image) : Type 0 where
   pub output_stands : HasContent (Bytes output.bytes) (after output.path.items)
   pub whole : AllByRecursion (IsOldOrNew seen before after) changes
-  pub others : SameBut (temps_of changes ++ paths_of changes) before after
+  pub others : SameBut (free_paths seen (temps_of changes) ++ paths_of changes) before after
 
 abbrev pub IsBeforeOrBegun : List Change → Output → Image → Image → Image → Type 0
-IsBeforeOrBegun changes output seen before after = IsAsBefore changes before after ⊎ HasBegun changes output seen before after
+IsBeforeOrBegun changes output seen before after = IsAsBefore changes seen before after ⊎ HasBegun changes output seen before after
 
 -- At every moment from old to new: what a reader finds, or a crash leaves, is this of what a crash before might have left.
 abbrev pub AtEveryMoment : (Image → Image → Type 0) → Story → Story → Type 0
@@ -168,6 +168,26 @@ HasCauseOfPlacing changes output (NotKept number) old new = HasFailedAtNumber nu
 
 -- ---- devices of the proof, on the way
 
+-- the path beside a file before the others, if a new file is written there
+abbrev pub with_temp_if_written : Bool → Content → List ℕ → List (List ℕ) → List (List ℕ)
+with_temp_if_written true after temp others = others
+with_temp_if_written false NoFile temp others = others
+with_temp_if_written false (Bytes bytes) temp others = temp ∷ others
+
+-- the paths beside files at which new files are written
+abbrev pub written_temps : List Change → List (List ℕ)
+written_temps [] = []
+written_temps (change ∷ changes) = with_temp_if_written change.is_done change.after change.temp.items (written_temps changes)
+
+abbrev pub IsFreeIf : Bool → Content → Option File → Type 0
+IsFreeIf true after found = Unit {0}
+IsFreeIf false NoFile found = Unit {0}
+IsFreeIf false (Bytes bytes) found = found ≡ None
+
+-- Nothing is seen where the new file is written, if one is.
+abbrev pub IsFree : Image → Change → Type 0
+IsFree seen change = IsFreeIf change.is_done change.after (seen change.temp.items)
+
 -- The new file stands under the path beside it, if it is to be moved.
 abbrev pub IsReadyIf : Bool → Content → Story → Change → Type 0
 IsReadyIf true after story change = Unit {0}
@@ -183,5 +203,5 @@ IsPlaced seen story change = story.is_known → story.seen change.path.items ≡
 
 -- Some of the files are in place.
 pub record ArePlacedInPart (changes : List Change) (seen before after : Image) : Type 0 where
-  pub others : SameBut (temps_of changes ++ paths_of changes) before after
+  pub others : SameBut (written_temps changes ++ paths_of changes) before after
   pub whole : AllByRecursion (IsOldOrNew seen before after) changes

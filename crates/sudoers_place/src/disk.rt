@@ -1,7 +1,7 @@
 //! A disk: what a reader finds on it, and what a crash may leave of it.
 
 ghost use Rattle.std.specs.Prelude.{◌≡◌, ◌≤◌, ℕ, [], ◌∷◌, IfOk, OnErr, OnOk, None};
-ghost use Rattle.sudoers_place.specs.Disk.{AreBytesOf, GoesOn, HasFailed, Image, IsReplacedOrNot, IsWritten, KeepsSynced, SameBut, Stands, Story, file_with_access_of};
+ghost use Rattle.sudoers_place.specs.Disk.{AreBytesOf, GoesOn, HasFailed, Image, IsReplacedOrNot, IsWritten, KeepsSynced, SameBut, Stands, Story, file_with_access_of, free_paths};
 
 use std::alloc::Global;
 
@@ -35,11 +35,11 @@ pub trait WritableDisk {
     ///
     /// # Errors
     ///
-    /// [`DiskError`]. A part of the file may remain.
+    /// [`DiskError`]. A file that was there stays as it is. If none was there, a part of the new file may remain.
     fn create(&mut self, path: &[u8], bytes: &[u8], like: &[u8]) -> Result<(), DiskError>
         ensures absent { OnOk result ((story self.old).is_known → (story self.old).seen path.now ≡ None) }
         ensures written { OnOk result (IsWritten path.now (file_with_access_of bytes.now ((story self.old).seen like.now)) (story self.new)) }
-        ensures goes_on { GoesOn (SameBut (path.now ∷ [])) (story self.old) (story self.new) }
+        ensures goes_on { GoesOn (SameBut (free_paths (story self.old).seen (path.now ∷ []))) (story self.old) (story self.new) }
         ensures synced { KeepsSynced (path.now ∷ []) (story self.old) (story self.new) }
         ensures failed { OnErr result (HasFailed (story self.new)) };
 

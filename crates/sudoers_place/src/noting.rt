@@ -3,7 +3,7 @@
 ghost use Rattle.std.specs.Prelude.{◌≡◌, ◌⊎◌, ◌↔◌, [], ◌++◌, IsTrue, OnOk, IfErr};
 ghost use Rattle.std.specs.List.{AllByRecursion};
 ghost use Rattle.sudoers_place.specs.declared.change.Output.{Output as OutputOf};
-ghost use Rattle.sudoers_place.specs.Disk.{AreDistinct, GoesOn, HasFailed, IsNotIn, KeepsSynced, SameBut};
+ghost use Rattle.sudoers_place.specs.Disk.{AreDistinct, GoesOn, HasFailed, IsNotIn, KeepsSynced, SameBut, SameWhereSeen};
 ghost use Rattle.sudoers_place.specs.Placing.{AreApart, AreSameChanges, AtEveryMoment, HasCauseOfPlacing, IsAsBefore, IsAsExpected, IsBeforeOrAfter, IsBeforeOrBegun, IsEarly, IsKeptInPlace, IsSameChange, OutputStands, paths_of, temps_of};
 
 use crate::change::{Change, Output, PlaceFault};
@@ -29,7 +29,10 @@ pub fn place<D: WritableDisk>(
     // At every moment, and after a crash at any moment, the files are as before, or the output stands and each file is old or new.
     ensures any_moment { AtEveryMoment (IsBeforeOrBegun changes.new output.now (D.story disk.old).seen) (D.story disk.old) (D.story disk.new) }
     // A fault from before the first file is replaced: all files are as before.
-    ensures early { IfErr result (λ fault. IsEarly fault → AtEveryMoment (IsAsBefore changes.new) (D.story disk.old) (D.story disk.new)) }
+    ensures early { IfErr result (λ fault. IsEarly fault → AtEveryMoment (IsAsBefore changes.new (D.story disk.old).seen) (D.story disk.old) (D.story disk.new)) }
+    // Every file that was there stays, but for those of `changes`: one beside them, too, that an earlier crash has left.
+    ensures kept { (D.story disk.old).is_known → SameWhereSeen (paths_of changes.new) (D.story disk.old).seen (D.story disk.old).seen (D.story disk.new).seen }
+    ensures always_kept { AtEveryMoment (SameWhereSeen (paths_of changes.new) (D.story disk.old).seen) (D.story disk.old) (D.story disk.new) }
     // Only what the edits were made from is replaced.
     ensures unchanged { OnOk result ((D.story disk.old).is_known → AllByRecursion (IsBeforeOrAfter (D.story disk.old).seen) changes.old) }
     ensures late { IfErr result (λ fault. IsEarly fault ⊎ ((D.story disk.old).is_known → AllByRecursion (IsBeforeOrAfter (D.story disk.old).seen) changes.old)) }
