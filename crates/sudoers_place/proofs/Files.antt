@@ -8,7 +8,9 @@ use Rattle.sudoers_place.specs.declared.change.Output.{Output}
 use Rattle.sudoers_place.specs.declared.change.PlaceFault.{PlaceFault}
 use Rattle.sudoers_place.specs.declared.change.PlaceFault.TheVariants.{SamePath, OutputNotKept, OutputChanged, NotWritten, NotRead, Changed, NotMoved, NotKept}
 use Rattle.sudoers_place.specs.Disk.{Image, Story, IsNotIn, SameBut, GoesOn, KeepsSynced, Stands, file_with_access_of}
-use Rattle.sudoers_place.specs.Placing.{paths_of, temps_of, HasContent, HasUnexpected, HasCauseInFiles, HasCause, IsAsExpected, IsReady, IsReadyIf, IsPlaced, IsOldOrNew, IsInPlace, expected_content, placed_file}
+use Rattle.sudoers_place.specs.Placing.{paths_of, temps_of, HasContent, IsOldOrNew, placed_file}
+use Rattle.sudoers_place.specs.internal.Causes.{HasCause, HasCauseInFiles, HasUnexpected}
+use Rattle.sudoers_place.specs.internal.Stages.{IsAsExpected, IsInPlace, IsPlaced, IsReady, IsReadyIf, expected_content}
 use Rattle.sudoers_place.proofs.Paths.{AreNotIn}
 
 -- ---- what is ready stays so

@@ -5,7 +5,8 @@ use Rattle.sudoers_place.specs.declared.change.Change.{Change}
 use Rattle.sudoers_place.specs.declared.change.Content.{Content}
 use Rattle.sudoers_place.specs.declared.change.Content.TheVariants.{Bytes, NoFile}
 use Rattle.sudoers_place.specs.Disk.{File, Image, IsNotIn, SameBut, free_paths, with_path_if_free}
-use Rattle.sudoers_place.specs.Placing.{temps_of, IsFree, IsFreeIf, with_temp_if_written, written_temps}
+use Rattle.sudoers_place.specs.Placing.{temps_of}
+use Rattle.sudoers_place.specs.internal.Stages.{IsFree, IsFreeIf, with_temp_if_written, written_temps}
 use Rattle.sudoers_place.proofs.Paths.{AreIn, AreNotIn}
 
 -- ---- one path before others

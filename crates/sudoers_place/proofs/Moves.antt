@@ -3,7 +3,8 @@ use Rattle.std.proofs.Common.{◌≡◌, inl, inr, ⊎_elim, ℕ, List, [], ◌�
 use Rattle.std.specs.List.{AllByRecursion}
 use Rattle.sudoers_place.specs.declared.change.Change.{Change}
 use Rattle.sudoers_place.specs.Disk.{Image, Story, IsNotIn, AreDistinct, SameBut, IsReplacedOrNot, GoesOn, KeepsSynced}
-use Rattle.sudoers_place.specs.Placing.{paths_of, temps_of, IsReady, IsPlaced, ArePlacedInPart, placed_file, with_temp_if_written, written_temps}
+use Rattle.sudoers_place.specs.Placing.{paths_of, temps_of, placed_file}
+use Rattle.sudoers_place.specs.internal.Stages.{ArePlacedInPart, IsPlaced, IsReady, with_temp_if_written, written_temps}
 use Rattle.sudoers_place.proofs.Paths.{AreIn, AreNotIn, not_in_front, not_in_back, not_in_both, not_in_none, not_in_more, back_not_in, distinct_back, distinct_without}
 use Rattle.sudoers_place.proofs.Steps.{same_more, same_both, followed, loosened}
 use Rattle.sudoers_place.proofs.Free.{written_before, written_in, written_pair, written_rest}

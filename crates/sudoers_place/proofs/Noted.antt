@@ -8,7 +8,9 @@ use Rattle.sudoers_place.specs.declared.change.Output.{Output}
 use Rattle.sudoers_place.specs.declared.change.PlaceFault.{PlaceFault}
 use Rattle.sudoers_place.specs.declared.change.PlaceFault.TheVariants.{SamePath, OutputNotKept, OutputChanged, NotWritten, NotRead, Changed, NotMoved, NotKept}
 use Rattle.sudoers_place.specs.Disk.{File, Image, Story, AreDistinct, SameBut, SameWhereSeen, GoesOn, access_of_file, file_with_access_of, free_paths}
-use Rattle.sudoers_place.specs.Placing.{paths_of, temps_of, AreApart, AreSameChanges, HasCause, HasCauseOfPlacing, HasContent, HasNumber, HasOther, HasUnexpected, IsAsBefore, IsAsExpected, IsBeforeOrAfter, IsBeforeOrBegun, IsInPlace, IsKeptInPlace, IsSameChange, expected_content, file_with_content, placed_file, placed_file_if}
+use Rattle.sudoers_place.specs.Placing.{paths_of, temps_of, AreApart, AreSameChanges, HasCauseOfPlacing, HasContent, HasNumber, HasOther, IsAsBefore, IsBeforeOrAfter, IsBeforeOrBegun, IsKeptInPlace, IsSameChange, file_with_content, placed_file, placed_file_if}
+use Rattle.sudoers_place.specs.internal.Causes.{HasCause, HasUnexpected}
+use Rattle.sudoers_place.specs.internal.Stages.{IsAsExpected, IsInPlace, expected_content}
 use Rattle.sudoers_place.proofs.Paths.{AreIn, not_in_back, not_in_both, not_in_front, not_in_none}
 use Rattle.sudoers_place.proofs.Steps.{followed, loosened, same_steps}
 use Rattle.sudoers_place.proofs.Free.{free_through, seen_not_free}

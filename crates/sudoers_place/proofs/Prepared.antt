@@ -5,7 +5,9 @@ use Rattle.sudoers_place.specs.declared.change.Change.{Change}
 use Rattle.sudoers_place.specs.declared.change.Output.{Output}
 use Rattle.sudoers_place.specs.declared.change.PlaceFault.{PlaceFault}
 use Rattle.sudoers_place.specs.Disk.{File, Story, SameBut, GoesOn, KeepsSynced, Stands, free_paths}
-use Rattle.sudoers_place.specs.Placing.{paths_of, temps_of, AreApart, HasCause, HasCauseInFiles, IsAsBefore, IsAsExpected, IsFree, IsInPlace, IsPlaced, IsReady, ArePlacedInPart, OutputStands, written_temps}
+use Rattle.sudoers_place.specs.Placing.{paths_of, temps_of, AreApart, IsAsBefore, OutputStands}
+use Rattle.sudoers_place.specs.internal.Causes.{HasCause, HasCauseInFiles}
+use Rattle.sudoers_place.specs.internal.Stages.{ArePlacedInPart, IsAsExpected, IsFree, IsInPlace, IsPlaced, IsReady, written_temps}
 use Rattle.sudoers_place.proofs.Paths.{not_in_front, not_in_none}
 use Rattle.sudoers_place.proofs.Files.{cause_in_files, cause_of_files, expected_before, in_place, placed_since, ready_after}
 use Rattle.sudoers_place.proofs.Promise.{before_more, output_not_written, output_stands, paths_not_temps}

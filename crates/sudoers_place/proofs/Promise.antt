@@ -5,7 +5,8 @@ use Rattle.sudoers_place.specs.declared.change.Change.{Change}
 use Rattle.sudoers_place.specs.declared.change.Content.TheVariants.{Bytes}
 use Rattle.sudoers_place.specs.declared.change.Output.{Output}
 use Rattle.sudoers_place.specs.Disk.{Image, Story, IsNotIn, SameBut, GoesOn, free_paths}
-use Rattle.sudoers_place.specs.Placing.{paths_of, temps_of, AreApart, HasContent, IsOldOrNew, IsAsBefore, IsFree, HasBegun, IsBeforeOrBegun, ArePlacedInPart, AtEveryMoment, OutputStands, written_temps}
+use Rattle.sudoers_place.specs.Placing.{paths_of, temps_of, AreApart, HasContent, IsOldOrNew, IsAsBefore, HasBegun, IsBeforeOrBegun, AtEveryMoment, OutputStands}
+use Rattle.sudoers_place.specs.internal.Stages.{ArePlacedInPart, IsFree, written_temps}
 use Rattle.sudoers_place.proofs.Paths.{AreIn, AreNotIn, not_in_front, not_in_back, not_in_both, back_not_in}
 use Rattle.sudoers_place.proofs.Steps.{same_both, same_more, followed}
 use Rattle.sudoers_place.proofs.Free.{free_in, written_in, written_in_free}

@@ -4,7 +4,9 @@ use Rattle.std.specs.List.{AllByRecursion}
 use Rattle.sudoers_place.specs.declared.change.Change.{Change}
 use Rattle.sudoers_place.specs.declared.change.PlaceFault.{PlaceFault}
 use Rattle.sudoers_place.specs.Disk.{Image, Story, AreDistinct, SameBut, GoesOn, KeepsSynced, free_paths}
-use Rattle.sudoers_place.specs.Placing.{paths_of, temps_of, HasCauseInFiles, IsFree, IsReady, with_temp_if_written}
+use Rattle.sudoers_place.specs.Placing.{paths_of, temps_of}
+use Rattle.sudoers_place.specs.internal.Causes.{HasCauseInFiles}
+use Rattle.sudoers_place.specs.internal.Stages.{IsFree, IsReady, with_temp_if_written}
 use Rattle.sudoers_place.proofs.Paths.{AreIn, not_in_front}
 use Rattle.sudoers_place.proofs.Steps.{same_more, same_goes_on, same_steps}
 use Rattle.sudoers_place.proofs.Free.{free_before, free_in, free_through, not_in_first, not_in_others, written_free}

@@ -4,7 +4,8 @@ ghost use Rattle.std.specs.Prelude.{◌≡◌, ◌⊎◌, ◌↔◌, [], ◌++�
 ghost use Rattle.std.specs.List.{AllByRecursion};
 ghost use Rattle.sudoers_place.specs.declared.change.Output.{Output as OutputOf};
 ghost use Rattle.sudoers_place.specs.Disk.{AreDistinct, GoesOn, HasFailed, IsNotIn, KeepsSynced, SameBut, SameWhereSeen};
-ghost use Rattle.sudoers_place.specs.Placing.{AreApart, AreSameChanges, AtEveryMoment, HasCauseOfPlacing, IsAsBefore, IsAsExpected, IsBeforeOrAfter, IsBeforeOrBegun, IsEarly, IsKeptInPlace, IsSameChange, OutputStands, paths_of, temps_of};
+ghost use Rattle.sudoers_place.specs.Placing.{AreApart, AreSameChanges, AtEveryMoment, HasCauseOfPlacing, IsAsBefore, IsBeforeOrAfter, IsBeforeOrBegun, IsEarly, IsKeptInPlace, IsSameChange, OutputStands, paths_of, temps_of};
+ghost use Rattle.sudoers_place.specs.internal.Stages.{IsAsExpected};
 
 use crate::change::{Change, Output, PlaceFault};
 use crate::disk::WritableDisk;

@@ -4,7 +4,9 @@ ghost use Rattle.std.specs.Prelude.{◌≡◌, ◌⊎◌, ◌↔◌, List, [], �
 ghost use Rattle.std.specs.List.{AllByRecursion};
 ghost use Rattle.sudoers_place.specs.declared.change.Change.{Change as ChangeOf};
 ghost use Rattle.sudoers_place.specs.Disk.{AreBytesOf, AreDistinct, File, GoesOn, HasFailed, IsReplacedOrNot, KeepsSynced, SameBut, Stands, free_paths};
-ghost use Rattle.sudoers_place.specs.Placing.{AreApart, ArePlacedInPart, HasCause, HasCauseInFiles, HasContent, IsAsBefore, IsAsExpected, IsBeforeOrBegun, IsEarly, IsFree, IsInPlace, IsPlaced, IsReady, OutputStands, paths_of, placed_file, temps_of, with_temp_if_written, written_temps};
+ghost use Rattle.sudoers_place.specs.Placing.{AreApart, HasContent, IsAsBefore, IsBeforeOrBegun, IsEarly, OutputStands, paths_of, placed_file, temps_of};
+ghost use Rattle.sudoers_place.specs.internal.Causes.{HasCause, HasCauseInFiles};
+ghost use Rattle.sudoers_place.specs.internal.Stages.{ArePlacedInPart, IsAsExpected, IsFree, IsInPlace, IsPlaced, IsReady, with_temp_if_written, written_temps};
 
 use crate::change::{Change, Content, Output, PlaceFault};
 use crate::disk::{DiskError, WritableDisk};
