@@ -88,6 +88,11 @@ pub in_place : (changes : List Change) (f : Image) (b c : Story) → b.is_known 
 in_place [] f b c was is placed stand = tt
 in_place (change ∷ changes) f b c was is placed stand = ((λ i left. stand.0 is i left ∙ placed.0 was), in_place changes f b c was is placed.1 stand.1)
 
+-- what is seen in place is so after a step that changes nothing
+pub placed_still : (changes : List Change) (f : Image) (c d : Story) → GoesOn (SameBut []) c d → AllByRecursion (IsPlaced f c) changes → AllByRecursion (IsPlaced f d) changes
+placed_still [] f c d goes all = tt
+placed_still (change ∷ changes) f c d goes all = ((λ known. let was = goes.known.1 known in (goes.is_step was).shown change.path.items tt ∙ all.0 was), placed_still changes f c d goes all.1)
+
 -- ---- old or new
 
 pub all_old : (changes : List Change) (paths : List (List ℕ)) (f d e : Image) → AreNotIn (paths_of changes) paths → SameBut paths d e → AllByRecursion (IsOldOrNew f d e) changes

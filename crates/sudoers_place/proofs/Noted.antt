@@ -8,9 +8,9 @@ use Rattle.sudoers_place.specs.declared.change.Output.{Output}
 use Rattle.sudoers_place.specs.declared.change.PlaceFault.{PlaceFault}
 use Rattle.sudoers_place.specs.declared.change.PlaceFault.TheVariants.{SamePath, OutputNotKept, OutputChanged, NotWritten, NotRead, Changed, NotMoved, NotKept}
 use Rattle.sudoers_place.specs.Disk.{File, Image, Story, AreDistinct, SameBut, SameWhereSeen, GoesOn, access_of_file, file_with_access_of, free_paths}
-use Rattle.sudoers_place.specs.Placing.{paths_of, temps_of, AreApart, AreSameChanges, HasCauseOfPlacing, HasContent, HasNumber, HasOther, IsAsBefore, IsBeforeOrAfter, IsBeforeOrBegun, IsKeptInPlace, IsSameChange, file_with_content, placed_file, placed_file_if}
+use Rattle.sudoers_place.specs.Placing.{paths_of, temps_of, AreApart, AreSameChanges, HasCauseOfPlacing, HasContent, HasNewContent, HasNumber, HasOther, IsAsBefore, IsBeforeOrAfter, IsBeforeOrBegun, IsKeptInPlace, IsSameChange, file_with_content, placed_file, placed_file_if}
 use Rattle.sudoers_place.specs.internal.Causes.{HasCause, HasUnexpected}
-use Rattle.sudoers_place.specs.internal.Stages.{IsAsExpected, IsInPlace, expected_content}
+use Rattle.sudoers_place.specs.internal.Stages.{IsAsExpected, IsInPlace, IsPlaced, expected_content}
 use Rattle.sudoers_place.proofs.Paths.{AreIn, not_in_back, not_in_both, not_in_front, not_in_none}
 use Rattle.sudoers_place.proofs.Steps.{followed, loosened, same_steps}
 use Rattle.sudoers_place.proofs.Free.{free_through, seen_not_free}
@@ -125,14 +125,28 @@ has_access false (Bytes bytes) was now is old new then later =
     let access : access_of_file was ≡ new.access = ap access_of_file some in
     sym access ∙ ap access_of_file then
 
+new_content : (x y : Change) (f g c : Image) → IsSameChange x y → SameBut [] f g → IsAsExpected f y → c y.path.items ≡ placed_file y (g y.path.items) → HasNewContent f c x
+new_content x y f g c same seen expected is =
+    let at : c x.path.items ≡ placed_file_if y.is_done x.after (f x.path.items) = subst (λ (z : Change). c z.path.items ≡ placed_file z (g z.path.items)) same is ∙ ap (placed_file_if y.is_done x.after) (seen x.path.items tt) in
+    record {
+      content = has_new y.is_done x (f x.path.items) (c x.path.items) (expected_as x y f same expected) at;
+      access = has_access y.is_done x.after (f x.path.items) (c x.path.items) at;
+    }
+
 pub all_kept : (olds news : List Change) (f g : Image) (new : Story) → AreSameChanges olds news → SameBut [] f g → AllByRecursion (IsAsExpected f) news → AllByRecursion (IsInPlace g new) news → AllByRecursion (IsKeptInPlace f new) olds
 all_kept [] [] f g new same seen expected in_place = tt
 all_kept [] (x ∷ news) f g new same seen expected in_place = absurd same
 all_kept (x ∷ olds) [] f g new same seen expected in_place = absurd same
 all_kept (x ∷ olds) (y ∷ news) f g new same seen expected in_place =
-    let has = expected_as x y f same.0 expected.0 in
-    let at : (c : Image) → new.may_leave c → c x.path.items ≡ placed_file_if y.is_done x.after (f x.path.items) = λ c left. subst (λ (z : Change). c z.path.items ≡ placed_file z (g z.path.items)) same.0 (in_place.0 c left) ∙ ap (placed_file_if y.is_done x.after) (seen x.path.items tt) in
-    ((λ c left. record { content = has_new y.is_done x (f x.path.items) (c x.path.items) has (at c left); access = has_access y.is_done x.after (f x.path.items) (c x.path.items) (at c left) }), all_kept olds news f g new same.1 seen expected.1 in_place.1)
+    ((λ c left. new_content x y f g c same.0 seen expected.0 (in_place.0 c left)), all_kept olds news f g new same.1 seen expected.1 in_place.1)
+
+-- ---- each file is seen in place
+
+pub all_new : (olds news : List Change) (f g : Image) (new : Story) → AreSameChanges olds news → SameBut [] f g → AllByRecursion (IsAsExpected f) news → new.is_known → AllByRecursion (IsPlaced g new) news → AllByRecursion (HasNewContent f new.seen) olds
+all_new [] [] f g new same seen expected known placed = tt
+all_new [] (x ∷ news) f g new same seen expected known placed = absurd same
+all_new (x ∷ olds) [] f g new same seen expected known placed = absurd same
+all_new (x ∷ olds) (y ∷ news) f g new same seen expected known placed = (new_content x y f g new.seen same.0 seen expected.0 (placed.0 known), all_new olds news f g new same.1 seen expected.1 known placed.1)
 
 -- ---- the promise of all
 

@@ -9,7 +9,7 @@ use Rattle.sudoers_place.specs.Placing.{paths_of, temps_of, AreApart, IsAsBefore
 use Rattle.sudoers_place.specs.internal.Causes.{HasCause, HasCauseInFiles}
 use Rattle.sudoers_place.specs.internal.Stages.{ArePlacedInPart, IsAsExpected, IsFree, IsInPlace, IsPlaced, IsReady, written_temps}
 use Rattle.sudoers_place.proofs.Paths.{not_in_front, not_in_none}
-use Rattle.sudoers_place.proofs.Files.{cause_in_files, cause_of_files, expected_before, in_place, placed_since, ready_after}
+use Rattle.sudoers_place.proofs.Files.{cause_in_files, cause_of_files, expected_before, in_place, placed_since, placed_still, ready_after}
 use Rattle.sudoers_place.proofs.Promise.{before_more, output_not_written, output_stands, paths_not_temps}
 use Rattle.sudoers_place.proofs.Free.{free_before, free_in, free_through, written_in_free}
 use Rattle.sudoers_place.proofs.Steps.{same_goes_on, same_steps}
@@ -47,6 +47,9 @@ module _ (changes : List Change) (output : Output) (apart : AreApart changes out
   pub prepared_stands : (b c d : Story) → GoesOn (SameBut (free_paths b.seen (temps_of changes))) b c → GoesOn (SameBut []) c d → (b.is_known → OutputStands output b) → d.is_known → OutputStands output d
   prepared_stands b c d second third stands =
       output_stands output (SameBut []) c d (λ i j same. same output.path.items tt) third (output_stands output (SameBut (temps_of changes)) b c (λ i j same. same output.path.items (not_in_front output.path.items (temps_of changes) (paths_of changes) apart.0)) (more b.seen b c second) stands)
+
+  pub all_placed : (a b c d : Story) → GoesOn (IsAsBefore changes a.seen) a b → GoesOn (SameBut []) c d → AllByRecursion (IsPlaced b.seen c) changes → a.is_known → AllByRecursion (IsPlaced a.seen d) changes
+  all_placed a b c d first third placed known = placed_still changes a.seen c d third (placed_since changes (temps_of changes) a.seen b.seen c (paths_not_temps changes output apart) (λ _. before_more changes output apart a.seen a.seen b.seen (first.is_step known).shown) placed)
 
   pub all_in_place : (a b c d : Story) → GoesOn (IsAsBefore changes a.seen) a b → GoesOn (ArePlacedInPart changes b.seen) b c → GoesOn (SameBut []) c d → AllByRecursion (IsPlaced b.seen c) changes → AllByRecursion (λ (change : Change). Stands change.path.items (c.seen change.path.items) d) changes → a.is_known → AllByRecursion (IsInPlace a.seen d) changes
   all_in_place a b c d first second third placed stand known =

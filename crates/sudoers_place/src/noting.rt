@@ -1,10 +1,10 @@
 //! Puts files in place that may be in place already.
 
-ghost use Rattle.std.specs.Prelude.{◌≡◌, ◌⊎◌, ◌↔◌, [], ◌++◌, IsTrue, OnOk, IfErr};
+ghost use Rattle.std.specs.Prelude.{◌≡◌, ◌⊎◌, ◌↔◌, ℕ, [], ◌++◌, IsTrue, OnOk, IfErr};
 ghost use Rattle.std.specs.List.{AllByRecursion};
 ghost use Rattle.sudoers_place.specs.declared.change.Output.{Output as OutputOf};
 ghost use Rattle.sudoers_place.specs.Disk.{AreDistinct, GoesOn, HasFailed, IsNotIn, KeepsSynced, SameBut, SameWhereSeen};
-ghost use Rattle.sudoers_place.specs.Placing.{AreApart, AreSameChanges, AtEveryMoment, HasCauseOfPlacing, IsAsBefore, IsBeforeOrAfter, IsBeforeOrBegun, IsEarly, IsKeptInPlace, IsSameChange, OutputStands, paths_of, temps_of};
+ghost use Rattle.sudoers_place.specs.Placing.{AreApart, AreSameChanges, AtEveryMoment, HasCauseOfPlacing, HasNewContent, IsAsBefore, IsBeforeOrAfter, IsBeforeOrBegun, IsEarly, IsKeptInPlace, IsSameChange, OutputStands, paths_of, temps_of};
 ghost use Rattle.sudoers_place.specs.internal.Stages.{IsAsExpected};
 
 use crate::change::{Change, Output, PlaceFault};
@@ -39,6 +39,8 @@ pub fn place<D: WritableDisk>(
     ensures late { IfErr result (λ fault. IsEarly fault ⊎ ((D.story disk.old).is_known → AllByRecursion (IsBeforeOrAfter (D.story disk.old).seen) changes.old)) }
     // If nothing is refused, all files are new, with the access that they had, and each crash leaves them so.
     ensures done { OnOk result ((D.story disk.old).is_known → AllByRecursion (IsKeptInPlace (D.story disk.old).seen (D.story disk.new)) changes.old) }
+    // At the fault `NotKept` too all files are new, as a reader finds them.
+    ensures placed { (number : ℕ) → result ≡ Err (PlaceFault.NotKept number) → (D.story disk.old).is_known → AllByRecursion (HasNewContent (D.story disk.old).seen (D.story disk.new).seen) changes.old }
     ensures output_stands { OnOk result ((D.story disk.old).is_known → OutputStands output.now (D.story disk.new)) }
     // It is refused for a cause alone.
     ensures cause { IfErr result (λ fault. HasCauseOfPlacing changes.old output.now fault (D.story disk.old) (D.story disk.new)) }

@@ -1,6 +1,6 @@
 //! Puts edited files in place.
 
-ghost use Rattle.std.specs.Prelude.{◌≡◌, ◌⊎◌, ◌↔◌, List, [], ◌∷◌, ◌++◌, Option, IsTrue, OnOk, OnErr, IfOk, IfErr};
+ghost use Rattle.std.specs.Prelude.{◌≡◌, ◌⊎◌, ◌↔◌, ℕ, List, [], ◌∷◌, ◌++◌, Option, IsTrue, OnOk, OnErr, IfOk, IfErr};
 ghost use Rattle.std.specs.List.{AllByRecursion};
 ghost use Rattle.sudoers_place.specs.declared.change.Change.{Change as ChangeOf};
 ghost use Rattle.sudoers_place.specs.Disk.{AreBytesOf, AreDistinct, File, GoesOn, HasFailed, IsReplacedOrNot, KeepsSynced, SameBut, Stands, free_paths};
@@ -30,6 +30,7 @@ pub fn put_in_place<D: WritableDisk>(
     ensures expected { OnOk result ((D.story disk.old).is_known → AllByRecursion (IsAsExpected (D.story disk.old).seen) changes.now) }
     ensures late { IfErr result (λ fault. IsEarly fault ⊎ ((D.story disk.old).is_known → AllByRecursion (IsAsExpected (D.story disk.old).seen) changes.now)) }
     ensures done { OnOk result ((D.story disk.old).is_known → AllByRecursion (IsInPlace (D.story disk.old).seen (D.story disk.new)) changes.now) }
+    ensures placed { (number : ℕ) → result ≡ Err (PlaceFault.NotKept number) → (D.story disk.old).is_known → AllByRecursion (IsPlaced (D.story disk.old).seen (D.story disk.new)) changes.now }
     ensures output_stands { OnOk result ((D.story disk.old).is_known → OutputStands output.now (D.story disk.new)) }
     ensures cause { IfErr result (λ fault. HasCause changes.now output.now fault (D.story disk.old) (D.story disk.new)) }
 {
@@ -224,6 +225,7 @@ fn move_all<D: WritableDisk>(disk: &mut D, changes: &[Change]) -> Result<(), Pla
     requires distinct { AreDistinct (temps_of changes.now ++ paths_of changes.now) }
     ensures placed { OnOk result (AllByRecursion (IsPlaced (D.story disk.old).seen (D.story disk.new)) changes.now) }
     ensures late { IfErr result (λ fault. IsEarly fault → ⊥) }
+    ensures kept_later { (number : ℕ) → result ≡ Err (PlaceFault.NotKept number) → ⊥ }
     ensures cause { IfErr result (λ fault. HasCauseInFiles changes.now fault (D.story disk.old) (D.story disk.new)) }
     ensures goes_on { GoesOn (ArePlacedInPart changes.now (D.story disk.old).seen) (D.story disk.old) (D.story disk.new) }
 {

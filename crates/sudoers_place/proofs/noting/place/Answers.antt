@@ -4,7 +4,7 @@ use Rattle.sudoers_place.specs.Disk.{SameWhereSeen}
 use Rattle.sudoers_place.specs.Placing.{IsAsBefore, IsBeforeOrBegun, paths_of}
 use Rattle.sudoers_place.proofs.Promise.{every_moment}
 use Rattle.sudoers_place.proofs.Steps.{loosened}
-use Rattle.sudoers_place.proofs.Noted.{same_changes, same_apart, all_either, all_kept, begins_noted, as_before_noted, kept_now, kept_on, cause_noted}
+use Rattle.sudoers_place.proofs.Noted.{same_changes, same_apart, all_either, all_kept, all_new, begins_noted, as_before_noted, kept_now, kept_on, cause_noted}
 use Rattle.sudoers_place.proofs.noting.place.Goals as goal
 
 pub returns-then-not-are_apart-clause-same : goal.returns-then-not-are_apart-clause-same
@@ -44,3 +44,9 @@ returns-clause-kept g c = kept_now c.note_done.new.changes c.args.output.now (g.
 
 pub returns-clause-always_kept : goal.returns-clause-always_kept
 returns-clause-always_kept g c = every_moment (SameWhereSeen (paths_of c.note_done.new.changes) (g.D.WritableDisk.story c.args.disk.now).seen) (g.D.WritableDisk.story c.args.disk.now) (g.D.WritableDisk.story c.put_in_place.new.disk) (g.met.D.WritableDisk.only_now c.args.disk.now) (λ d path file not_in there. refl) (kept_on c.note_done.new.changes c.args.output.now (g.D.WritableDisk.story c.args.disk.now) (g.D.WritableDisk.story c.put_in_place.new.disk) (begins_noted c.note_done.new.changes c.args.output.now (g.D.WritableDisk.story c.args.disk.now) (g.D.WritableDisk.story c.note_done.new.disk) (g.D.WritableDisk.story c.put_in_place.new.disk) (g.met.D.WritableDisk.seen_now c.note_done.new.disk) c.note_done.ensures.goes_on c.put_in_place.ensures.goes_on))
+
+pub returns-clause-placed : goal.returns-clause-placed
+returns-clause-placed g c = λ number is known.
+    let then = c.note_done.ensures.goes_on.known.0 known in
+    let later = c.put_in_place.ensures.goes_on.known.0 then in
+    all_new c.args.changes.now c.note_done.new.changes (g.D.WritableDisk.story c.args.disk.now).seen (g.D.WritableDisk.story c.note_done.new.disk).seen (g.D.WritableDisk.story c.put_in_place.new.disk) c.note_done.ensures.same (c.note_done.ensures.goes_on.is_step known).shown (c.in_ok-note_done.ensures.noted known) later (c.put_in_place.ensures.placed number is then)
