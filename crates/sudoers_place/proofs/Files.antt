@@ -7,7 +7,7 @@ use Rattle.sudoers_place.specs.declared.change.Content.TheVariants.{Bytes, NoFil
 use Rattle.sudoers_place.specs.declared.change.Output.{Output}
 use Rattle.sudoers_place.specs.declared.change.PlaceFault.{PlaceFault}
 use Rattle.sudoers_place.specs.declared.change.PlaceFault.TheVariants.{SamePath, OutputNotKept, OutputChanged, NotWritten, NotRead, Changed, NotMoved, NotKept}
-use Rattle.sudoers_place.specs.Disk.{Image, Story, IsNotIn, SameBut, GoesOn, KeepsSynced, Stands, file_with_access_of}
+use Rattle.sudoers_place.specs.Disk.{HasFailed, Image, Story, IsNotIn, SameBut, GoesOn, KeepsSynced, Stands, file_with_access_of}
 use Rattle.sudoers_place.specs.Placing.{paths_of, temps_of, HasContent, IsOldOrNew, placed_file}
 use Rattle.sudoers_place.specs.internal.Causes.{HasCause, HasCauseInFiles, HasUnexpected}
 use Rattle.sudoers_place.specs.internal.Stages.{IsAsExpected, IsInPlace, IsPlaced, IsReady, IsReadyIf, expected_content}
@@ -47,16 +47,20 @@ unexpected_before [] number paths f g apart same nowhere = nowhere
 unexpected_before (change ∷ changes) number paths f g apart same (inl here) = inl (here.0, λ is. here.1 (expected_one change g f (sym (same change.path.items apart.0)) is))
 unexpected_before (change ∷ changes) number paths f g apart same (inr there) = inr (unexpected_before changes number paths f g apart.1 same there)
 
+-- what has failed has failed also from before on, and later
+pub failed_since : (a b c d : Story) → a.failures ≤ b.failures → c.failures ≤ d.failures → HasFailed b c → HasFailed a d
+failed_since a b c d before later failed = omega (arith, before, later, failed)
+
 -- a fault has its cause also from before on, and later
 pub cause_in_files : (fault : PlaceFault) (changes : List Change) (paths : List (List ℕ)) (a b c d : Story) → AreNotIn (paths_of changes) paths → GoesOn (SameBut paths) a b → c.failures ≤ d.failures → HasCauseInFiles changes fault b c → HasCauseInFiles changes fault a d
 cause_in_files SamePath changes paths a b c d apart goes le cause = cause
 cause_in_files OutputNotKept changes paths a b c d apart goes le cause = cause
 cause_in_files OutputChanged changes paths a b c d apart goes le cause = cause
 cause_in_files (Changed number) changes paths a b c d apart goes le cause = λ known. unexpected_before changes number paths a.seen b.seen apart (goes.is_step known).shown (cause (goes.known.0 known))
-cause_in_files (NotWritten number) changes paths a b c d apart goes le cause = (cause.0, omega (arith, le, cause.1))
-cause_in_files (NotRead number) changes paths a b c d apart goes le cause = (cause.0, omega (arith, le, cause.1))
-cause_in_files (NotMoved number) changes paths a b c d apart goes le cause = (cause.0, omega (arith, le, cause.1))
-cause_in_files (NotKept number) changes paths a b c d apart goes le cause = (cause.0, omega (arith, le, cause.1))
+cause_in_files (NotWritten number) changes paths a b c d apart goes le cause = (cause.0, failed_since a b c d goes.counted le cause.1)
+cause_in_files (NotRead number) changes paths a b c d apart goes le cause = (cause.0, failed_since a b c d goes.counted le cause.1)
+cause_in_files (NotMoved number) changes paths a b c d apart goes le cause = (cause.0, failed_since a b c d goes.counted le cause.1)
+cause_in_files (NotKept number) changes paths a b c d apart goes le cause = (cause.0, failed_since a b c d goes.counted le cause.1)
 
 pub cause_of_rest : (fault : PlaceFault) (change : Change) (changes : List Change) (a b : Story) → HasCauseInFiles changes fault a b → HasCauseInFiles (change ∷ changes) fault a b
 cause_of_rest SamePath change changes a b cause = cause

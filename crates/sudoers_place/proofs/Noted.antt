@@ -1,5 +1,5 @@
 -- Files of which it is noted whether they are in place already.
-use Rattle.std.proofs.Common.{◌≡◌, ◌⊎◌, inl, inr, ℕ, Bool, true, false, List, [], ◌∷◌, ◌++◌, Option, Some, None, refl, sym, ◌∙◌, ap, subst}
+use Rattle.std.proofs.Common.{◌≡◌, ◌⊎◌, inl, inr, ℕ, Bool, true, false, List, [], ◌∷◌, ◌++◌, Option, Some, None, refl, sym, ◌∙◌, ap, subst, arith}
 use Rattle.std.specs.List.{AllByRecursion}
 use Rattle.sudoers_place.specs.declared.change.Change.{Change}
 use Rattle.sudoers_place.specs.declared.change.Content.{Content}
@@ -14,7 +14,7 @@ use Rattle.sudoers_place.specs.internal.Stages.{IsAsExpected, IsInPlace, IsPlace
 use Rattle.sudoers_place.proofs.Paths.{AreIn, not_in_back, not_in_both, not_in_front, not_in_none}
 use Rattle.sudoers_place.proofs.Steps.{followed, loosened, same_steps}
 use Rattle.sudoers_place.proofs.Free.{free_through, seen_not_free}
-use Rattle.sudoers_place.proofs.Files.{all_through, unexpected_before}
+use Rattle.sudoers_place.proofs.Files.{all_through, failed_since, unexpected_before}
 use Rattle.sudoers_place.proofs.Apart.{path_apart_rest, apart_rest}
 
 -- ---- the same changes
@@ -73,13 +73,13 @@ module _ (all : List Change) (change : Change) (rest : List Change) (split : all
   -- a fault of the rest has its cause also from before on
   pub cause_later : (output : Output) (fault : PlaceFault) (a b c : Story) → GoesOn (SameBut []) a b → HasCauseOfPlacing rest output fault b c → HasCauseOfPlacing all output fault a c
   cause_later output SamePath a b c goes cause = λ apart. cause (apart_of_rest output apart)
-  cause_later output OutputNotKept a b c goes cause = cause
+  cause_later output OutputNotKept a b c goes cause = failed_since a b c c goes.counted (omega arith) cause
   cause_later output OutputChanged a b c goes cause = λ known has. cause (goes.known.0 known) (subst (HasContent (Bytes output.bytes)) (sym ((goes.is_step known).shown output.path.items tt)) has)
   cause_later output (Changed number) a b c goes cause = λ known. other_of_rest a.seen number (other_before rest number a.seen b.seen (goes.is_step known).shown (cause (goes.known.0 known)))
-  cause_later output (NotWritten number) a b c goes cause = (number_of_rest number cause.0, cause.1)
-  cause_later output (NotRead number) a b c goes cause = (number_of_rest number cause.0, cause.1)
-  cause_later output (NotMoved number) a b c goes cause = (number_of_rest number cause.0, cause.1)
-  cause_later output (NotKept number) a b c goes cause = (number_of_rest number cause.0, cause.1)
+  cause_later output (NotWritten number) a b c goes cause = (number_of_rest number cause.0, failed_since a b c c goes.counted (omega arith) cause.1)
+  cause_later output (NotRead number) a b c goes cause = (number_of_rest number cause.0, failed_since a b c c goes.counted (omega arith) cause.1)
+  cause_later output (NotMoved number) a b c goes cause = (number_of_rest number cause.0, failed_since a b c c goes.counted (omega arith) cause.1)
+  cause_later output (NotKept number) a b c goes cause = (number_of_rest number cause.0, failed_since a b c c goes.counted (omega arith) cause.1)
 
 -- ---- what is noted
 
@@ -194,10 +194,10 @@ number_as (old ∷ olds) (new ∷ news) number same (inr there) = inr (number_as
 -- a fault of placing has its cause also from before on, where all was noted
 pub cause_noted : (olds news : List Change) (output : Output) (fault : PlaceFault) (a b c : Story) → AreSameChanges olds news → GoesOn (SameBut []) a b → (a.is_known → AllByRecursion (IsAsExpected a.seen) news) → HasCause news output fault b c → HasCauseOfPlacing olds output fault a c
 cause_noted olds news output SamePath a b c same goes noted cause = absurd cause
-cause_noted olds news output OutputNotKept a b c same goes noted cause = cause
+cause_noted olds news output OutputNotKept a b c same goes noted cause = failed_since a b c c goes.counted (omega arith) cause
 cause_noted olds news output OutputChanged a b c same goes noted cause = λ known has. cause (goes.known.0 known) (subst (HasContent (Bytes output.bytes)) (sym ((goes.is_step known).shown output.path.items tt)) has)
 cause_noted olds news output (Changed number) a b c same goes noted cause = λ known. absurd (all_expected_never news a.seen number (noted known) (unexpected_before news number [] a.seen b.seen (not_in_none (paths_of news)) (goes.is_step known).shown (cause (goes.known.0 known))))
-cause_noted olds news output (NotWritten number) a b c same goes noted cause = (number_as olds news number same cause.0, cause.1)
-cause_noted olds news output (NotRead number) a b c same goes noted cause = (number_as olds news number same cause.0, cause.1)
-cause_noted olds news output (NotMoved number) a b c same goes noted cause = (number_as olds news number same cause.0, cause.1)
-cause_noted olds news output (NotKept number) a b c same goes noted cause = (number_as olds news number same cause.0, cause.1)
+cause_noted olds news output (NotWritten number) a b c same goes noted cause = (number_as olds news number same cause.0, failed_since a b c c goes.counted (omega arith) cause.1)
+cause_noted olds news output (NotRead number) a b c same goes noted cause = (number_as olds news number same cause.0, failed_since a b c c goes.counted (omega arith) cause.1)
+cause_noted olds news output (NotMoved number) a b c same goes noted cause = (number_as olds news number same cause.0, failed_since a b c c goes.counted (omega arith) cause.1)
+cause_noted olds news output (NotKept number) a b c same goes noted cause = (number_as olds news number same cause.0, failed_since a b c c goes.counted (omega arith) cause.1)

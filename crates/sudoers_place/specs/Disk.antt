@@ -1,5 +1,5 @@
 -- What stands on a disk, what a crash may leave of it, and what a call may change.
-use Rattle.std.specs.Prelude.{◌≡◌, ◌≢◌, ◌≤◌, ◌⊎◌, ◌↔◌, ℕ, List, [], ◌∷◌, Option, Some, None, Vec}
+use Rattle.std.specs.Prelude.{◌≡◌, ◌≢◌, ◌≤◌, ◌⊎◌, ◌↔◌, ℕ, ◌+◌, ◌-◌, ◌^◌, min, List, [], ◌∷◌, Option, Some, None, Vec}
 use Rattle.std.specs.declared.alloc.Global.{Global}
 
 -- who owns a file, and who may do what with it
@@ -31,7 +31,7 @@ pub record Story : Type 1 where
   pub moment : ℕ
   -- what a reader at some moment from that one on might have found, or a crash left, during a call or between two
   pub left_since : ℕ → Image → Type 0
-  -- how often a call failed; a count may stop at a greatest number
+  -- how often a call failed; the count stops at the greatest number of 64 bits
   pub failures : ℕ
 
 -- ---- paths
@@ -90,9 +90,13 @@ pub record GoesOn (step : Image → Image → Type 0) (before after : Story) : T
 abbrev pub KeepsSynced : List (List ℕ) → Story → Story → Type 0
 KeepsSynced paths before after = (path : List ℕ) → IsNotIn path paths → before.is_known → before.is_synced path → after.is_synced path
 
--- a call has failed
-abbrev pub HasFailed : Story → Type 0
-HasFailed story = 1 ≤ story.failures
+-- a count rose, or is the greatest that it can be
+abbrev pub HasRisen : ℕ → ℕ → Type 0
+HasRisen before after = min (before + 1) (2 ^ 64 - 1) ≤ after
+
+-- A call has failed in between.
+abbrev pub HasFailed : Story → Story → Type 0
+HasFailed before after = HasRisen before.failures after.failures
 
 -- ---- what is on a disk
 

@@ -88,9 +88,9 @@ abbrev pub HasNumber : ℕ → List Change → Type 0
 HasNumber number [] = ⊥
 HasNumber number (change ∷ changes) = (change.number ≡ number) ⊎ HasNumber number changes
 
--- A call about the file with this number has failed.
-abbrev pub HasFailedAtNumber : ℕ → List Change → Story → Type 0
-HasFailedAtNumber number changes new = HasNumber number changes × HasFailed new
+-- One of the files has this number, and a call of the disk has failed.
+abbrev pub HasFailedAtNumber : ℕ → List Change → Story → Story → Type 0
+HasFailedAtNumber number changes old new = HasNumber number changes × HasFailed old new
 
 -- ---- files that may be in place already
 
@@ -121,13 +121,13 @@ pub record HasNewContent (seen : Image) (c : Image) (change : Change) : Type 0 w
 abbrev pub IsKeptInPlace : Image → Story → Change → Type 0
 IsKeptInPlace seen new change = (c : Image) → new.may_leave c → HasNewContent seen c change
 
--- The fault has its cause: two paths are the same, the output or a file has other bytes, or the disk has failed.
+-- The fault has its cause: two paths are the same, the output or a file has other bytes, or a call of the disk has failed in between.
 abbrev pub HasCauseOfPlacing : List Change → Output → PlaceFault → Story → Story → Type 0
 HasCauseOfPlacing changes output SamePath old new = AreApart changes output → ⊥
-HasCauseOfPlacing changes output OutputNotKept old new = HasFailed new
+HasCauseOfPlacing changes output OutputNotKept old new = HasFailed old new
 HasCauseOfPlacing changes output OutputChanged old new = old.is_known → HasContent (Bytes output.bytes) (old.seen output.path.items) → ⊥
 HasCauseOfPlacing changes output (Changed number) old new = old.is_known → HasOther old.seen number changes
-HasCauseOfPlacing changes output (NotWritten number) old new = HasFailedAtNumber number changes new
-HasCauseOfPlacing changes output (NotRead number) old new = HasFailedAtNumber number changes new
-HasCauseOfPlacing changes output (NotMoved number) old new = HasFailedAtNumber number changes new
-HasCauseOfPlacing changes output (NotKept number) old new = HasFailedAtNumber number changes new
+HasCauseOfPlacing changes output (NotWritten number) old new = HasFailedAtNumber number changes old new
+HasCauseOfPlacing changes output (NotRead number) old new = HasFailedAtNumber number changes old new
+HasCauseOfPlacing changes output (NotMoved number) old new = HasFailedAtNumber number changes old new
+HasCauseOfPlacing changes output (NotKept number) old new = HasFailedAtNumber number changes old new

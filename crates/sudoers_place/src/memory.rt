@@ -2,7 +2,7 @@
 
 ghost use Rattle.std.specs.Prelude.{◌≡◌, ◌≤◌, [], ◌∷◌, IfOk, OnOk, OnErr, None, Some};
 ghost use Rattle.std.proofs.Common.{refl};
-ghost use Rattle.sudoers_place.specs.Disk.{IsReplacedOrNot, SameBut, file_with_access_of, free_paths};
+ghost use Rattle.sudoers_place.specs.Disk.{HasRisen, IsReplacedOrNot, SameBut, file_with_access_of, free_paths};
 ghost use Rattle.sudoers_place.specs.Memory.{LogGoesOn, counts, file_if, file_of, image_of, only, story_of};
 
 use crate::disk::{DiskError, WritableDisk};
@@ -162,7 +162,7 @@ fn rename(alloc: Global, log: &mut Vec<Entry>, from: &[u8], to: &[u8]) -> Result
 fn count<T>(failures: &mut u64, outcome: Result<T, DiskError>) -> Result<T, DiskError>
     ensures same { result ≡ outcome }
     ensures counted { failures.old ≤ failures.new }
-    ensures failed { OnErr result (1 ≤ failures.new) }
+    ensures failed { OnErr result (HasRisen failures.old failures.new) }
 {
     match outcome {
         Ok(done) => Ok(done),

@@ -118,7 +118,7 @@ fn note_one<D: WritableDisk>(
     ensures same { IsSameChange change.old change.new }
     ensures noted { OnOk result ((D.story disk.old).is_known → IsAsExpected (D.story disk.old).seen change.new) }
     ensures early { IfErr result IsEarly }
-    ensures cause { IfErr result (λ fault. (fault ≡ PlaceFault.NotRead change.old.number) × HasFailed (D.story disk.new) ⊎ (fault ≡ PlaceFault.Changed change.old.number) × ((D.story disk.old).is_known → IsBeforeOrAfter (D.story disk.old).seen change.old → ⊥)) }
+    ensures cause { IfErr result (λ fault. (fault ≡ PlaceFault.NotRead change.old.number) × HasFailed (D.story disk.old) (D.story disk.new) ⊎ (fault ≡ PlaceFault.Changed change.old.number) × ((D.story disk.old).is_known → IsBeforeOrAfter (D.story disk.old).seen change.old → ⊥)) }
     ensures goes_on { GoesOn (SameBut []) (D.story disk.old) (D.story disk.new) }
     ensures synced { KeepsSynced [] (D.story disk.old) (D.story disk.new) }
 {

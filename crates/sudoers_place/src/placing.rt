@@ -139,7 +139,7 @@ fn write_temp<D: WritableDisk>(disk: &mut D, change: &Change) -> Result<(), Disk
     requires { AreDistinct (change.now.temp.items ∷ change.now.path.items ∷ []) }
     ensures ready { OnOk result (IsReady (D.story disk.new) change.now) }
     ensures free { OnOk result ((D.story disk.old).is_known → IsFree (D.story disk.old).seen change.now) }
-    ensures failed { OnErr result (HasFailed (D.story disk.new)) }
+    ensures failed { OnErr result (HasFailed (D.story disk.old) (D.story disk.new)) }
     ensures goes_on { GoesOn (SameBut (free_paths (D.story disk.old).seen (change.now.temp.items ∷ []))) (D.story disk.old) (D.story disk.new) }
     ensures synced { KeepsSynced (change.now.temp.items ∷ []) (D.story disk.old) (D.story disk.new) }
 {
@@ -207,7 +207,7 @@ fn is_as_expected<D: WritableDisk>(
     change: &Change,
 ) -> Result<bool, DiskError>
     ensures expected { IfOk result (λ same. (D.story disk.old).is_known → IsTrue same ↔ IsAsExpected (D.story disk.old).seen change.now) }
-    ensures failed { OnErr result (HasFailed (D.story disk.new)) }
+    ensures failed { OnErr result (HasFailed (D.story disk.old) (D.story disk.new)) }
     ensures goes_on { GoesOn (SameBut []) (D.story disk.old) (D.story disk.new) }
     ensures synced { KeepsSynced [] (D.story disk.old) (D.story disk.new) }
 {
@@ -242,7 +242,7 @@ fn move_all<D: WritableDisk>(disk: &mut D, changes: &[Change]) -> Result<(), Pla
 fn move_one<D: WritableDisk>(disk: &mut D, change: &Change) -> Result<(), DiskError>
     requires { IsReady (D.story disk.old) change.now }
     ensures placed { OnOk result (IsPlaced (D.story disk.old).seen (D.story disk.new) change.now) }
-    ensures failed { OnErr result (HasFailed (D.story disk.new)) }
+    ensures failed { OnErr result (HasFailed (D.story disk.old) (D.story disk.new)) }
     ensures goes_on { GoesOn (IsReplacedOrNot (with_temp_if_written change.now.is_done change.now.after change.now.temp.items (change.now.path.items ∷ [])) change.now.path.items (placed_file change.now ((D.story disk.old).seen change.now.path.items))) (D.story disk.old) (D.story disk.new) }
     ensures synced { KeepsSynced (change.now.temp.items ∷ change.now.path.items ∷ []) (D.story disk.old) (D.story disk.new) }
 {

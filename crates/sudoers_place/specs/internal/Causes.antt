@@ -20,13 +20,13 @@ HasCauseInFiles changes SamePath old new = ⊥
 HasCauseInFiles changes OutputNotKept old new = ⊥
 HasCauseInFiles changes OutputChanged old new = ⊥
 HasCauseInFiles changes (Changed number) old new = old.is_known → HasUnexpected old.seen number changes
-HasCauseInFiles changes (NotWritten number) old new = HasFailedAtNumber number changes new
-HasCauseInFiles changes (NotRead number) old new = HasFailedAtNumber number changes new
-HasCauseInFiles changes (NotMoved number) old new = HasFailedAtNumber number changes new
-HasCauseInFiles changes (NotKept number) old new = HasFailedAtNumber number changes new
+HasCauseInFiles changes (NotWritten number) old new = HasFailedAtNumber number changes old new
+HasCauseInFiles changes (NotRead number) old new = HasFailedAtNumber number changes old new
+HasCauseInFiles changes (NotMoved number) old new = HasFailedAtNumber number changes old new
+HasCauseInFiles changes (NotKept number) old new = HasFailedAtNumber number changes old new
 
 -- A fault has its cause: the output or a file has other bytes, or the disk has failed.
 abbrev pub HasCause : List Change → Output → PlaceFault → Story → Story → Type 0
-HasCause changes output OutputNotKept old new = HasFailed new
+HasCause changes output OutputNotKept old new = HasFailed old new
 HasCause changes output OutputChanged old new = old.is_known → HasContent (Bytes output.bytes) (old.seen output.path.items) → ⊥
 HasCause changes output fault old new = HasCauseInFiles changes fault old new
