@@ -7,8 +7,10 @@ use Rattle.sudoers_place.specs.declared.change.Content.TheVariants.{Bytes, NoFil
 use Rattle.sudoers_place.specs.declared.change.Output.{Output}
 use Rattle.sudoers_place.specs.declared.change.PlaceFault.{PlaceFault}
 use Rattle.sudoers_place.specs.declared.change.PlaceFault.TheVariants.{SamePath, OutputNotKept, OutputChanged, NotWritten, NotRead, Changed, NotMoved, NotKept}
-use Rattle.sudoers_place.specs.Disk.{Image, Story, IsNotIn, SameBut, GoesOn, KeepsSynced, Stands, file_with_access_of}
-use Rattle.sudoers_place.specs.Placing.{paths_of, temps_of, HasContent, HasUnexpected, HasCauseInFiles, HasCause, IsAsExpected, IsReady, IsReadyIf, IsPlaced, IsOldOrNew, IsInPlace, expected_content, placed_file}
+use Rattle.sudoers_place.specs.Disk.{HasFailed, Image, Story, IsNotIn, SameBut, GoesOn, KeepsSynced, Stands, file_with_access_of}
+use Rattle.sudoers_place.specs.Placing.{paths_of, temps_of, HasContent, IsOldOrNew, placed_file}
+use Rattle.sudoers_place.specs.internal.Causes.{HasCause, HasCauseInFiles, HasUnexpected}
+use Rattle.sudoers_place.specs.internal.Stages.{IsAsExpected, IsInPlace, IsPlaced, IsReady, IsReadyIf, expected_content}
 use Rattle.sudoers_place.proofs.Paths.{AreNotIn}
 
 -- ---- what is ready stays so
@@ -45,16 +47,20 @@ unexpected_before [] number paths f g apart same nowhere = nowhere
 unexpected_before (change ∷ changes) number paths f g apart same (inl here) = inl (here.0, λ is. here.1 (expected_one change g f (sym (same change.path.items apart.0)) is))
 unexpected_before (change ∷ changes) number paths f g apart same (inr there) = inr (unexpected_before changes number paths f g apart.1 same there)
 
+-- what has failed has failed also from before on, and later
+pub failed_since : (a b c d : Story) → a.failures ≤ b.failures → c.failures ≤ d.failures → HasFailed b c → HasFailed a d
+failed_since a b c d before later failed = omega (arith, before, later, failed)
+
 -- a fault has its cause also from before on, and later
 pub cause_in_files : (fault : PlaceFault) (changes : List Change) (paths : List (List ℕ)) (a b c d : Story) → AreNotIn (paths_of changes) paths → GoesOn (SameBut paths) a b → c.failures ≤ d.failures → HasCauseInFiles changes fault b c → HasCauseInFiles changes fault a d
 cause_in_files SamePath changes paths a b c d apart goes le cause = cause
 cause_in_files OutputNotKept changes paths a b c d apart goes le cause = cause
 cause_in_files OutputChanged changes paths a b c d apart goes le cause = cause
 cause_in_files (Changed number) changes paths a b c d apart goes le cause = λ known. unexpected_before changes number paths a.seen b.seen apart (goes.is_step known).shown (cause (goes.known.0 known))
-cause_in_files (NotWritten number) changes paths a b c d apart goes le cause = (cause.0, omega (arith, le, cause.1))
-cause_in_files (NotRead number) changes paths a b c d apart goes le cause = (cause.0, omega (arith, le, cause.1))
-cause_in_files (NotMoved number) changes paths a b c d apart goes le cause = (cause.0, omega (arith, le, cause.1))
-cause_in_files (NotKept number) changes paths a b c d apart goes le cause = (cause.0, omega (arith, le, cause.1))
+cause_in_files (NotWritten number) changes paths a b c d apart goes le cause = (cause.0, failed_since a b c d goes.counted le cause.1)
+cause_in_files (NotRead number) changes paths a b c d apart goes le cause = (cause.0, failed_since a b c d goes.counted le cause.1)
+cause_in_files (NotMoved number) changes paths a b c d apart goes le cause = (cause.0, failed_since a b c d goes.counted le cause.1)
+cause_in_files (NotKept number) changes paths a b c d apart goes le cause = (cause.0, failed_since a b c d goes.counted le cause.1)
 
 pub cause_of_rest : (fault : PlaceFault) (change : Change) (changes : List Change) (a b : Story) → HasCauseInFiles changes fault a b → HasCauseInFiles (change ∷ changes) fault a b
 cause_of_rest SamePath change changes a b cause = cause
@@ -85,6 +91,11 @@ placed_since (change ∷ changes) paths f g c apart same all = ((λ known. all.0
 pub in_place : (changes : List Change) (f : Image) (b c : Story) → b.is_known → c.is_known → AllByRecursion (IsPlaced f b) changes → AllByRecursion (λ (change : Change). Stands change.path.items (b.seen change.path.items) c) changes → AllByRecursion (IsInPlace f c) changes
 in_place [] f b c was is placed stand = tt
 in_place (change ∷ changes) f b c was is placed stand = ((λ i left. stand.0 is i left ∙ placed.0 was), in_place changes f b c was is placed.1 stand.1)
+
+-- what is seen in place is so after a step that changes nothing
+pub placed_still : (changes : List Change) (f : Image) (c d : Story) → GoesOn (SameBut []) c d → AllByRecursion (IsPlaced f c) changes → AllByRecursion (IsPlaced f d) changes
+placed_still [] f c d goes all = tt
+placed_still (change ∷ changes) f c d goes all = ((λ known. let was = goes.known.1 known in (goes.is_step was).shown change.path.items tt ∙ all.0 was), placed_still changes f c d goes all.1)
 
 -- ---- old or new
 

@@ -1,5 +1,6 @@
 mod Apart
 mod Files
+mod Free
 mod Log
 mod Moves
 mod Noted

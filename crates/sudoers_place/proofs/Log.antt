@@ -5,7 +5,7 @@ use Rattle.std.proofs.lemmas.List.{take_all, take-append-le}
 use Rattle.std.proofs.lemmas.Slice.Eq.{bytes_eq-Decides}
 use Rattle.std.proofs.lemmas.Bool.{false_from_ne_true}
 use Rattle.sudoers_place.specs.declared.memory.Entry.{Entry}
-use Rattle.sudoers_place.specs.Disk.{File, Image, SameBut, GoesOn, IsReplacedOrNot}
+use Rattle.sudoers_place.specs.Disk.{File, Image, SameBut, GoesOn, IsReplacedOrNot, free_paths, with_path_if_free}
 use Rattle.sudoers_place.specs.Memory.{LogGoesOn, file_if, look, image_of, story_of}
 use Rattle.sudoers_place.proofs.Steps.{step_followed, step_loosened}
 
@@ -87,8 +87,12 @@ not_pushed log later paths path file is = subst (λ (l : List Entry). LogGoesOn 
 pub nothing_done : (log : List Entry) (paths : List (List ℕ)) → LogGoesOn (SameBut paths) log log
 nothing_done log paths = stays (SameBut paths) log (λ d path not_in. refl)
 
-pub only_path : (log later : List Entry) (path : List ℕ) (file : Option File) → LogGoesOn (IsReplacedOrNot (path ∷ []) path file) log later → LogGoesOn (SameBut (path ∷ [])) log later
+only_path : (log later : List Entry) (path : List ℕ) (file : Option File) → LogGoesOn (IsReplacedOrNot (path ∷ []) path file) log later → LogGoesOn (SameBut (path ∷ [])) log later
 only_path log later path file goes n m = step_loosened (IsReplacedOrNot (path ∷ []) path file) (SameBut (path ∷ [])) (story_of log n) (story_of later m) (λ d e r. r.others) (goes n m)
+
+-- a file is put where none was
+pub only_free : (log later : List Entry) (path : List ℕ) (file : Option File) → image_of log path ≡ None → LogGoesOn (IsReplacedOrNot (path ∷ []) path file) log later → LogGoesOn (SameBut (free_paths (image_of log) (path ∷ []))) log later
+only_free log later path file none goes = subst (λ (found : Option File). LogGoesOn (SameBut (with_path_if_free found path [])) log later) (sym none) (only_path log later path file goes)
 
 -- a file is put under one path, and then another path is emptied
 pub moves_one : (from to : List ℕ) (file moved : Option File) (a b : List Entry) → file ≡ moved → LogGoesOn (IsReplacedOrNot (to ∷ []) to file) a b → LogGoesOn (IsReplacedOrNot (from ∷ to ∷ []) to moved) a b

@@ -4,26 +4,38 @@ use Rattle.std.specs.List.{AllByRecursion}
 use Rattle.sudoers_place.specs.declared.change.Change.{Change}
 use Rattle.sudoers_place.specs.declared.change.Content.TheVariants.{Bytes}
 use Rattle.sudoers_place.specs.declared.change.Output.{Output}
-use Rattle.sudoers_place.specs.Disk.{Image, Story, SameBut, GoesOn}
-use Rattle.sudoers_place.specs.Placing.{paths_of, temps_of, AreApart, HasContent, IsOldOrNew, IsAsBefore, HasBegun, IsBeforeOrBegun, ArePlacedInPart, AtEveryMoment, OutputStands}
-use Rattle.sudoers_place.proofs.Paths.{AreNotIn, not_in_front, back_not_in}
-use Rattle.sudoers_place.proofs.Steps.{same_both, followed}
+use Rattle.sudoers_place.specs.Disk.{Image, Story, IsNotIn, SameBut, GoesOn, free_paths}
+use Rattle.sudoers_place.specs.Placing.{paths_of, temps_of, AreApart, HasContent, IsOldOrNew, IsAsBefore, HasBegun, IsBeforeOrBegun, AtEveryMoment, OutputStands}
+use Rattle.sudoers_place.specs.internal.Stages.{ArePlacedInPart, IsFree, written_temps}
+use Rattle.sudoers_place.proofs.Paths.{AreIn, AreNotIn, not_in_front, not_in_back, not_in_both, back_not_in}
+use Rattle.sudoers_place.proofs.Steps.{same_both, same_more, followed}
+use Rattle.sudoers_place.proofs.Free.{free_in, written_in, written_in_free}
 use Rattle.sudoers_place.proofs.Files.{all_through}
 
 module _ (changes : List Change) (output : Output) (apart : AreApart changes output) where
   pub paths_not_temps : AreNotIn (paths_of changes) (temps_of changes)
   paths_not_temps = back_not_in (temps_of changes) (paths_of changes) apart.1
 
-  begun : (f g d e i : Image) → SameBut (temps_of changes) f g → HasContent (Bytes output.bytes) (e output.path.items) → IsAsBefore changes d e → ArePlacedInPart changes g e i → HasBegun changes output f d i
-  begun f g d e i seen stands before placed = record {
-    output_stands = subst (HasContent (Bytes output.bytes)) (sym (placed.others output.path.items apart.0)) stands;
-    whole = all_through changes (temps_of changes) f g d e i paths_not_temps seen before placed.whole;
-    others = same_both (temps_of changes) (temps_of changes ++ paths_of changes) (temps_of changes ++ paths_of changes) (λ path h. not_in_front path (temps_of changes) (paths_of changes) h) (λ path h. h) d e i before placed.others;
+  pub output_not_written : IsNotIn output.path.items (written_temps changes ++ paths_of changes)
+  output_not_written = not_in_both output.path.items (written_temps changes) (paths_of changes) (written_in changes output.path.items (not_in_front output.path.items (temps_of changes) (paths_of changes) apart.0)) (not_in_back output.path.items (temps_of changes) (paths_of changes) apart.0)
+
+  -- what is as before is so but for all paths beside files
+  pub before_more : (f d e : Image) → IsAsBefore changes f d e → SameBut (temps_of changes) d e
+  before_more f = same_more (free_paths f (temps_of changes)) (temps_of changes) (free_in f (temps_of changes))
+
+  placed_in : (f : Image) → AllByRecursion (IsFree f) changes → AreIn (written_temps changes ++ paths_of changes) (free_paths f (temps_of changes) ++ paths_of changes)
+  placed_in f free path h = not_in_both path (written_temps changes) (paths_of changes) (written_in_free f changes free path (not_in_front path (free_paths f (temps_of changes)) (paths_of changes) h)) (not_in_back path (free_paths f (temps_of changes)) (paths_of changes) h)
+
+  begun : (f g d e i : Image) → AllByRecursion (IsFree f) changes → IsAsBefore changes f f g → HasContent (Bytes output.bytes) (e output.path.items) → IsAsBefore changes f d e → ArePlacedInPart changes g e i → HasBegun changes output f d i
+  begun f g d e i free seen stands before placed = record {
+    output_stands = subst (HasContent (Bytes output.bytes)) (sym (placed.others output.path.items output_not_written)) stands;
+    whole = all_through changes (temps_of changes) f g d e i paths_not_temps (before_more f f g seen) (before_more f d e before) placed.whole;
+    others = same_both (free_paths f (temps_of changes)) (written_temps changes ++ paths_of changes) (free_paths f (temps_of changes) ++ paths_of changes) (λ path h. not_in_front path (free_paths f (temps_of changes)) (paths_of changes) h) (placed_in f free) d e i before placed.others;
   }
 
-  pub begins : (a b c : Story) → b.may_leave b.seen → (b.is_known → OutputStands output b) → GoesOn (IsAsBefore changes) a b → GoesOn (ArePlacedInPart changes b.seen) b c → GoesOn (IsBeforeOrBegun changes output a.seen) a c
-  begins a b c now stands first second =
-      followed (IsAsBefore changes) (ArePlacedInPart changes b.seen) (IsBeforeOrBegun changes output a.seen) a b c now first second (λ _ d e r. inl r) (λ known d e f left r s. inr (begun a.seen b.seen d e f (first.is_step known).shown (stands (first.known.0 known) e left) r s))
+  pub begins : (a b c : Story) → b.may_leave b.seen → (b.is_known → OutputStands output b) → (a.is_known → AllByRecursion (IsFree a.seen) changes) → GoesOn (IsAsBefore changes a.seen) a b → GoesOn (ArePlacedInPart changes b.seen) b c → GoesOn (IsBeforeOrBegun changes output a.seen) a c
+  begins a b c now stands free first second =
+      followed (IsAsBefore changes a.seen) (ArePlacedInPart changes b.seen) (IsBeforeOrBegun changes output a.seen) a b c now first second (λ _ d e r. inl r) (λ known d e f left r s. inr (begun a.seen b.seen d e f (free known) (first.is_step known).shown (stands (first.known.0 known) e left) r s))
 
   still : (f d e i : Image) → SameBut [] e i → (some : List Change) → AllByRecursion (IsOldOrNew f d e) some → AllByRecursion (IsOldOrNew f d i) some
   still f d e i same [] all = tt

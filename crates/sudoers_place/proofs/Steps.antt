@@ -47,3 +47,11 @@ same_more few many within d e same path not_in = same path (within path not_in)
 
 pub same_both : (few some many : _) → AreIn few many → AreIn some many → (d e f : Image) → SameBut few d e → SameBut some e f → SameBut many d f
 same_both few some many in_few in_some d e f first second path not_in = second path (in_some path not_in) ∙ first path (in_few path not_in)
+
+-- two steps that each leave other paths alone
+pub same_steps : (few some many : _) (a b c : Story) → b.may_leave b.seen → (a.is_known → AreIn few many) → (a.is_known → AreIn some many) → GoesOn (SameBut few) a b → GoesOn (SameBut some) b c → GoesOn (SameBut many) a c
+same_steps few some many a b c now in_few in_some first second =
+    followed (SameBut few) (SameBut some) (SameBut many) a b c now first second (λ known. same_more few many (in_few known)) (λ known d e f _ r s. same_both few some many (in_few known) (in_some known) d e f r s)
+
+pub same_goes_on : (few many : _) (a b : Story) → AreIn few many → GoesOn (SameBut few) a b → GoesOn (SameBut many) a b
+same_goes_on few many a b within goes = loosened (SameBut few) (SameBut many) a b goes (λ _. same_more few many within)

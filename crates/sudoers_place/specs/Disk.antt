@@ -1,5 +1,5 @@
 -- What stands on a disk, what a crash may leave of it, and what a call may change.
-use Rattle.std.specs.Prelude.{◌≡◌, ◌≢◌, ◌≤◌, ◌⊎◌, ◌↔◌, ℕ, List, [], ◌∷◌, Option, Some, None, Vec}
+use Rattle.std.specs.Prelude.{◌≡◌, ◌≢◌, ◌≤◌, ◌⊎◌, ◌↔◌, ℕ, ◌+◌, ◌-◌, ◌^◌, min, List, [], ◌∷◌, Option, Some, None, Vec}
 use Rattle.std.specs.declared.alloc.Global.{Global}
 
 -- who owns a file, and who may do what with it
@@ -31,7 +31,7 @@ pub record Story : Type 1 where
   pub moment : ℕ
   -- what a reader at some moment from that one on might have found, or a crash left, during a call or between two
   pub left_since : ℕ → Image → Type 0
-  -- how often a call failed; a count may stop at a greatest number
+  -- how often a call failed; the count stops at the greatest number of 64 bits
   pub failures : ℕ
 
 -- ---- paths
@@ -46,11 +46,25 @@ abbrev pub AreDistinct : List (List ℕ) → Type 0
 AreDistinct [] = Unit {0}
 AreDistinct (path ∷ paths) = IsNotIn path paths × AreDistinct paths
 
+-- the path before the others, if no file is under it
+abbrev pub with_path_if_free : Option File → List ℕ → List (List ℕ) → List (List ℕ)
+with_path_if_free None path others = path ∷ others
+with_path_if_free (Some file) path others = others
+
+-- those of the paths under which no file is seen
+abbrev pub free_paths : Image → List (List ℕ) → List (List ℕ)
+free_paths seen [] = []
+free_paths seen (path ∷ paths) = with_path_if_free (seen path) path (free_paths seen paths)
+
 -- ---- steps of a disk
 
 -- The same files stand under all paths but these, of which nothing is said.
 abbrev pub SameBut : List (List ℕ) → Image → Image → Type 0
 SameBut paths before after = (path : List ℕ) → IsNotIn path paths → after path ≡ before path
+
+-- Each file that is seen stays, but for those under these paths.
+abbrev pub SameWhereSeen : List (List ℕ) → Image → Image → Image → Type 0
+SameWhereSeen paths seen before after = (path : List ℕ) (file : File) → IsNotIn path paths → seen path ≡ Some file → after path ≡ before path
 
 -- One path has what it had, or this file instead. Of the others among these paths nothing is said.
 pub record IsReplacedOrNot (paths : List (List ℕ)) (path : List ℕ) (file : Option File) (before after : Image) : Type 0 where
@@ -76,9 +90,13 @@ pub record GoesOn (step : Image → Image → Type 0) (before after : Story) : T
 abbrev pub KeepsSynced : List (List ℕ) → Story → Story → Type 0
 KeepsSynced paths before after = (path : List ℕ) → IsNotIn path paths → before.is_known → before.is_synced path → after.is_synced path
 
--- a call has failed
-abbrev pub HasFailed : Story → Type 0
-HasFailed story = 1 ≤ story.failures
+-- a count rose, or is the greatest that it can be
+abbrev pub HasRisen : ℕ → ℕ → Type 0
+HasRisen before after = min (before + 1) (2 ^ 64 - 1) ≤ after
+
+-- A call has failed in between.
+abbrev pub HasFailed : Story → Story → Type 0
+HasFailed before after = HasRisen before.failures after.failures
 
 -- ---- what is on a disk
 

@@ -1,3 +1,4 @@
 pub mod Disk
 pub mod Placing
 pub mod Memory
+pub mod internal

@@ -16,7 +16,7 @@ pub struct Change {
     pub number: usize,
     /// The path of the file. No link is at it.
     pub path: Vec<u8>,
-    /// The path beside it at which the file is written first. Nothing is there.
+    /// The path beside it at which the file is written first. Nothing is there: a file that is there stays.
     pub temp: Vec<u8>,
     /// What stood there before the edits.
     pub before: Content,

@@ -1,7 +1,7 @@
 //! A disk: what a reader finds on it, and what a crash may leave of it.
 
 ghost use Rattle.std.specs.Prelude.{◌≡◌, ◌≤◌, ℕ, [], ◌∷◌, IfOk, OnErr, OnOk, None};
-ghost use Rattle.sudoers_place.specs.Disk.{AreBytesOf, GoesOn, HasFailed, Image, IsReplacedOrNot, IsWritten, KeepsSynced, SameBut, Stands, Story, file_with_access_of};
+ghost use Rattle.sudoers_place.specs.Disk.{AreBytesOf, GoesOn, HasFailed, Image, IsReplacedOrNot, IsWritten, KeepsSynced, SameBut, Stands, Story, file_with_access_of, free_paths};
 
 use std::alloc::Global;
 
@@ -28,20 +28,20 @@ pub trait WritableDisk {
         ensures bytes { IfOk result (λ found. (story self.old).is_known → AreBytesOf found ((story self.old).seen path.now)) }
         ensures goes_on { GoesOn (SameBut []) (story self.old) (story self.new) }
         ensures synced { KeepsSynced [] (story self.old) (story self.new) }
-        ensures failed { OnErr result (HasFailed (story self.new)) };
+        ensures failed { OnErr result (HasFailed (story self.old) (story self.new)) };
 
     /// Makes the file `path`, which must not be there, with `bytes` and with the owner, the group and the mode of the file `like`. Where that
     /// is not there, root owns it and may read it, and so may root's group. Brings its bytes to the disk, but not its name.
     ///
     /// # Errors
     ///
-    /// [`DiskError`]. A part of the file may remain.
+    /// [`DiskError`]. A file that was there stays as it is. If none was there, a part of the new file may remain.
     fn create(&mut self, path: &[u8], bytes: &[u8], like: &[u8]) -> Result<(), DiskError>
         ensures absent { OnOk result ((story self.old).is_known → (story self.old).seen path.now ≡ None) }
         ensures written { OnOk result (IsWritten path.now (file_with_access_of bytes.now ((story self.old).seen like.now)) (story self.new)) }
-        ensures goes_on { GoesOn (SameBut (path.now ∷ [])) (story self.old) (story self.new) }
+        ensures goes_on { GoesOn (SameBut (free_paths (story self.old).seen (path.now ∷ []))) (story self.old) (story self.new) }
         ensures synced { KeepsSynced (path.now ∷ []) (story self.old) (story self.new) }
-        ensures failed { OnErr result (HasFailed (story self.new)) };
+        ensures failed { OnErr result (HasFailed (story self.old) (story self.new)) };
 
     /// Moves the file `from` to the path `to`, over a file that is there. Its bytes have to be on the disk.
     ///
@@ -53,7 +53,7 @@ pub trait WritableDisk {
         ensures moved { OnOk result ((story self.old).is_known → (story self.new).seen to.now ≡ (story self.old).seen from.now) }
         ensures goes_on { GoesOn (IsReplacedOrNot (from.now ∷ to.now ∷ []) to.now ((story self.old).seen from.now)) (story self.old) (story self.new) }
         ensures synced { KeepsSynced (from.now ∷ to.now ∷ []) (story self.old) (story self.new) }
-        ensures failed { OnErr result (HasFailed (story self.new)) };
+        ensures failed { OnErr result (HasFailed (story self.old) (story self.new)) };
 
     /// Removes the file `path`, if it is there.
     ///
@@ -64,7 +64,7 @@ pub trait WritableDisk {
         ensures removed { OnOk result ((story self.old).is_known → (story self.new).seen path.now ≡ None) }
         ensures goes_on { GoesOn (IsReplacedOrNot (path.now ∷ []) path.now None) (story self.old) (story self.new) }
         ensures synced { KeepsSynced (path.now ∷ []) (story self.old) (story self.new) }
-        ensures failed { OnErr result (HasFailed (story self.new)) };
+        ensures failed { OnErr result (HasFailed (story self.old) (story self.new)) };
 
     /// Brings the bytes of the file `path`, if it is there, and then the names of its folder to the disk: what a reader finds under `path`
     /// stands.
@@ -76,7 +76,7 @@ pub trait WritableDisk {
         ensures stands { OnOk result (Stands path.now ((story self.old).seen path.now) (story self.new)) }
         ensures goes_on { GoesOn (SameBut []) (story self.old) (story self.new) }
         ensures synced { KeepsSynced [] (story self.old) (story self.new) }
-        ensures failed { OnErr result (HasFailed (story self.new)) };
+        ensures failed { OnErr result (HasFailed (story self.old) (story self.new)) };
 
     /// What is seen is one of the outcomes of a crash.
     ghost seen_now: { (disk : Self) → (story disk).may_leave (story disk).seen };

@@ -2,7 +2,7 @@
 
 ghost use Rattle.std.specs.Prelude.{◌≡◌, ◌≤◌, [], ◌∷◌, IfOk, OnOk, OnErr, None, Some};
 ghost use Rattle.std.proofs.Common.{refl};
-ghost use Rattle.sudoers_place.specs.Disk.{IsReplacedOrNot, SameBut, file_with_access_of};
+ghost use Rattle.sudoers_place.specs.Disk.{HasRisen, IsReplacedOrNot, SameBut, file_with_access_of, free_paths};
 ghost use Rattle.sudoers_place.specs.Memory.{LogGoesOn, counts, file_if, file_of, image_of, only, story_of};
 
 use crate::disk::{DiskError, WritableDisk};
@@ -118,7 +118,7 @@ fn record(
     Ok(())
 }
 
-/// Makes a file that is not there.
+/// Makes a file that is not there. A file that is there stays as it is.
 fn create(
     alloc: Global,
     log: &mut Vec<Entry>,
@@ -128,7 +128,7 @@ fn create(
 ) -> Result<(), DiskError>
     ensures absent { OnOk result (image_of log.old.items path.now ≡ None) }
     ensures written { OnOk result (image_of log.new.items path.now ≡ file_with_access_of bytes.now (image_of log.old.items like.now)) }
-    ensures goes_on { LogGoesOn (SameBut (path.now ∷ [])) log.old.items log.new.items }
+    ensures goes_on { LogGoesOn (SameBut (free_paths (image_of log.old.items) (path.now ∷ []))) log.old.items log.new.items }
 {
     match look_up(alloc, log, path) {
         Ok(None) => match make_file(alloc, log, bytes, like) {
@@ -162,7 +162,7 @@ fn rename(alloc: Global, log: &mut Vec<Entry>, from: &[u8], to: &[u8]) -> Result
 fn count<T>(failures: &mut u64, outcome: Result<T, DiskError>) -> Result<T, DiskError>
     ensures same { result ≡ outcome }
     ensures counted { failures.old ≤ failures.new }
-    ensures failed { OnErr result (1 ≤ failures.new) }
+    ensures failed { OnErr result (HasRisen failures.old failures.new) }
 {
     match outcome {
         Ok(done) => Ok(done),

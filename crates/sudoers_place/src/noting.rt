@@ -1,10 +1,11 @@
 //! Puts files in place that may be in place already.
 
-ghost use Rattle.std.specs.Prelude.{◌≡◌, ◌⊎◌, ◌↔◌, [], ◌++◌, IsTrue, OnOk, IfErr};
+ghost use Rattle.std.specs.Prelude.{◌≡◌, ◌⊎◌, ◌↔◌, ℕ, [], ◌++◌, IsTrue, OnOk, IfErr};
 ghost use Rattle.std.specs.List.{AllByRecursion};
 ghost use Rattle.sudoers_place.specs.declared.change.Output.{Output as OutputOf};
-ghost use Rattle.sudoers_place.specs.Disk.{AreDistinct, GoesOn, HasFailed, IsNotIn, KeepsSynced, SameBut};
-ghost use Rattle.sudoers_place.specs.Placing.{AreApart, AreSameChanges, AtEveryMoment, HasCauseOfPlacing, IsAsBefore, IsAsExpected, IsBeforeOrAfter, IsBeforeOrBegun, IsEarly, IsKeptInPlace, IsSameChange, OutputStands, paths_of, temps_of};
+ghost use Rattle.sudoers_place.specs.Disk.{AreDistinct, GoesOn, HasFailed, IsNotIn, KeepsSynced, SameBut, SameWhereSeen};
+ghost use Rattle.sudoers_place.specs.Placing.{AreApart, AreSameChanges, AtEveryMoment, HasCauseOfPlacing, HasNewContent, IsAsBefore, IsBeforeOrAfter, IsBeforeOrBegun, IsEarly, IsKeptInPlace, IsSameChange, OutputStands, paths_of, temps_of};
+ghost use Rattle.sudoers_place.specs.internal.Stages.{IsAsExpected};
 
 use crate::change::{Change, Output, PlaceFault};
 use crate::disk::WritableDisk;
@@ -29,12 +30,17 @@ pub fn place<D: WritableDisk>(
     // At every moment, and after a crash at any moment, the files are as before, or the output stands and each file is old or new.
     ensures any_moment { AtEveryMoment (IsBeforeOrBegun changes.new output.now (D.story disk.old).seen) (D.story disk.old) (D.story disk.new) }
     // A fault from before the first file is replaced: all files are as before.
-    ensures early { IfErr result (λ fault. IsEarly fault → AtEveryMoment (IsAsBefore changes.new) (D.story disk.old) (D.story disk.new)) }
+    ensures early { IfErr result (λ fault. IsEarly fault → AtEveryMoment (IsAsBefore changes.new (D.story disk.old).seen) (D.story disk.old) (D.story disk.new)) }
+    // Every file that was there stays, but for those of `changes`: one beside them, too, that an earlier crash has left.
+    ensures kept { (D.story disk.old).is_known → SameWhereSeen (paths_of changes.new) (D.story disk.old).seen (D.story disk.old).seen (D.story disk.new).seen }
+    ensures always_kept { AtEveryMoment (SameWhereSeen (paths_of changes.new) (D.story disk.old).seen) (D.story disk.old) (D.story disk.new) }
     // Only what the edits were made from is replaced.
     ensures unchanged { OnOk result ((D.story disk.old).is_known → AllByRecursion (IsBeforeOrAfter (D.story disk.old).seen) changes.old) }
     ensures late { IfErr result (λ fault. IsEarly fault ⊎ ((D.story disk.old).is_known → AllByRecursion (IsBeforeOrAfter (D.story disk.old).seen) changes.old)) }
     // If nothing is refused, all files are new, with the access that they had, and each crash leaves them so.
     ensures done { OnOk result ((D.story disk.old).is_known → AllByRecursion (IsKeptInPlace (D.story disk.old).seen (D.story disk.new)) changes.old) }
+    // At the fault `NotKept` too all files are new, as a reader finds them.
+    ensures placed { (number : ℕ) → result ≡ Err (PlaceFault.NotKept number) → (D.story disk.old).is_known → AllByRecursion (HasNewContent (D.story disk.old).seen (D.story disk.new).seen) changes.old }
     ensures output_stands { OnOk result ((D.story disk.old).is_known → OutputStands output.now (D.story disk.new)) }
     // It is refused for a cause alone.
     ensures cause { IfErr result (λ fault. HasCauseOfPlacing changes.old output.now fault (D.story disk.old) (D.story disk.new)) }
@@ -112,7 +118,7 @@ fn note_one<D: WritableDisk>(
     ensures same { IsSameChange change.old change.new }
     ensures noted { OnOk result ((D.story disk.old).is_known → IsAsExpected (D.story disk.old).seen change.new) }
     ensures early { IfErr result IsEarly }
-    ensures cause { IfErr result (λ fault. (fault ≡ PlaceFault.NotRead change.old.number) × HasFailed (D.story disk.new) ⊎ (fault ≡ PlaceFault.Changed change.old.number) × ((D.story disk.old).is_known → IsBeforeOrAfter (D.story disk.old).seen change.old → ⊥)) }
+    ensures cause { IfErr result (λ fault. (fault ≡ PlaceFault.NotRead change.old.number) × HasFailed (D.story disk.old) (D.story disk.new) ⊎ (fault ≡ PlaceFault.Changed change.old.number) × ((D.story disk.old).is_known → IsBeforeOrAfter (D.story disk.old).seen change.old → ⊥)) }
     ensures goes_on { GoesOn (SameBut []) (D.story disk.old) (D.story disk.new) }
     ensures synced { KeepsSynced [] (D.story disk.old) (D.story disk.new) }
 {

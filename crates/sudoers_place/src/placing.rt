@@ -1,10 +1,12 @@
 //! Puts edited files in place.
 
-ghost use Rattle.std.specs.Prelude.{◌≡◌, ◌⊎◌, ◌↔◌, List, [], ◌∷◌, ◌++◌, Option, IsTrue, OnOk, OnErr, IfOk, IfErr};
+ghost use Rattle.std.specs.Prelude.{◌≡◌, ◌⊎◌, ◌↔◌, ℕ, List, [], ◌∷◌, ◌++◌, Option, IsTrue, OnOk, OnErr, IfOk, IfErr};
 ghost use Rattle.std.specs.List.{AllByRecursion};
 ghost use Rattle.sudoers_place.specs.declared.change.Change.{Change as ChangeOf};
-ghost use Rattle.sudoers_place.specs.Disk.{AreBytesOf, AreDistinct, File, GoesOn, HasFailed, IsReplacedOrNot, KeepsSynced, SameBut, Stands};
-ghost use Rattle.sudoers_place.specs.Placing.{AreApart, ArePlacedInPart, HasCause, HasCauseInFiles, HasContent, IsAsBefore, IsAsExpected, IsBeforeOrBegun, IsEarly, IsInPlace, IsPlaced, IsReady, OutputStands, paths_of, placed_file, temps_of};
+ghost use Rattle.sudoers_place.specs.Disk.{AreBytesOf, AreDistinct, File, GoesOn, HasFailed, IsReplacedOrNot, KeepsSynced, SameBut, Stands, free_paths};
+ghost use Rattle.sudoers_place.specs.Placing.{AreApart, HasContent, IsAsBefore, IsBeforeOrBegun, IsEarly, OutputStands, paths_of, placed_file, temps_of};
+ghost use Rattle.sudoers_place.specs.internal.Causes.{HasCause, HasCauseInFiles};
+ghost use Rattle.sudoers_place.specs.internal.Stages.{ArePlacedInPart, IsAsExpected, IsFree, IsInPlace, IsPlaced, IsReady, with_temp_if_written, written_temps};
 
 use crate::change::{Change, Content, Output, PlaceFault};
 use crate::disk::{DiskError, WritableDisk};
@@ -24,10 +26,11 @@ pub fn put_in_place<D: WritableDisk>(
 ) -> Result<(), PlaceFault>
     requires { AreApart changes.now output.now }
     ensures goes_on { GoesOn (IsBeforeOrBegun changes.now output.now (D.story disk.old).seen) (D.story disk.old) (D.story disk.new) }
-    ensures early { IfErr result (λ fault. IsEarly fault → GoesOn (IsAsBefore changes.now) (D.story disk.old) (D.story disk.new)) }
+    ensures early { IfErr result (λ fault. IsEarly fault → GoesOn (IsAsBefore changes.now (D.story disk.old).seen) (D.story disk.old) (D.story disk.new)) }
     ensures expected { OnOk result ((D.story disk.old).is_known → AllByRecursion (IsAsExpected (D.story disk.old).seen) changes.now) }
     ensures late { IfErr result (λ fault. IsEarly fault ⊎ ((D.story disk.old).is_known → AllByRecursion (IsAsExpected (D.story disk.old).seen) changes.now)) }
     ensures done { OnOk result ((D.story disk.old).is_known → AllByRecursion (IsInPlace (D.story disk.old).seen (D.story disk.new)) changes.now) }
+    ensures placed { (number : ℕ) → result ≡ Err (PlaceFault.NotKept number) → (D.story disk.old).is_known → AllByRecursion (IsPlaced (D.story disk.old).seen (D.story disk.new)) changes.now }
     ensures output_stands { OnOk result ((D.story disk.old).is_known → OutputStands output.now (D.story disk.new)) }
     ensures cause { IfErr result (λ fault. HasCause changes.now output.now fault (D.story disk.old) (D.story disk.new)) }
 {
@@ -49,7 +52,8 @@ fn prepare<D: WritableDisk>(
     ensures expected { OnOk result ((D.story disk.old).is_known → AllByRecursion (IsAsExpected (D.story disk.old).seen) changes.now) }
     ensures early { IfErr result IsEarly }
     ensures cause { IfErr result (λ fault. HasCause changes.now output.now fault (D.story disk.old) (D.story disk.new)) }
-    ensures goes_on { GoesOn (IsAsBefore changes.now) (D.story disk.old) (D.story disk.new) }
+    ensures free { OnOk result ((D.story disk.old).is_known → AllByRecursion (IsFree (D.story disk.old).seen) changes.now) }
+    ensures goes_on { GoesOn (IsAsBefore changes.now (D.story disk.old).seen) (D.story disk.old) (D.story disk.new) }
 {
     settle_output(disk, alloc, output)?;
     write_temps(disk, changes)?;
@@ -111,9 +115,10 @@ pub fn has_content(found: &Option<Vec<u8>>, content: &Content) -> bool
 fn write_temps<D: WritableDisk>(disk: &mut D, changes: &[Change]) -> Result<(), PlaceFault>
     requires { AreDistinct (temps_of changes.now ++ paths_of changes.now) }
     ensures ready { OnOk result (AllByRecursion (IsReady (D.story disk.new)) changes.now) }
+    ensures free { OnOk result ((D.story disk.old).is_known → AllByRecursion (IsFree (D.story disk.old).seen) changes.now) }
     ensures early { IfErr result IsEarly }
     ensures cause { IfErr result (λ fault. HasCauseInFiles changes.now fault (D.story disk.old) (D.story disk.new)) }
-    ensures goes_on { GoesOn (SameBut (temps_of changes.now)) (D.story disk.old) (D.story disk.new) }
+    ensures goes_on { GoesOn (SameBut (free_paths (D.story disk.old).seen (temps_of changes.now))) (D.story disk.old) (D.story disk.new) }
     ensures synced { KeepsSynced (temps_of changes.now) (D.story disk.old) (D.story disk.new) }
 {
     let Some((change, rest)) = changes.split_first() else {
@@ -133,8 +138,9 @@ fn write_temps<D: WritableDisk>(disk: &mut D, changes: &[Change]) -> Result<(), 
 fn write_temp<D: WritableDisk>(disk: &mut D, change: &Change) -> Result<(), DiskError>
     requires { AreDistinct (change.now.temp.items ∷ change.now.path.items ∷ []) }
     ensures ready { OnOk result (IsReady (D.story disk.new) change.now) }
-    ensures failed { OnErr result (HasFailed (D.story disk.new)) }
-    ensures goes_on { GoesOn (SameBut (change.now.temp.items ∷ [])) (D.story disk.old) (D.story disk.new) }
+    ensures free { OnOk result ((D.story disk.old).is_known → IsFree (D.story disk.old).seen change.now) }
+    ensures failed { OnErr result (HasFailed (D.story disk.old) (D.story disk.new)) }
+    ensures goes_on { GoesOn (SameBut (free_paths (D.story disk.old).seen (change.now.temp.items ∷ []))) (D.story disk.old) (D.story disk.new) }
     ensures synced { KeepsSynced (change.now.temp.items ∷ []) (D.story disk.old) (D.story disk.new) }
 {
     if change.is_done {
@@ -148,7 +154,7 @@ fn write_temp<D: WritableDisk>(disk: &mut D, change: &Change) -> Result<(), Disk
 
 /// Removes what was written beside the files, where it can.
 fn remove_temps<D: WritableDisk>(disk: &mut D, changes: &[Change])
-    ensures goes_on { GoesOn (SameBut (temps_of changes.now)) (D.story disk.old) (D.story disk.new) }
+    ensures goes_on { GoesOn (SameBut (written_temps changes.now)) (D.story disk.old) (D.story disk.new) }
 {
     if let Some((change, rest)) = changes.split_first() {
         remove_temp(disk, change);
@@ -158,7 +164,7 @@ fn remove_temps<D: WritableDisk>(disk: &mut D, changes: &[Change])
 
 /// Removes what was written beside a file, if it can.
 fn remove_temp<D: WritableDisk>(disk: &mut D, change: &Change)
-    ensures goes_on { GoesOn (SameBut (change.now.temp.items ∷ [])) (D.story disk.old) (D.story disk.new) }
+    ensures goes_on { GoesOn (SameBut (with_temp_if_written change.now.is_done change.now.after change.now.temp.items [])) (D.story disk.old) (D.story disk.new) }
     ensures synced { KeepsSynced (change.now.temp.items ∷ []) (D.story disk.old) (D.story disk.new) }
 {
     if change.is_done {
@@ -201,7 +207,7 @@ fn is_as_expected<D: WritableDisk>(
     change: &Change,
 ) -> Result<bool, DiskError>
     ensures expected { IfOk result (λ same. (D.story disk.old).is_known → IsTrue same ↔ IsAsExpected (D.story disk.old).seen change.now) }
-    ensures failed { OnErr result (HasFailed (D.story disk.new)) }
+    ensures failed { OnErr result (HasFailed (D.story disk.old) (D.story disk.new)) }
     ensures goes_on { GoesOn (SameBut []) (D.story disk.old) (D.story disk.new) }
     ensures synced { KeepsSynced [] (D.story disk.old) (D.story disk.new) }
 {
@@ -219,6 +225,7 @@ fn move_all<D: WritableDisk>(disk: &mut D, changes: &[Change]) -> Result<(), Pla
     requires distinct { AreDistinct (temps_of changes.now ++ paths_of changes.now) }
     ensures placed { OnOk result (AllByRecursion (IsPlaced (D.story disk.old).seen (D.story disk.new)) changes.now) }
     ensures late { IfErr result (λ fault. IsEarly fault → ⊥) }
+    ensures kept_later { (number : ℕ) → result ≡ Err (PlaceFault.NotKept number) → ⊥ }
     ensures cause { IfErr result (λ fault. HasCauseInFiles changes.now fault (D.story disk.old) (D.story disk.new)) }
     ensures goes_on { GoesOn (ArePlacedInPart changes.now (D.story disk.old).seen) (D.story disk.old) (D.story disk.new) }
 {
@@ -235,8 +242,8 @@ fn move_all<D: WritableDisk>(disk: &mut D, changes: &[Change]) -> Result<(), Pla
 fn move_one<D: WritableDisk>(disk: &mut D, change: &Change) -> Result<(), DiskError>
     requires { IsReady (D.story disk.old) change.now }
     ensures placed { OnOk result (IsPlaced (D.story disk.old).seen (D.story disk.new) change.now) }
-    ensures failed { OnErr result (HasFailed (D.story disk.new)) }
-    ensures goes_on { GoesOn (IsReplacedOrNot (change.now.temp.items ∷ change.now.path.items ∷ []) change.now.path.items (placed_file change.now ((D.story disk.old).seen change.now.path.items))) (D.story disk.old) (D.story disk.new) }
+    ensures failed { OnErr result (HasFailed (D.story disk.old) (D.story disk.new)) }
+    ensures goes_on { GoesOn (IsReplacedOrNot (with_temp_if_written change.now.is_done change.now.after change.now.temp.items (change.now.path.items ∷ [])) change.now.path.items (placed_file change.now ((D.story disk.old).seen change.now.path.items))) (D.story disk.old) (D.story disk.new) }
     ensures synced { KeepsSynced (change.now.temp.items ∷ change.now.path.items ∷ []) (D.story disk.old) (D.story disk.new) }
 {
     if change.is_done {

@@ -1,7 +1,7 @@
 //! The disk of a system.
 
 ghost use Rattle.std.specs.Prelude.{◌≡◌, ◌≤◌, OnErr, None};
-ghost use Rattle.sudoers_place.specs.Disk.{unknown_story};
+ghost use Rattle.sudoers_place.specs.Disk.{HasRisen, unknown_story};
 
 use crate::disk::{DiskError, WritableDisk};
 use std::alloc::Global;
@@ -46,7 +46,7 @@ impl<S> SystemDisk<S> {
     /// Counts a failure, and keeps why. The count stops at the greatest number.
     fn note<T>(&mut self, outcome: io::Result<T>) -> Result<T, DiskError>
         ensures counted { self.old.failures ≤ self.new.failures }
-        ensures failed { OnErr result (1 ≤ self.new.failures) }
+        ensures failed { OnErr result (HasRisen self.old.failures self.new.failures) }
     {
         match outcome {
             Ok(done) => Ok(done),

@@ -2,7 +2,8 @@ use Rattle.std.proofs.Common.{rules, ◌++◌}
 use Rattle.std.specs.List.{AllByRecursion}
 use Rattle.std.proofs.lemmas.Result.{on_ok_weaker}
 use Rattle.sudoers_place.specs.Disk.{AreDistinct}
-use Rattle.sudoers_place.specs.Placing.{temps_of, paths_of, IsReady}
+use Rattle.sudoers_place.specs.Placing.{temps_of, paths_of}
+use Rattle.sudoers_place.specs.internal.Stages.{IsReady}
 use Rattle.sudoers_place.proofs.Moves.{split_distinct, split_ready, split_one, split_both, split_placed}
 use Rattle.sudoers_place.proofs.placing.+move_all.Goals as goal
 
