@@ -6,9 +6,9 @@ leaves each file as it was. Random policies and wishes are compared with a model
 
 import random
 
-from placing import HELP, Site, refusal, with_texts
+from placing import Site, refusal
 from program import Wanted
-from stand import Closed
+from stand import Closed, Stand
 from tally import difference
 
 PART = "planning"
@@ -25,7 +25,7 @@ PLANS = (
     (["has host WEB www3"], "add host WEB 3\n>, www3\n"),
     (["has user OPS !bob"], "add user OPS 3\n>, !bob\n"),
     (["has user OPS %%"], 'add user OPS 3\n>, "%%"\n'),
-    (["has user OPS !!%"], 'add user OPS 3\n>, !!"%"\n'),
+    (["has user OPS !%%"], 'add user OPS 3\n>, !"%%"\n'),
     (["has cmnd RUN /bin/systemctl stop nginx"], "add cmnd RUN 3\n>, /bin/systemctl stop nginx\n"),
     (["has user OPS bob"], ""),
     (['has user OPS "bob"'], ""),
@@ -197,9 +197,8 @@ def run_random(stand):
             stand.tally.note(f"{PART}: random policy {number}, {wishes}", difference("script", wanted, (came.stdout, came.status)))
 
 
-def run_all(stand):
-    """Runs this part."""
-    run_plans(stand)
-    run_refused(stand)
-    run_standard_input(stand)
-    run_random(stand)
+def run_all(program, tally):
+    """Runs all of it."""
+    stand = Stand(PART, program, tally)
+    for run in (run_plans, run_refused, run_standard_input, run_random):
+        run(stand)
