@@ -61,11 +61,7 @@ impl<T: Drop> From<AllocFailed<T>> for WishFault {
 /// # Errors
 ///
 /// [`WishFault`], of the first part that is wrong.
-pub fn read_wish(
-    alloc: Global,
-    text: &[u8],
-    options: &WishOptions<'_>,
-) -> Result<Wish, WishFault> {
+pub fn read_wish(alloc: Global, text: &[u8], options: &WishOptions<'_>) -> Result<Wish, WishFault> {
     let (word, rest) = split_at_first_blank(text);
     let rest = rest.unwrap_or(b"");
     if word == b"has".as_slice() {
