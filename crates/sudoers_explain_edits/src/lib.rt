@@ -19,5 +19,6 @@ mod spliced_lines;
 
 pub use edit_hints::{EditHint, words_of_edit_hint};
 pub use input_mistakes::{explain_bad_bundle, explain_missing_mark, split_edit_input};
+pub use name_refusals::find_similar_alias_name;
 pub use refusals::explain_refused_edit;
 pub use script_faults::explain_script_fault;

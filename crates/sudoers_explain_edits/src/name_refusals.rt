@@ -68,6 +68,22 @@ fn append_names_of_line<'a>(
     Ok(())
 }
 
+/// Returns the name of an alias of the kind `kind` that is nearest to `wanted`, of those that the lines of the walk of `policy` define; no
+/// bytes if none is near.
+///
+/// # Errors
+///
+/// Memory ran out.
+pub fn find_similar_alias_name<'a>(
+    policy: &'a Policy,
+    kind: Kind,
+    wanted: &[u8],
+) -> Result<&'a str, AllocError> {
+    let alloc = policy.allocator();
+    let names = list_names(alloc, policy, kind)?;
+    find_nearest_name(alloc, wanted, names.as_slice())
+}
+
 /// Returns the name of `names` that is nearest to `wanted`; no bytes if none is near.
 fn find_nearest_name<'a>(
     alloc: Global,

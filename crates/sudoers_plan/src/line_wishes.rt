@@ -64,7 +64,7 @@ pub fn find_edits_to_lack_line(
 }
 
 /// Returns the number of the file on the walk that has the name `name`.
-fn find_file_on_walk(policy: &Policy, name: &[u8]) -> Option<usize>
+pub fn find_file_on_walk(policy: &Policy, name: &[u8]) -> Option<usize>
     ensures { result ≡ number_of_file_on_walk name.now policy.now }
 {
     let mut left = policy.numbers_of_files_on_walk();
@@ -78,7 +78,11 @@ fn find_file_on_walk(policy: &Policy, name: &[u8]) -> Option<usize>
 }
 
 /// Returns the numbers, from 0, of the lines of the file `file` that are `wanted`, but for their line ends.
-fn find_equal_lines(
+///
+/// # Errors
+///
+/// Memory ran out.
+pub fn find_equal_lines(
     policy: &Policy,
     file: usize,
     wanted: &GivenLine,

@@ -1,12 +1,11 @@
-//! The option `--also` of `edit`: files that no line of the policy includes yet.
+//! The option `--also`: files that no line of the policy includes yet.
 
-use crate::edit_command::SCRIPT;
 use crate::file_trouble::FileTrouble;
 use crate::files::{Disk, file_name_of_text};
 use crate::files_within_byte_budget::FilesWithinByteBudget;
 use crate::terminal::print_error_line;
 use clap::{Arg, ArgAction, ArgMatches};
-use std::alloc::{AllocError, Global};
+use std::alloc::Global;
 use sudoers_bundle::read_bundle;
 use sudoers_files::{Files, FilesInMemory, GatherFault, gather};
 use sudoers_grammar::Items;
@@ -20,14 +19,13 @@ pub const ALSO: &str = "NAME";
 const OFF_WALK: &[u8] = b": no line of the edited policy includes this file";
 
 /// Returns the option that names a file which no line includes yet.
-pub fn make_also_option<'a>(alloc: Global) -> Result<Arg<'a>, AllocError> {
+pub fn make_also_option<'a>(alloc: Global) -> Arg<'a> {
     Arg::new(alloc, ALSO)
         .long("also")
         .action(ArgAction::Append)
         .help(
             "Add the file NAME, spelled as `show` spells it, behind the others, empty if it is missing; may stand more than once. A file that no line of the edited policy includes is named on standard error",
         )
-        .requires_arg(SCRIPT)
 }
 
 /// Adds the files `names` to `found`, each empty if it is missing.

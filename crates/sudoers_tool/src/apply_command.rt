@@ -2,7 +2,9 @@
 
 use crate::also_option::{make_also_option, print_files_not_included};
 use crate::changed_lines::append_changed_lines;
-use crate::edit_command::{POLICY, SCRIPT, gather_files_to_edit, read_script_file};
+use crate::edit_command::{
+    POLICY, SCRIPT, gather_files_to_edit, policy_name_of_edit_words, read_script_file,
+};
 use crate::explaining::{add_explaining_options, are_errors_explained};
 use crate::explaining_edits::EditExplanation;
 use crate::file_trouble::FileTrouble;
@@ -15,7 +17,11 @@ use crate::place_command::{
 use crate::place_trouble::{PlaceError, make_place_error};
 use crate::placed_files::is_read_by_include_line;
 use crate::placed_paths::make_error_of_file;
+use crate::plan_command::{make_planned_script, print_wish_error_and_get_status};
 use crate::terminal::{open_standard_output, print_error_line};
+use crate::wish_options::{
+    GivenWishes, WISH, add_wish_options, has_wishes, make_wish_option, read_given_wishes,
+};
 use clap::{Arg, ArgAction, ArgMatches, Command};
 use std::alloc::{AllocError, Global};
 use std::fs::OpenOptions;
@@ -23,6 +29,7 @@ use std::io::Write;
 use std::os::unix::fs::OpenOptionsExt;
 use std::{fs, io};
 use sudoers_run::{EditInputShape, OutputFiles, ToolFault, make_edit_output_of_files};
+use sudoers_tree::NamedFile;
 
 /// The name of the subcommand.
 pub const APPLY: &str = "apply";
@@ -38,6 +45,13 @@ const ALLOW_UNDEFINED: &str = "allow-undefined";
 
 /// The flag that asks for the changed lines alone.
 const DRY_RUN: &str = "dry-run";
+
+/// The two forms of the command line.
+const USAGE: &str =
+    "sudoers_tool apply [OPTIONS] <SCRIPT> <POLICY>\n       sudoers_tool apply [OPTIONS] --wish <WISH>... <POLICY>";
+
+/// How the command line of `apply` gives a wish.
+const WISH_OF_APPLY: &str = "--wish <WISH>";
 
 /// The mode of a new output.
 const MODE_OF_OUTPUT: u32 = 0o600;
@@ -59,70 +73,81 @@ pub fn make_apply_subcommand<'a>(alloc: Global, top: Arg<'a>) -> Result<Command<
         .long(DRY_RUN)
         .action(ArgAction::SetTrue)
         .help("Print the changed lines of each file, and put nothing in place");
-    let script = Arg::new(alloc, SCRIPT)
-        .required(true)
-        .help("Edit script, or `-` for standard input");
-    let policy = Arg::new(alloc, POLICY).required(true).help("Policy file");
     let command = Command::new(alloc, APPLY)
         .about(
-            "Apply an edit script to a policy with the files that it includes, and put the edited files in place, all or none: `edit --files` and `place` in one call",
+            "Apply an edit script, or the one that makes wishes true, to a policy with the files that it includes, and put the edited files in place, all or none: `edit --files` or `plan`, and `place` in one call",
         )
+        .override_usage(USAGE)
         .after_help(EXIT_STATUS)
         .arg(undo_file)?
         .arg(allow)?
         .arg(dry_run)?
-        .arg(make_also_option(alloc)?)?
+        .arg(make_also_option(alloc))?
         .arg(top)?
-        .arg(script)?
-        .arg(policy)?;
+        .arg(make_wish_option(alloc))?;
+    let command = add_arguments(alloc, add_wish_options(alloc, command)?)?;
     add_explaining_options(alloc, command)
 }
 
-/// Applies the script that `words` name to their policy, and puts the edited files in place. Prints an error. Returns the exit status.
+/// Adds to `command` the arguments that name the script and the policy. With wishes there is one, which names the policy.
+fn add_arguments<'a>(alloc: Global, command: Command<'a>) -> Result<Command<'a>, AllocError> {
+    let script = Arg::new(alloc, SCRIPT).required_unless_present(WISH)?.help(
+        "Edit script, or `-` for standard input; with --wish there is none",
+    );
+    let policy = Arg::new(alloc, POLICY)
+        .required_unless_present(WISH)?
+        .help("Policy file");
+    command.arg(script)?.arg(policy)
+}
+
+/// Applies the script or the wishes that `words` name to their policy, and puts the edited files in place. Prints an error. Returns the exit
+/// status.
 pub fn run_apply_command(rt: &HostRuntime, words: &ArgMatches<'_>) -> u8 {
+    let given = match read_given_wishes(rt, words) {
+        Ok(given) => given,
+        Err(error) => return print_wish_error_and_get_status(rt, APPLY, WISH_OF_APPLY, &error),
+    };
     let mut explanation = EditExplanation::new(rt.alloc(), are_errors_explained(rt, words));
-    let outcome = match apply_script(rt, words, &mut explanation) {
-        Err(PlaceError::Output(trouble)) => {
+    match apply_script_or_wishes(rt, words, &given, &mut explanation) {
+        Ok(()) => 0,
+        Err(error) => print_edit_error_and_get_status(rt, words, error, &mut explanation),
+    }
+}
+
+/// Prints the error `error` of the words `words`, with the lines of `explanation`, and returns the exit status.
+pub fn print_edit_error_and_get_status(
+    rt: &HostRuntime,
+    words: &ArgMatches<'_>,
+    error: PlaceError,
+    explanation: &mut EditExplanation,
+) -> u8 {
+    let error = match error {
+        PlaceError::Output(trouble) => {
             let outcome = Err(trouble);
             explanation.explain_outcome(rt, Some(words), &outcome);
             match outcome {
-                Ok(_) => Ok(()),
-                Err(trouble) => Err(PlaceError::Output(trouble)),
+                Ok(_) => return 0,
+                Err(trouble) => PlaceError::Output(trouble),
             }
         }
-        outcome => outcome,
+        error => error,
     };
-    print_place_error_and_get_status(rt, words, outcome, explanation.lines())
+    print_place_error_and_get_status(rt, words, Err(error), explanation.lines())
 }
 
-/// Applies the script that `words` name to their policy, and puts the edited files in place.
-fn apply_script(
+/// Applies the script or the wishes that `words` name to their policy, and puts the edited files in place.
+fn apply_script_or_wishes(
     rt: &HostRuntime,
     words: &ArgMatches<'_>,
+    given: &GivenWishes,
     explanation: &mut EditExplanation,
 ) -> Result<(), PlaceError> {
     let alloc = rt.alloc();
-    let policy = words.get_str(POLICY).unwrap_or("");
-    if policy == STDIN {
-        return Err(make_place_error(
-            alloc,
-            policy.as_bytes(),
-            b"NotPlaceable",
-            &[b"standard input is no file; name the policy"],
-        ));
-    }
-    let edited = edit_files(rt, words, explanation)?;
+    let policy = policy_name_of_edit_words(words);
+    check_policy_name(alloc, policy)?;
+    let edited = edit_files(rt, words, given, explanation)?;
     let files = read_files_of_output(alloc, policy, edited.as_slice())?;
-    if !words.get_flag(ALLOW_UNDEFINED)
-        && let Some(text) = find_new_alias_fault(alloc, &files)?
-    {
-        return Err(make_place_error(
-            alloc,
-            text.as_slice(),
-            b"Refused",
-            &[b"the edits bring this alias; `--allow-undefined` accepts it"],
-        ));
-    }
+    check_new_aliases(alloc, words, &files)?;
     print_files_not_included(rt, words, policy, edited.as_slice())?;
     if words.get_flag(DRY_RUN) {
         return print_changed_lines(rt, &files);
@@ -131,39 +156,110 @@ fn apply_script(
         return Ok(());
     }
     let name = name_of_new_output(rt, words, policy)?;
-    if is_read_by_include_line(rt, words, name.as_str(), files.after.as_slice())? {
-        return Err(make_place_error(
-            alloc,
-            name.as_bytes(),
-            b"NotPlaceable",
-            &[
-                b"an include line reads the files of this folder; name a file with a `.` in its name, or another folder",
-            ],
-        ));
+    check_name_of_new_output(rt, words, name.as_str(), &files)?;
+    place_new_output(rt, words, name.as_str(), edited, &files)
+}
+
+/// Returns an error if the policy `policy` is the standard input.
+pub fn check_policy_name(alloc: Global, policy: &str) -> Result<(), PlaceError> {
+    if policy != STDIN {
+        return Ok(());
     }
-    write_new_output(rt, name.as_str(), edited.as_slice())?;
-    let outcome = put_output_in_place(rt, words, name.as_str(), edited, &files, false);
+    Err(make_place_error(
+        alloc,
+        policy.as_bytes(),
+        b"NotPlaceable",
+        &[b"standard input is no file; name the policy"],
+    ))
+}
+
+/// Returns an error if the edits of `files` bring an undefined or a cyclic alias, unless `words` accept it.
+fn check_new_aliases(
+    alloc: Global,
+    words: &ArgMatches<'_>,
+    files: &OutputFiles,
+) -> Result<(), PlaceError> {
+    if words.get_flag(ALLOW_UNDEFINED) {
+        return Ok(());
+    }
+    match find_new_alias_fault(alloc, files)? {
+        Some(text) => Err(make_place_error(
+            alloc,
+            text.as_slice(),
+            b"Refused",
+            &[b"the edits bring this alias; `--allow-undefined` accepts it"],
+        )),
+        None => Ok(()),
+    }
+}
+
+/// Returns an error if a policy of the files `files` would read the new output `name`.
+fn check_name_of_new_output(
+    rt: &HostRuntime,
+    words: &ArgMatches<'_>,
+    name: &str,
+    files: &OutputFiles,
+) -> Result<(), PlaceError> {
+    if !is_read_by_include_line(rt, words, name, files.after.as_slice())? {
+        return Ok(());
+    }
+    Err(make_place_error(
+        rt.alloc(),
+        name.as_bytes(),
+        b"NotPlaceable",
+        &[
+            b"an include line reads the files of this folder; name a file with a `.` in its name, or another folder",
+        ],
+    ))
+}
+
+/// Writes the new output `name`, which has the bytes `edited`, and puts its files `files` in place. Removes it if no file was replaced.
+fn place_new_output(
+    rt: &HostRuntime,
+    words: &ArgMatches<'_>,
+    name: &str,
+    edited: Vec<u8>,
+    files: &OutputFiles,
+) -> Result<(), PlaceError> {
+    write_new_output(rt, name, edited.as_slice())?;
+    let outcome = put_output_in_place(rt, words, name, edited, files, false);
     if let Err(PlaceError::Output(_) | PlaceError::Place(_)) = &outcome {
-        let _ = fs::remove_file(rt, name.as_str());
+        let _ = fs::remove_file(rt, name);
     } else if words.get_str(UNDO_FILE).is_none() {
         let _ = print_error_line(rt, &[name.as_bytes(), WAY_BACK]);
     }
     outcome
 }
 
-/// Returns what `edit --files` prints for the script and the policy that `words` name.
+/// Returns what `edit --files` prints for the policy that `words` name and the script that they name, or the one that makes the wishes true.
 fn edit_files(
     rt: &HostRuntime,
     words: &ArgMatches<'_>,
+    given: &GivenWishes,
     explanation: &mut EditExplanation,
 ) -> Result<Vec<u8>, PlaceError> {
+    let alloc = rt.alloc();
+    if has_wishes(words) {
+        let files = gather_files_to_edit(rt, words, 0)?;
+        let script = make_planned_script(alloc, files.as_slice(), given, explanation)?;
+        return make_edit_output(alloc, script.as_slice(), files.as_slice(), explanation);
+    }
     let script = read_script_file(rt, words.get_str(SCRIPT).unwrap_or(""))?;
     let files = gather_files_to_edit(rt, words, script.len())?;
-    let (script, files) = (script.as_slice(), files.as_slice());
-    match make_edit_output_of_files(rt.alloc(), script, EditInputShape::Bundle, files, 0, 0) {
+    make_edit_output(alloc, script.as_slice(), files.as_slice(), explanation)
+}
+
+/// Returns what `edit --files` prints for the script `script` and the files `files`.
+fn make_edit_output(
+    alloc: Global,
+    script: &[u8],
+    files: &[NamedFile],
+    explanation: &mut EditExplanation,
+) -> Result<Vec<u8>, PlaceError> {
+    match make_edit_output_of_files(alloc, script, EditInputShape::Bundle, files, 0, 0) {
         Ok(edited) => Ok(edited),
         Err(fault) => {
-            explanation.explain_run(rt.alloc(), script, files, &fault);
+            explanation.explain_run(alloc, script, files, &fault);
             Err(PlaceError::Output(FileTrouble::from(fault)))
         }
     }
@@ -176,7 +272,11 @@ fn is_nothing_changed(files: &OutputFiles) -> bool {
 }
 
 /// Prints the names of the files that the edits change, and their changed lines.
-fn print_changed_lines(rt: &HostRuntime, files: &OutputFiles) -> Result<(), PlaceError> {
+///
+/// # Errors
+///
+/// Memory ran out; the standard output cannot be written.
+pub fn print_changed_lines(rt: &HostRuntime, files: &OutputFiles) -> Result<(), PlaceError> {
     let mut text = Vec::new(rt.alloc());
     for (before, after) in files.before.iter().zip(files.after.iter()) {
         if before.bytes.as_slice() != after.bytes.as_slice() {

@@ -10,6 +10,7 @@ use crate::file_trouble::FileTrouble;
 use crate::files::{STDIN, open_disk_files, open_named_file};
 use crate::files_within_byte_budget::FilesWithinByteBudget;
 use crate::terminal::open_standard_output;
+use crate::wish_options::{has_standard_input_twice, has_wishes};
 use clap::{Arg, ArgMatches, Command};
 use std::alloc::{AllocError, Global};
 use std::io::{Read, Write};
@@ -53,7 +54,7 @@ pub fn make_edit_subcommand<'a>(alloc: Global, top: Arg<'a>) -> Result<Command<'
         .arg(undo)?
         .arg(redo)?
         .arg(make_files_option_naming_script(alloc)?)?
-        .arg(make_also_option(alloc)?)?
+        .arg(make_also_option(alloc).requires_arg(SCRIPT)?)?
         .arg(top.requires_arg(SCRIPT)?)?;
     add_error_options(alloc, command)?.arg(make_policy_argument(alloc)?)
 }
@@ -84,24 +85,43 @@ fn make_policy_argument<'a>(alloc: Global) -> Result<Arg<'a>, AllocError> {
         .requires_arg(SCRIPT)
 }
 
-/// Returns what is wrong with the words of `edit`.
+/// Returns what is wrong with the words of `edit`, `apply` or `plan`.
 pub fn find_edit_usage_error(words: &ArgMatches<'_>) -> Option<&'static str> {
-    let Some(files) = words.get_strs(POLICY) else {
-        return None;
-    };
-    if files.len() > 1 {
-        return Some(
-            "--files takes one POLICY and finds the files that it includes; write `--also NAME` for a file that no line includes",
-        );
-    }
-    if words.get_str(SCRIPT) == Some(STDIN) && files.first() == Some(&STDIN) {
-        return Some("standard input cannot be both SCRIPT and POLICY");
+    if let Some(mistake) = find_usage_error_of_inputs(words) {
+        return Some(mistake);
     }
     if words.get_str(UNDO_FILE) == Some("") {
         return Some("invalid value '' for '--undo-file <OUTPUT>': a file has a name");
     }
     if has_empty_word(words.get_strs(ALSO)) {
         return Some("invalid value '' for '--also <NAME>': a file has a name");
+    }
+    None
+}
+
+/// Returns what is wrong with the script, the wishes and the policy that `words` name.
+fn find_usage_error_of_inputs(words: &ArgMatches<'_>) -> Option<&'static str> {
+    if has_standard_input_twice(words) {
+        return Some("standard input gives wishes once only");
+    }
+    let (script, files) = (words.get_str(SCRIPT), words.get_strs(POLICY));
+    if has_wishes(words) && script.is_some() && files.is_some() {
+        return Some("--wish takes the place of SCRIPT, so POLICY stands alone");
+    }
+    let Some(files) = files else {
+        return if has_wishes(words) && script.is_none() {
+            Some("the POLICY is missing")
+        } else {
+            None
+        };
+    };
+    if files.len() > 1 {
+        return Some(
+            "--files takes one POLICY and finds the files that it includes; write `--also NAME` for a file that no line includes",
+        );
+    }
+    if script == Some(STDIN) && files.first() == Some(&STDIN) {
+        return Some("standard input cannot be both SCRIPT and POLICY");
     }
     None
 }
@@ -161,10 +181,11 @@ fn number_of_option_or_zero(words: &ArgMatches<'_>, name: &str) -> u32 {
     words.get_one::<u32>(name).unwrap_or(0)
 }
 
-/// Returns the name of the policy that `words` name.
-fn policy_name_of_edit_words<'a>(words: &ArgMatches<'a>) -> &'a str {
+/// Returns the name of the policy that `words` name. Where wishes stand for the script, it is the first word.
+pub fn policy_name_of_edit_words<'a>(words: &ArgMatches<'a>) -> &'a str {
     match words.get_strs(POLICY) {
         Some([root, ..]) => *root,
+        _ if has_wishes(words) => words.get_str(SCRIPT).unwrap_or(STDIN),
         _ => STDIN,
     }
 }

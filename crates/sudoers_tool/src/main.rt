@@ -25,9 +25,12 @@ mod place_command;
 mod place_trouble;
 mod placed_files;
 mod placed_paths;
+mod plan_command;
 mod same_folders;
 mod subcommands;
 mod terminal;
+mod usage_errors;
+mod wish_options;
 
 use crate::all_errors::print_all_errors;
 use crate::apply_command::{APPLY, run_apply_command};
@@ -35,30 +38,31 @@ use crate::ask_command::{is_list_with_same_folders, run_ask_command, run_list_wi
 use crate::ask_json::run_ask_as_json;
 use crate::ask_subcommands::{is_ask_command, policy_name_of_ask_words};
 use crate::convert_command::run_convert_command;
-use crate::edit_command::{
-    EDIT, apply_script_to_policy_both_from_stdin, edit_policy_or_stdin, find_edit_usage_error,
-};
+use crate::edit_command::{EDIT, apply_script_to_policy_both_from_stdin, edit_policy_or_stdin};
 use crate::explaining::{
     are_errors_explained, are_files_read_again, error_status_of_words, explain_outcome,
     print_explanation,
 };
 use crate::explaining_edits::EditExplanation;
 use crate::file_trouble::FileTrouble;
-use crate::files::{KeptDisk, STDIN, find_trouble_with_folder, open_disk_files};
+use crate::files::{KeptDisk, open_disk_files};
 use crate::json_output::{
     is_json_asked, print_error_document, run_check_as_json, run_show_as_json,
 };
 use crate::kept_files::KeptFiles;
 use crate::list_command::run_list_command;
 use crate::place_command::{PLACE, run_place_command};
-use crate::same_folders::find_mistake_in_same_folders;
-use crate::subcommands::{make_command_for_usage, make_top_level_command};
-use crate::terminal::{open_standard_error, open_standard_output, print_error_line};
+use crate::plan_command::{PLAN, run_plan_command};
+use crate::subcommands::make_top_level_command;
+use crate::terminal::{open_standard_output, print_error_line};
+use crate::usage_errors::{
+    find_usage_error, print_help_or_usage_error, print_usage_error_of_command,
+};
+use clap::ArgMatches;
 use clap::error::ErrorKind;
-use clap::{ArgMatches, Error};
-use std::alloc::{AllocError, Global};
+use std::alloc::AllocError;
 use std::io;
-use std::io::{IsTerminal, Write};
+use std::io::IsTerminal;
 use std::process::ExitCode;
 use sudoers_run::{CheckWords, Counted, ToolFault, run_check, run_show};
 
@@ -89,61 +93,23 @@ fn run_command_line(rt: &HostRuntime) -> Result<ExitCode, ToolFault> {
         Err(_) => {
             let message = "invalid UTF-8 was detected in one or more arguments";
             let error = command.error(ErrorKind::InvalidValue, message)?;
-            return print_help_or_usage_error(rt, &error);
+            return Ok(ExitCode::from(print_help_or_usage_error(rt, &error)?));
         }
     };
     match command.try_get_matches_from(words.as_slice()) {
         Ok(matches) => match find_usage_error(rt, &matches)? {
             Some(message) => {
-                let mut command = make_command_for_usage(rt.alloc(), &matches)?;
-                print_help_or_usage_error(
-                    rt,
-                    &command.error(ErrorKind::InvalidValue, message.as_str())?,
-                )
+                let name = match matches.subcommand() {
+                    Some((name, _)) => name,
+                    None => "",
+                };
+                let status = print_usage_error_of_command(rt, name, message.as_str())?;
+                Ok(ExitCode::from(status))
             }
             None => Ok(run_matched_command(rt, &matches)),
         },
-        Err(error) => print_help_or_usage_error(rt, &error),
+        Err(error) => Ok(ExitCode::from(print_help_or_usage_error(rt, &error)?)),
     }
-}
-
-/// Returns what is wrong with a command line that has the right form: it names a folder that is none, or too many files.
-fn find_usage_error(
-    rt: &HostRuntime,
-    matches: &ArgMatches<'_>,
-) -> Result<Option<String>, ToolFault> {
-    let Some((name, words)) = matches.subcommand() else {
-        return Ok(None);
-    };
-    if let Some(dir) = words.get_str("DIR")
-        && let Some(trouble) = find_trouble_with_folder(rt, dir)?
-    {
-        let message = format!(in rt.alloc();
-            "invalid value '{dir}' for '--root <DIR>': {trouble}"
-        )?;
-        return Ok(Some(message));
-    }
-    let mistake = if name == EDIT || name == APPLY {
-        find_edit_usage_error(words)
-    } else {
-        find_usage_error_of_files(words)
-    };
-    match mistake {
-        Some(message) => Ok(Some(String::from_str(rt.alloc(), message)?)),
-        None => Ok(None),
-    }
-}
-
-/// Returns what is wrong with the folders and the policy files that `words` name: the standard input is one policy, and not two.
-fn find_usage_error_of_files(words: &ArgMatches<'_>) -> Option<&'static str> {
-    if let Some(mistake) = find_mistake_in_same_folders(words) {
-        return Some(mistake);
-    }
-    let files = words.get_strs("FILE")?;
-    if files.iter().filter(|file| **file == STDIN).count() > 1 {
-        return Some("standard input can be one policy only");
-    }
-    None
 }
 
 /// Runs the command of a command line that was understood, and prints its error.
@@ -152,6 +118,7 @@ fn run_matched_command(rt: &HostRuntime, matches: &ArgMatches<'_>) -> ExitCode {
         Some((EDIT, words)) => run_edit_and_print_error(rt, words),
         Some((APPLY, words)) => run_apply_command(rt, words),
         Some((PLACE, words)) => run_place_command(rt, words),
+        Some((PLAN, words)) => run_plan_command(rt, words),
         Some((name, words)) if is_ask_command(name) => {
             let file = policy_name_of_ask_words(words);
             run_named_command_and_print_error(rt, name, file, ASK_ERROR_STATUS, words)
@@ -311,22 +278,6 @@ fn print_error_of_outcome_and_get_status(
 fn collect_argument_words(rt: &HostRuntime) -> io::Result<Vec<String>> {
     let words: Vec<String> = std::env::args(rt)?.collect(rt.alloc())?;
     Ok(words)
-}
-
-/// Prints clap's text: help and version on standard output, a wrong command line on standard error.
-fn print_help_or_usage_error(rt: &HostRuntime, error: &Error) -> Result<ExitCode, ToolFault> {
-    if error.kind() == ErrorKind::OutOfMemory {
-        return Err(ToolFault::from(AllocError));
-    }
-    let text = error.to_string(rt.alloc())?;
-    if error.use_stderr() {
-        let _ = open_standard_error(rt).write_all(text.as_bytes());
-        return Ok(ExitCode::from(2));
-    }
-    match open_standard_output(rt).write_all(text.as_bytes()) {
-        Ok(()) => Ok(ExitCode::from(0)),
-        Err(_) => Err(ToolFault::Write),
-    }
 }
 
 /// Shows a policy, or standard input.

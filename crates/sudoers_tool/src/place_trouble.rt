@@ -41,6 +41,14 @@ impl PlaceTrouble {
         Ok(PlaceTrouble { text, help })
     }
 
+    /// Returns the error with the text `text`, without advice.
+    pub fn from_text(alloc: Global, text: Vec<u8>) -> PlaceTrouble {
+        PlaceTrouble {
+            text,
+            help: Vec::new(alloc),
+        }
+    }
+
     /// Returns the text of the error.
     pub fn text(&self) -> &[u8] {
         self.text.as_slice()

@@ -1,7 +1,7 @@
 //! The command line that the program understands.
 
 use crate::all_errors::make_all_flag;
-use crate::apply_command::make_apply_subcommand;
+use crate::apply_command::{APPLY, make_apply_subcommand};
 use crate::ask_subcommands::{make_what_subcommand, make_who_subcommand, make_why_subcommand};
 use crate::convert_command::make_convert_subcommand;
 use crate::edit_command::{EDIT, make_edit_subcommand};
@@ -9,7 +9,8 @@ use crate::explaining::add_error_options;
 use crate::json_output::make_json_flag;
 use crate::list_command::make_list_subcommand;
 use crate::place_command::make_place_subcommand;
-use clap::{Arg, ArgAction, ArgMatches, Command};
+use crate::plan_command::{PLAN, make_plan_subcommand};
+use clap::{Arg, ArgAction, Command};
 use std::alloc::{AllocError, Global};
 
 /// What `--version` prints after the program's name.
@@ -17,7 +18,7 @@ const VERSION: &str = "0.8.0";
 
 /// What help prints last.
 const EXIT_STATUS: &str =
-    "Exit status: 0 success; 1 an error, a policy that `check` does not pass, or a command that `list` does not allow; 2 a wrong command line; 3 an error of `apply`, `place`, `who`, `what` or `why`. See sudoers_tool(8).";
+    "Exit status: 0 success; 1 an error, a policy that `check` does not pass, a command that `list` does not allow, or something that `plan --check` finds to do; 2 a wrong command line; 3 an error of `apply`, `place`, `plan`, `who`, `what` or `why`. See sudoers_tool(8).";
 
 /// Returns the command line of `show`.
 fn make_show_subcommand<'a>(alloc: Global) -> Result<Command<'a>, AllocError> {
@@ -33,7 +34,7 @@ pub fn make_top_level_command<'a>(alloc: Global) -> Result<Command<'a>, AllocErr
     Command::new(alloc, "sudoers_tool")
         .version(VERSION)
         .about(
-            "Check, show, edit, apply, place, convert and list sudoers policies. Without a command, do what `edit` does",
+            "Check, show, edit, plan, apply, place, convert and list sudoers policies. Without a command, do what `edit` does",
         )
         .after_help(EXIT_STATUS)
         .subcommand(make_apply_subcommand(alloc, make_root_folder_option(alloc))?)?
@@ -56,6 +57,7 @@ pub fn make_top_level_command<'a>(alloc: Global) -> Result<Command<'a>, AllocErr
             )?,
         )?)?
         .subcommand(make_place_subcommand(alloc, make_root_folder_option(alloc))?)?
+        .subcommand(make_plan_subcommand(alloc, make_root_folder_option(alloc))?)?
         .subcommand(add_error_options(alloc, make_show_subcommand(alloc)?)?)?
         .subcommand(make_what_subcommand(alloc, make_root_folder_option(alloc))?)?
         .subcommand(make_who_subcommand(alloc, make_root_folder_option(alloc))?)?
@@ -112,13 +114,13 @@ fn make_policy_file_or_stdin_argument<'a>(alloc: Global) -> Arg<'a> {
         .help("Policy file, or `-` for standard input")
 }
 
-/// Returns the command line whose usage an error of `matches` shows.
-pub fn make_command_for_usage<'a>(
-    alloc: Global,
-    matches: &ArgMatches<'_>,
-) -> Result<Command<'a>, AllocError> {
-    match matches.subcommand() {
-        Some((EDIT, _)) => make_edit_subcommand(alloc, make_root_folder_option(alloc)),
+/// Returns the command line whose usage an error of the command `name` shows.
+pub fn make_command_for_usage<'a>(alloc: Global, name: &str) -> Result<Command<'a>, AllocError> {
+    let top = make_root_folder_option(alloc);
+    match name {
+        EDIT => make_edit_subcommand(alloc, top),
+        APPLY => make_apply_subcommand(alloc, top),
+        PLAN => make_plan_subcommand(alloc, top),
         _ => make_top_level_command(alloc),
     }
 }
