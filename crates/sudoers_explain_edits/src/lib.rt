@@ -1,4 +1,4 @@
-//! What is wrong with an edit script or one of its edits, for people: the line, what the policy has there, and what to do.
+//! What is wrong with an edit script, one of its edits or a wish, for people: the line, what the policy has there, and what to do.
 #![tactic(auto)]
 
 mod bad_splices;
@@ -16,9 +16,10 @@ mod script_mistakes;
 mod script_rows;
 mod splice_mistakes;
 mod spliced_lines;
+mod wish_refusals;
 
 pub use edit_hints::{EditHint, words_of_edit_hint};
 pub use input_mistakes::{explain_bad_bundle, explain_missing_mark, split_edit_input};
-pub use name_refusals::find_similar_alias_name;
 pub use refusals::explain_refused_edit;
 pub use script_faults::explain_script_fault;
+pub use wish_refusals::append_refusal_text;

@@ -6,14 +6,14 @@ use Rattle.std.specs.List.{list_any}
 use Rattle.sudoers_grammar.specs.Node.{Member}
 use Rattle.sudoers_tree.specs.Load.{LoadedPolicy}
 use Rattle.sudoers_edit_script.specs.declared.edit.Edit.{Edit}
-use Rattle.sudoers_edit_script.specs.declared.edit.Edit.TheVariants.{AddMember, DropMember, Delete}
+use Rattle.sudoers_edit_script.specs.declared.edit.Edit.TheVariants.{DropMember, Delete}
 use Rattle.sudoers_line_rows.specs.Alike.{is_same_member}
 use Rattle.sudoers_tree.specs.Definition.{members_of_alias_definition}
 use Rattle.sudoers_plan.specs.declared.fault.PlanFault.{PlanFault}
 use Rattle.sudoers_plan.specs.declared.fault.PlanFault.TheVariants.{BadMember, NoAlias, NoFile, BadLine, IncludeLine}
 use Rattle.sudoers_plan.specs.declared.wish.Wish.{Wish}
 use Rattle.sudoers_plan.specs.declared.wish.Wish.TheVariants.{HasMember, LacksMember, HasLine, LacksLine}
-use Rattle.sudoers_plan.specs.GivenText.{is_line_of_text, is_member_listed, is_text_of_include_line, is_text_of_one_line, member_of_text, text_with_percents_quoted}
+use Rattle.sudoers_plan.specs.GivenText.{is_line_of_text, is_member_listed, is_text_of_include_line, is_text_of_one_line, member_of_text}
 use Rattle.sudoers_plan.specs.Plan.{MeetsAllWishes, MeetsWish, edits_putting_line, edits_wanted_by, first_unmet_wish, is_nothing_wanted, line_texts_of_file, number_of_file_on_walk, number_of_new_line, numbers_of_passing, plan_result_and_then, planned_for_wish, planned_for_wishes, policy_after_wanted_edits, numbered_result_and_then, result_or_fault_if_none}
 
 -- NUMBERS OF ITEMS THAT PASS A TEST

@@ -1,5 +1,5 @@
 -- What a plan is, once the edits of all wishes are made.
-use Rattle.std.proofs.Common.{◌≡◌, ◌∙◌, ◌⊎◌, ℕ, List, [], Option, Some, None, Result, Ok, Err, inl, inr, sym, ap, subst}
+use Rattle.std.proofs.Common.{◌≡◌, ◌∙◌, ◌⊎◌, ℕ, List, [], Some, None, Result, Ok, Err, inl, inr, sym, ap, subst}
 use Rattle.sudoers_tree.specs.Load.{LoadedPolicy}
 use Rattle.sudoers_edit_script.specs.declared.edit.Edit.{Edit}
 use Rattle.sudoers_edit.specs.Editing.{policy_or_first_refusal}

@@ -7,13 +7,12 @@ mod line_wishes;
 mod member_text;
 mod member_wishes;
 mod planning;
-mod refusal_text;
 mod wish;
 mod wish_words;
 
 pub use fault::{PlanFault, PlanRefusal};
+pub use line_wishes::count_equal_lines;
 pub use planning::plan;
-pub use refusal_text::append_refusal_text;
 pub use sudoers_edit::{Edit, EditFault, Edits, Text};
 pub use wish::{LinePlace, Wish};
 pub use wish_words::{WishFault, WishOptions, WishPart, read_wish};

@@ -1,6 +1,7 @@
 //! The edits that wishes of lines want.
 
 ghost use Rattle.std.specs.Prelude.{◌≡◌, ◌++◌, ◌∷◌, ◌-◌, [], length, map, reverse, slice_get, IfOk, MatchResult};
+ghost use Rattle.std.specs.Option.{option_map_or};
 ghost use Rattle.sudoers_plan.specs.GivenText.{is_line_of_text};
 ghost use Rattle.sudoers_plan.specs.Plan.{IsFaultOrNoMemory, IsOutcomeUnlessNoMemory, edits_putting_line, edits_to_have_line, edits_to_lack_line, is_line_without_lf, line_texts_of_file, number_of_file_on_walk, number_of_new_line, numbers_of_passing, only_anchor_number};
 
@@ -64,7 +65,7 @@ pub fn find_edits_to_lack_line(
 }
 
 /// Returns the number of the file on the walk that has the name `name`.
-pub fn find_file_on_walk(policy: &Policy, name: &[u8]) -> Option<usize>
+fn find_file_on_walk(policy: &Policy, name: &[u8]) -> Option<usize>
     ensures { result ≡ number_of_file_on_walk name.now policy.now }
 {
     let mut left = policy.numbers_of_files_on_walk();
@@ -82,7 +83,7 @@ pub fn find_file_on_walk(policy: &Policy, name: &[u8]) -> Option<usize>
 /// # Errors
 ///
 /// Memory ran out.
-pub fn find_equal_lines(
+fn find_equal_lines(
     policy: &Policy,
     file: usize,
     wanted: &GivenLine,
@@ -97,6 +98,21 @@ pub fn find_equal_lines(
         }
     }
     Ok(numbers)
+}
+
+/// Returns how many lines of the file `name` are `text`, but for their line ends; 0 if no file on the walk has the name.
+///
+/// # Errors
+///
+/// Memory ran out.
+pub fn count_equal_lines(policy: &Policy, name: &[u8], text: &[u8]) -> Result<usize, AllocError>
+    ensures { IfOk result (λ count. count ≡ option_map_or (λ f. length (numbers_of_passing (is_line_of_text text.now) 0 (line_texts_of_file policy.now f))) (number_of_file_on_walk name.now policy.now) 0) }
+{
+    let Some(file) = find_file_on_walk(policy, name) else {
+        return Ok(0);
+    };
+    let line = GivenLine::from_text(policy.allocator(), text)?;
+    Ok(find_equal_lines(policy, file, &line)?.as_slice().len())
 }
 
 /// Returns the number of the line of the file `file` before which a new line goes.

@@ -21,7 +21,8 @@ use std::alloc::{AllocError, Global};
 use std::io::{IsTerminal, Write};
 use sudoers_edit_script::write_script;
 use sudoers_explain::make_shown_row;
-use sudoers_plan::{EditFault, PlanFault, PlanRefusal, Wish, WishFault, append_refusal_text, plan};
+use sudoers_explain_edits::append_refusal_text;
+use sudoers_plan::{EditFault, PlanFault, PlanRefusal, Wish, WishFault, plan};
 use sudoers_run::{EditInputShape, LayerFault, ToolFault, fault_text, make_edit_output_of_files};
 use sudoers_tree::{NamedFile, Policy};
 

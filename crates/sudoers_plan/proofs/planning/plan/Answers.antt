@@ -1,4 +1,4 @@
-use Rattle.std.proofs.Common.{◌≡◌, ◌⊎◌, [], None, Some, Ok, Err, inr, arith}
+use Rattle.std.proofs.Common.{◌≡◌, [], None, Some, Ok, inr, arith}
 use Rattle.std.proofs.lemmas.Grind.{common_steps}
 use Rattle.sudoers_edit.specs.Editing.{policy_or_first_refusal}
 use Rattle.sudoers_plan.specs.Plan.{first_unmet_wish, planned_for_wishes}

@@ -1,13 +1,10 @@
 //! The words that tell why a wish is refused.
 
-use crate::fault::PlanFault;
-use crate::line_text::GivenLine;
-use crate::line_wishes::{find_equal_lines, find_file_on_walk};
-use crate::wish::{LinePlace, Wish};
+use crate::name_refusals::find_similar_alias_name;
 use std::alloc::AllocError;
 use sudoers_edit::EditFault;
-use sudoers_explain_edits::find_similar_alias_name;
 use sudoers_grammar::{Kind, alias_keyword_of_kind};
+use sudoers_plan::{LinePlace, PlanFault, Wish, count_equal_lines};
 use sudoers_text::append_decimal_number;
 use sudoers_tree::{Policy, is_same_kind};
 
@@ -158,15 +155,6 @@ fn append_anchors(
     }
     out.extend_from_slice(anchor.as_slice())?;
     out.extend_from_slice(b"'")
-}
-
-/// Returns how many lines of the file `name` are `text`, but for their line ends.
-fn count_equal_lines(policy: &Policy, name: &[u8], text: &[u8]) -> Result<usize, AllocError> {
-    let Some(file) = find_file_on_walk(policy, name) else {
-        return Ok(0);
-    };
-    let line = GivenLine::from_text(policy.allocator(), text)?;
-    Ok(find_equal_lines(policy, file, &line)?.len())
 }
 
 /// Appends that the member is the only one.
