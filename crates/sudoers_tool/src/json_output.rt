@@ -17,7 +17,7 @@ use sudoers_run::{LayerFault, ToolFault, fault_text};
 use sudoers_tree::{LoadFault, NamedFile, Policy};
 
 /// The option that asks for a JSON document.
-const JSON: &str = "json";
+pub const JSON: &str = "json";
 
 /// The command that checks a policy.
 const CHECK: &str = "check";

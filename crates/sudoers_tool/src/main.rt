@@ -27,6 +27,7 @@ mod placed_files;
 mod placed_paths;
 mod plan_command;
 mod same_folders;
+mod show_members;
 mod subcommands;
 mod terminal;
 mod usage_errors;
@@ -53,6 +54,7 @@ use crate::kept_files::KeptFiles;
 use crate::list_command::run_list_command;
 use crate::place_command::{PLACE, run_place_command};
 use crate::plan_command::{PLAN, run_plan_command};
+use crate::show_members::{are_members_asked, run_show_members};
 use crate::subcommands::make_top_level_command;
 use crate::terminal::{open_standard_output, print_error_line};
 use crate::usage_errors::{
@@ -289,6 +291,9 @@ fn run_show_command(
 ) -> Result<u8, ToolFault> {
     if is_json_asked(words) {
         return run_show_as_json(rt, file, files);
+    }
+    if are_members_asked(words) {
+        return run_show_members(rt, file, files);
     }
     let mut writer = Counted::new(open_standard_output(rt));
     let root = file.as_bytes();

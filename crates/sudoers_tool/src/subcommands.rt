@@ -10,6 +10,7 @@ use crate::json_output::make_json_flag;
 use crate::list_command::make_list_subcommand;
 use crate::place_command::make_place_subcommand;
 use crate::plan_command::{PLAN, make_plan_subcommand};
+use crate::show_members::make_members_flag;
 use clap::{Arg, ArgAction, Command};
 use std::alloc::{AllocError, Global};
 
@@ -25,6 +26,7 @@ fn make_show_subcommand<'a>(alloc: Global) -> Result<Command<'a>, AllocError> {
     Command::new(alloc, "show")
         .about("Print the logical lines of a policy and its alias definitions, with their numbers")
         .arg(make_json_flag(alloc))?
+        .arg(make_members_flag(alloc)?)?
         .arg(make_root_folder_option(alloc))?
         .arg(make_policy_file_or_stdin_argument(alloc))
 }
