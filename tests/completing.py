@@ -25,11 +25,15 @@ SECONDS = 60
 
 FILES = ("policy", "web team", "a file with blanks")
 FOLDER = "sub"
-COMMANDS = ("apply", "check", "convert", "edit", "help", "list", "place", "show", "what", "who", "why")
+COMMANDS = ("apply", "check", "convert", "edit", "help", "list", "place", "plan", "show", "what", "who", "why")
 WITH_OPTIONS = tuple(name for name in COMMANDS if name != "help")
 OPTIONS_OF_APPLY = (
-    *("--allow-undefined", "--also", "--dry-run", "--explain", "-h", "--help"),
-    *("--plain", "--root", "--undo-file"),
+    *("--after", "--allow-undefined", "--also", "--before", "--dry-run", "--even-includes", "--explain", "-h", "--help"),
+    *("--plain", "--root", "--undo-file", "--wish"),
+)
+OPTIONS_OF_PLAN = (
+    *("--after", "--also", "--before", "--check", "--even-includes", "--explain", "-h", "--help"),
+    *("--plain", "--root"),
 )
 OPTIONS_OF_LIST = (
     *("-U", "--other-user", "-u", "--user", "-g", "--group", "--passwd", "--group-file"),
@@ -40,7 +44,7 @@ OPTIONS_OF_CHECK = (
     *("-h", "--help", "-q", "-s", "--root", "--skipped", "--all", "--json"),
     *("--error-status", "--explain", "--plain"),
 )
-OPTIONS_OF_SHOW = ("--error-status", "--explain", "-h", "--help", "--json", "--plain", "--root")
+OPTIONS_OF_SHOW = ("--error-status", "--explain", "-h", "--help", "--json", "--members", "--plain", "--root")
 OPTIONS_OF_MACHINE = (
     *("--policy", "--passwd", "--group-file", "--host", "--moment", "--interfaces", "--json"),
     *("--root", "--explain", "--plain", "-h", "--help"),
@@ -50,6 +54,7 @@ OPTIONS_OF_FOLDERS = ("--same", "--usr-merge", "--no-same")
 ALL_FILES = (*FILES, FOLDER)
 FORMS = ("json", "sudoers")
 KEYS = ("group=", "host=", "user=")
+WISHES = ("has ", "has-line ", "lacks ", "lacks-line ")
 
 ROWS = (
     (("",), COMMANDS),
@@ -165,6 +170,8 @@ ROWS = (
     (("show", ""), ALL_FILES),
     (("show", "s"), ("sub",)),
     (("show", "-"), OPTIONS_OF_SHOW),
+    (("show", "--m"), ("--members",)),
+    (("show", "--members", "w"), ("web team",)),
     (("show", "--error-status", "p"), ()),
     (("show", "--plain", "p"), ("policy",)),
     (("show", "--root", "s"), (FOLDER,)),
@@ -193,7 +200,9 @@ ROWS = (
     (("edit", "--r"), ("--redo", "--root")),
     (("edit", "--undo", ""), ()),
     (("edit", "--undo", "1", "--re"), ("--redo",)),
-    (("p",), ("place",)),
+    (("p",), ("place", "plan")),
+    (("pla",), ("place", "plan")),
+    (("plac",), ("place",)),
     (("place", ""), ALL_FILES),
     (("place", "w"), ("web team",)),
     (("place", "-"), ("--explain", "-h", "--help", "--plain", "--root", "--undo")),
@@ -208,12 +217,47 @@ ROWS = (
     (("place", "--undo", "--root", "sub", "p"), ("policy",)),
     (("place", "policy", "w"), ()),
     (("place", "policy", "--u"), ("--undo",)),
+    (("plan",), ("plan",)),
+    (("plan", ""), ALL_FILES),
+    (("plan", "w"), ("web team",)),
+    (("plan", "-"), OPTIONS_OF_PLAN),
+    (("plan", "--a"), ("--after", "--also")),
+    (("plan", "--b"), ("--before",)),
+    (("plan", "--c"), ("--check",)),
+    (("plan", "--e"), ("--even-includes", "--explain")),
+    (("plan", "--p"), ("--plain",)),
+    (("plan", "--also", ""), ALL_FILES),
+    (("plan", "--also=w"), ("web team",)),
+    (("plan", "--also", "policy", "--also", "p"), ("policy",)),
+    (("plan", "--root", ""), (FOLDER,)),
+    (("plan", "--root=s"), (FOLDER,)),
+    (("plan", "--root", "p"), ()),
+    (("plan", "--after", "p"), ()),
+    (("plan", "--before", "p"), ()),
+    (("plan", "--after", "x", "p"), ("policy",)),
+    (("plan", "--before=x", "--check", "w"), ("web team",)),
+    (("plan", "--root", "sub", "--even-includes", "p"), ("policy",)),
+    (("plan", "policy", ""), WISHES),
+    (("plan", "policy", "p"), ()),
+    (("plan", "policy", "h"), ("has ", "has-line ")),
+    (("plan", "policy", "lacks-"), ("lacks-line ",)),
+    (("plan", "policy", "'"), WISHES),
+    (("plan", "policy", "'l"), ("lacks ", "lacks-line ")),
+    (("plan", "policy", "'has user A"), ()),
+    (("plan", "policy", '"has-'), ("has-line ",)),
+    (("plan", "policy", "'has user A bob'", "'h"), ("has ", "has-line ")),
+    (("plan", "policy", "'has-line policy a b=c'", ""), WISHES),
+    (("plan", "policy", "'has user A bob'", "--c"), ("--check",)),
+    (("plan", "policy", "--after", "x", "'l"), ("lacks ", "lacks-line ")),
+    (("plan", "policy", "-", "h"), ("has ", "has-line ")),
+    (("plan", "--", "policy", "h"), ("has ", "has-line ")),
     (("apply", ""), ALL_FILES),
     (("apply", "w"), ("web team",)),
     (("apply", "-"), OPTIONS_OF_APPLY),
-    (("apply", "--a"), ("--allow-undefined", "--also")),
+    (("apply", "--a"), ("--after", "--allow-undefined", "--also")),
+    (("apply", "--b"), ("--before",)),
     (("apply", "--d"), ("--dry-run",)),
-    (("apply", "--e"), ("--explain",)),
+    (("apply", "--e"), ("--even-includes", "--explain")),
     (("apply", "--p"), ("--plain",)),
     (("apply", "--u"), ("--undo-file",)),
     (("apply", "--undo-file", ""), ALL_FILES),
@@ -233,6 +277,20 @@ ROWS = (
     (("apply", "-", "p"), ("policy",)),
     (("apply", "policy", "policy", "w"), ()),
     (("apply", "policy", "policy", "--dr"), ("--dry-run",)),
+    (("apply", "--w"), ("--wish",)),
+    (("apply", "--wish", ""), WISHES),
+    (("apply", "--wish", "'h"), ("has ", "has-line ")),
+    (("apply", "--wish="), WISHES),
+    (("apply", "--wish='lacks-"), ("lacks-line ",)),
+    (("apply", "--wish", "p"), ()),
+    (("apply", "--wish", "'has user A bob'", "p"), ("policy",)),
+    (("apply", "--wish='has user A bob'", "p"), ("policy",)),
+    (("apply", "--wish", "'has user A bob'", "--wish", "'l"), ("lacks ", "lacks-line ")),
+    (("apply", "--wish", "'has user A bob'", "--w"), ("--wish",)),
+    (("apply", "--wish", "'has user A bob'", "policy", "p"), ()),
+    (("apply", "policy", "--wish", "'has user A bob'", "p"), ()),
+    (("apply", "--after", "p"), ()),
+    (("apply", "--before", "x", "--even-includes", "w"), ("web team",)),
     (("wh",), ("what", "who", "why")),
     (("who",), ("who",)),
     (("who", ""), ALL_FILES),
@@ -285,7 +343,7 @@ ROWS = (
     (("help", ""), WITH_OPTIONS),
     (("help", "a"), ("apply",)),
     (("help", "wh"), ("what", "who", "why")),
-    (("help", "p"), ("place",)),
+    (("help", "p"), ("place", "plan")),
     (("help", "s"), ("show",)),
     (("help", "show", ""), ()),
 )

@@ -7,10 +7,11 @@ the page is a scratch folder.
 
 DIAGNOSTICS has to list each error that the program can print: each variant of
 the fault types, with the text that FaultText.antt states for it. Its errors of
-`place` and `apply` are the words that their sources print. The advices of
-an item are those that scripts/diagnostics puts there: the words of the hints that
-the item names. Each hint is named, and an item names just the hints that the
-tables of explanations show below its error.
+`place` and `apply` are the words that their sources print. Those of a wish are
+the texts of `PlanFault` and the errors of edits. The advices of an item are those
+that scripts/diagnostics puts there: the words of the hints that the item names.
+Each hint is named, and an item names just the hints that the tables of
+explanations show below its error.
 """
 
 import glob
@@ -74,6 +75,11 @@ CARRIED = "ERROR"
 SOURCES_OF_PLACE = ("crates/sudoers_tool/src/place*.rt", "crates/sudoers_tool/src/apply_command.rt")
 LIST_OF_PLACE = ".Ss Errors of place and apply\n"
 OF_BUNDLE = ("BadBundle", "SameName")
+
+# The source with the errors of a wish, their list, and the errors of edits that it has too.
+SOURCE_OF_WISHES = "crates/sudoers_plan/src/fault.rt"
+LIST_OF_WISHES = ".Ss Errors of a wish\n"
+OF_EDITS = ("OnlyOne", "ERROR")
 
 # The files that PEOPLE stands for in a text.
 PEOPLE = ("passwd", "group")
@@ -246,9 +252,20 @@ def errors_of_place():
     return {*re.findall(r'\bb"([A-Z][a-z]\w*)"', "".join(map(read, paths))), *OF_BUNDLE}
 
 
+def errors_of_wishes():
+    """Returns the errors of a wish."""
+    words = set(re.findall(r'#\[error\("([A-Z]\w*)"\)\]', read(SOURCE_OF_WISHES))) - {"NoMemory"}
+    return {f"WISH: {word}" for word in (*words, *OF_EDITS)}
+
+
 def items_of(lines):
     """Returns the items of some lines of DIAGNOSTICS."""
     return [line[len(".It ") :].replace('"', "") for line in lines if line.startswith(".It ")]
+
+
+def items_below(head, lines):
+    """Returns the items of the first list after a line of DIAGNOSTICS."""
+    return items_of("\n".join(lines).partition(head)[2].partition("\n.El")[0].splitlines())
 
 
 def run_errors(tally):
@@ -260,6 +277,7 @@ def run_errors(tally):
     tally.note("manual page, variants", difference("variants", named, sorted(known)))
     printed = Counter(text.replace("PEOPLE", file) for text in known.values() for file in PEOPLE[: 1 + ("PEOPLE" in text)])
     printed.update(errors_of_place())
+    printed.update(errors_of_wishes())
     wanted = set(printed) - {CARRIED} | set(notes())
     lines = section("DIAGNOSTICS")
     items = items_of(lines)
@@ -268,8 +286,10 @@ def run_errors(tally):
     twice = sorted(item for item in wanted if items.count(item) > max(printed[item], 1))
     problems += [f"{item!r} is there too often" for item in twice]
     tally.note("manual page, DIAGNOSTICS", problems)
-    below = items_of("\n".join(lines).partition(LIST_OF_PLACE)[2].partition("\n.El")[0].splitlines())
+    below = items_below(LIST_OF_PLACE, lines)
     tally.note("manual page, errors of place", difference("items", sorted(errors_of_place()), sorted(below)))
+    below = items_below(LIST_OF_WISHES, lines)
+    tally.note("manual page, errors of a wish", difference("items", sorted(errors_of_wishes()), sorted(below)))
     refusals = [item for item in items if item.startswith("edit N: ")]
     order = [known.get(("EditFault", variant)) for variant in declared["EditFault"]]
     order = [item for item in order if item in refusals]

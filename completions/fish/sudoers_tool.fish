@@ -14,8 +14,9 @@ function __sudoers_tool_plain_words
             set no_options yes
         else if test -z "$no_options"; and string match --quiet -- '-?*' $word
             # These options take the next word.
-            contains -- "$plain[1]" apply check convert edit list place show what who why; and contains -- $word --root --error-status; and set option $word
-            contains -- "$plain[1]" apply; and contains -- $word --also --undo-file; and set option $word
+            contains -- "$plain[1]" apply check convert edit list place plan show what who why; and contains -- $word --root --error-status; and set option $word
+            contains -- "$plain[1]" apply plan; and contains -- $word --also --after --before; and set option $word
+            contains -- "$plain[1]" apply; and contains -- $word --undo-file --wish; and set option $word
             contains -- convert $plain; and contains -- $word -f --form -m --match; and set option $word
             contains -- list $plain; and contains -- $word -U --other-user -u --user -g --group; and set option $word
             contains -- edit $plain; and contains -- $word --also --files --undo --redo; and set option $word
@@ -33,11 +34,26 @@ function __sudoers_tool_plain_words
 end
 
 # Succeeds if the command line has one of these commands, and the next word is its first argument. For check it may be a later one, and
-# for apply the second one.
+# for apply without a wish the second one.
 function __sudoers_tool_argument_of
     set -l plain (__sudoers_tool_plain_words); or return 1
     contains -- "$plain[1]" $argv; or return 1
-    test (count $plain) -eq 1; or test $plain[1] = check; or test $plain[1]:(count $plain) = apply:2
+    test (count $plain) -eq 1; or test $plain[1] = check; and return 0
+    test $plain[1]:(count $plain) = apply:2; and not string match --quiet -- '--wish*' (commandline -opc)
+end
+
+# Succeeds if the next word is a wish of plan.
+function __sudoers_tool_wish_of_plan
+    set -l plain (__sudoers_tool_plain_words); or return 1
+    test (count $plain) -ge 2; and test $plain[1] = plan
+end
+
+# Prints the first words of wishes.
+function __sudoers_tool_wishes
+    echo 'has '\t'KIND ALIAS MEMBER: the alias has the member'
+    echo 'has-line '\t'FILE TEXT: the file has the line'
+    echo 'lacks '\t'KIND ALIAS MEMBER: the alias lacks the member'
+    echo 'lacks-line '\t'FILE TEXT: the file lacks the line'
 end
 
 # Succeeds if the next word is the command of list, or a word after it.
@@ -111,6 +127,7 @@ complete -c sudoers_tool -n __fish_use_subcommand -a edit -d 'Apply an edit scri
 complete -c sudoers_tool -n __fish_use_subcommand -a help -d 'Print help'
 complete -c sudoers_tool -n __fish_use_subcommand -a list -d 'Print what a user may run on a host, or whether a command is allowed'
 complete -c sudoers_tool -n __fish_use_subcommand -a place -d 'Put the files that edit --files printed in place, all or none, or back'
+complete -c sudoers_tool -n __fish_use_subcommand -a plan -d 'Print the edits that make wishes true of a policy, as a script'
 complete -c sudoers_tool -n __fish_use_subcommand -a show -d 'Print the lines of a policy'
 complete -c sudoers_tool -n __fish_use_subcommand -a what -d 'Print what a user may run, with the places of the rules, and the Defaults that hold of him'
 complete -c sudoers_tool -n __fish_use_subcommand -a who -d 'Print who may run a command, with the rule that says so'
@@ -118,17 +135,23 @@ complete -c sudoers_tool -n __fish_use_subcommand -a why -d 'Print whether a use
 complete -c sudoers_tool -n '__fish_seen_subcommand_from apply' -l undo-file -r -F -d 'New file from which place --undo puts the files back'
 complete -c sudoers_tool -n '__fish_seen_subcommand_from apply' -l allow-undefined -d 'Accept edits that bring an undefined or a cyclic alias'
 complete -c sudoers_tool -n '__fish_seen_subcommand_from apply' -l dry-run -d 'Print the changed lines of each file, and write no file'
+complete -c sudoers_tool -n '__fish_seen_subcommand_from apply' -l wish -x -a '(__sudoers_tool_wishes)' -d 'Wish that is made true in place of a script'
+complete -c sudoers_tool -n '__fish_seen_subcommand_from apply plan' -l after -x -d 'Text of the line behind which has-line puts a new one'
+complete -c sudoers_tool -n '__fish_seen_subcommand_from apply plan' -l before -x -d 'Text of the line before which has-line puts a new one'
+complete -c sudoers_tool -n '__fish_seen_subcommand_from apply plan' -l even-includes -d 'Let lacks-line take an include line out'
+complete -c sudoers_tool -n '__fish_seen_subcommand_from plan' -l check -d 'Set the exit status 1 if there is something to do'
 complete -c sudoers_tool -n '__fish_seen_subcommand_from check' -s q -d 'Print no report; only set the exit status'
 complete -c sudoers_tool -n '__fish_seen_subcommand_from check' -s s -d 'Treat undefined and cyclic aliases as errors'
 complete -c sudoers_tool -n '__fish_seen_subcommand_from check' -l all -d 'Print the first error of each line of all files'
 complete -c sudoers_tool -n '__fish_seen_subcommand_from check show' -l json -d 'Print one JSON document, also for an error'
 complete -c sudoers_tool -n '__fish_seen_subcommand_from check' -l skipped -d 'List the folders and the files in included folders that are not read'
+complete -c sudoers_tool -n '__fish_seen_subcommand_from show' -l members -d 'Print each member of alias definitions and of rules, with its place and number'
 complete -c sudoers_tool -n '__fish_seen_subcommand_from convert' -s e -l expand-aliases -d 'Replace aliases by their members'
 complete -c sudoers_tool -n '__fish_seen_subcommand_from convert' -s f -l form -x -a 'json sudoers' -d 'Form of the output: sudoers or json'
 complete -c sudoers_tool -n '__fish_seen_subcommand_from convert' -s m -l match -x -a '(__sudoers_tool_filter)' -d 'Print only rules for some users, groups and hosts'
 complete -c sudoers_tool -n '__fish_seen_subcommand_from convert' -s p -l prune-matches -d 'With -m, drop other users and hosts from the lists'
 complete -c sudoers_tool -n '__fish_seen_subcommand_from edit' -l files -r -F -d 'Script for a policy and the files that it includes'
-complete -c sudoers_tool -n '__fish_seen_subcommand_from apply edit' -l also -r -F -d 'Further file, spelled as show spells it'
+complete -c sudoers_tool -n '__fish_seen_subcommand_from apply edit plan' -l also -r -F -d 'Further file, spelled as show spells it'
 complete -c sudoers_tool -n '__fish_seen_subcommand_from edit' -l undo -x -d 'Number of edits to take back after the script'
 complete -c sudoers_tool -n '__fish_seen_subcommand_from edit' -l redo -x -d 'Number of these edits to make again'
 complete -c sudoers_tool -n '__fish_seen_subcommand_from place' -l undo -d 'Put the files back as they were before the edits'
@@ -144,15 +167,16 @@ complete -c sudoers_tool -n __sudoers_tool_option_of_list -l interfaces -x -d 'A
 complete -c sudoers_tool -n __sudoers_tool_option_of_list -l same -x -d 'Two folders that are one, as /bin=/usr/bin'
 complete -c sudoers_tool -n __sudoers_tool_option_of_list -l usr-merge -d 'The folders of /usr are those of the root'
 complete -c sudoers_tool -n __sudoers_tool_option_of_list -l why -d 'Print the rule that decides'
-complete -c sudoers_tool -n '__fish_seen_subcommand_from apply check convert edit show' -l root -x -a '(__fish_complete_directories)' -d 'Folder that is the root for the policy and the files that it includes'
+complete -c sudoers_tool -n '__fish_seen_subcommand_from apply check convert edit plan show' -l root -x -a '(__fish_complete_directories)' -d 'Folder that is the root for the policy and the files that it includes'
 complete -c sudoers_tool -n __sudoers_tool_option_of_list -l root -x -a '(__fish_complete_directories)' -d 'Folder that is the root for the policy and the files that it includes'
 complete -c sudoers_tool -n '__fish_seen_subcommand_from check convert edit show' -l error-status -x -d 'Exit status of an error'
 complete -c sudoers_tool -n __sudoers_tool_option_of_list -l error-status -x -d 'Exit status of an error'
-complete -c sudoers_tool -n '__fish_seen_subcommand_from apply check convert edit place show' -l explain -d 'Explain an error, also where standard error is no terminal'
+complete -c sudoers_tool -n '__fish_seen_subcommand_from apply check convert edit place plan show' -l explain -d 'Explain an error, also where standard error is no terminal'
 complete -c sudoers_tool -n __sudoers_tool_option_of_list -l explain -d 'Explain an error, also where standard error is no terminal'
-complete -c sudoers_tool -n '__fish_seen_subcommand_from apply check convert edit place show' -l plain -d 'Print an error alone, also on a terminal'
+complete -c sudoers_tool -n '__fish_seen_subcommand_from apply check convert edit place plan show' -l plain -d 'Print an error alone, also on a terminal'
 complete -c sudoers_tool -n __sudoers_tool_option_of_list -l plain -d 'Print an error alone, also on a terminal'
-complete -c sudoers_tool -n '__sudoers_tool_argument_of apply check convert edit list place show' -F
+complete -c sudoers_tool -n '__sudoers_tool_argument_of apply check convert edit list place plan show' -F
+complete -c sudoers_tool -n __sudoers_tool_wish_of_plan -a '(__sudoers_tool_wishes)'
 complete -c sudoers_tool -n '__sudoers_tool_option_of who why' -s u -l user -x -a '(__fish_complete_users)' -d 'User as whom it would run'
 complete -c sudoers_tool -n '__sudoers_tool_option_of who why' -s g -l group -x -a '(__fish_complete_groups)' -d 'Group as which it would run'
 complete -c sudoers_tool -n '__sudoers_tool_option_of who' -l denied -d 'Print also the users whom a rule denies'
@@ -173,4 +197,4 @@ complete -c sudoers_tool -n '__sudoers_tool_option_of what who why' -l plain -d 
 complete -c sudoers_tool -n __sudoers_tool_word_of_list -F
 complete -c sudoers_tool -n __sudoers_tool_word_of_question -F
 complete -c sudoers_tool -n '__sudoers_tool_argument_of what why' -a '(__fish_complete_users)'
-complete -c sudoers_tool -n '__sudoers_tool_argument_of help' -a 'apply check convert edit list place show what who why'
+complete -c sudoers_tool -n '__sudoers_tool_argument_of help' -a 'apply check convert edit list place plan show what who why'
