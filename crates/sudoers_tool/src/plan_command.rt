@@ -19,6 +19,7 @@ use crate::wish_options::{
 use clap::{Arg, ArgAction, ArgMatches, Command};
 use std::alloc::{AllocError, Global};
 use std::io::{IsTerminal, Write};
+use sudoers_edit::Editor;
 use sudoers_edit_script::write_script;
 use sudoers_explain::make_shown_row;
 use sudoers_explain_edits::append_refusal_text;
@@ -179,7 +180,7 @@ pub fn make_planned_script(
     };
     let edits = match plan(&policy, given.wishes()) {
         Ok(edits) => edits,
-        Err(refusal) => return Err(make_refusal_error(alloc, &policy, given, refusal)),
+        Err(refusal) => return Err(make_refusal_error(alloc, policy, given, refusal)),
     };
     match write_script(alloc, edits.as_slice()) {
         Ok(script) => Ok(script),
@@ -187,17 +188,24 @@ pub fn make_planned_script(
     }
 }
 
-/// Returns the error of a refused wish.
+/// Returns the error of a refused wish. Its words are those of the policy as the wishes before it leave it.
 fn make_refusal_error(
     alloc: Global,
-    policy: &Policy,
+    policy: Policy,
     given: &GivenWishes,
     refusal: PlanRefusal,
 ) -> PlaceError {
     let PlanRefusal { wish, fault } = refusal;
+    let (before, _) = given.wishes().split_at(wish.min(given.wishes().len()));
+    let mut editor = Editor::new(policy);
+    if let Ok(edits) = plan(editor.policy(), before) {
+        let _ = editor.apply_all(edits.as_slice());
+    }
     let line = match (given.find_wish(wish), fault) {
         (None, _) | (_, PlanFault::NoMemory) => Err(AllocError),
-        (Some((wish, text)), fault) => make_refusal_line(alloc, policy, wish, text, fault),
+        (Some((wish, text)), fault) => {
+            make_refusal_line(alloc, editor.policy(), wish, text, fault)
+        }
     };
     match line {
         Ok(line) => PlaceError::Place(PlaceTrouble::from_text(alloc, line)),
