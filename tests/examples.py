@@ -96,8 +96,51 @@ def run_try(tally):
         tally.note(f"scripts/try, rt with status {status}", wanted.problems(Answer(done.stdout, done.stderr, done.returncode)))
 
 
+def words_of_task(line):
+    """The words of a line `argv: [WORD, ..]`, without quotes."""
+    return [word.strip('"') for word in line.partition("[")[2].rstrip("]").split(", ")]
+
+
+def run_tasks(program, tally):
+    """The tasks of Ansible find something to do, make it true, have nothing to do then, and put the old files back."""
+    with open(os.path.join(FOLDER, "ansible-tasks.yml"), encoding="utf-8") as file:
+        tasks = [words_of_task(line.strip()) for line in file if line.strip().startswith("argv:")]
+    plan, apply, seen, back = tasks
+    with tempfile.TemporaryDirectory() as folder:
+        shutil.copytree(os.path.join(FOLDER, SITE), os.path.join(folder, "etc"))
+
+        def done(words):
+            words = [os.path.join(folder, "undo") if word == "{{ undo }}" else word for word in words[1:]]
+            return run(program, [*words[:1], "--root", folder, *words[1:]], folder=folder)
+
+        script = b"add user ADMINS 3\n>, eve\ndrop user ADMINS 2\n"
+        tally.note("ansible-tasks.yml, something to do", Wanted(script, status=1).problems(done(plan)))
+        tally.note("ansible-tasks.yml, made so", Wanted(b"/etc/sudoers\n").problems(done(apply)))
+        tally.note("ansible-tasks.yml, nothing to do", Wanted().problems(done(plan)))
+        tally.note("ansible-tasks.yml, back", Wanted(b"/etc/sudoers\n").problems(done(back)))
+        tally.note("ansible-tasks.yml, something to do again", Wanted(script, status=1).problems(done(plan)))
+    tally.note("ansible-tasks.yml, visudo", [] if seen == ["visudo", "-c"] else [f"it calls {seen}"])
+
+
+def run_job(program, tally):
+    """The commands of the job accept a policy that is as it should be, and no other."""
+    with open(os.path.join(FOLDER, "ci-job.yml"), encoding="utf-8") as file:
+        lines = [line.partition("run: ")[2].strip() for line in file if line.strip().startswith("run: sudoers_tool ")]
+    with tempfile.TemporaryDirectory() as folder:
+        shutil.copytree(os.path.join(FOLDER, SITE), os.path.join(folder, "image", "etc"))
+        os.symlink(program, os.path.join(folder, "sudoers_tool"))
+        for wishes, statuses in (("has user ADMINS ann\n", [0, 0]), ("lacks user ADMINS ann\n", [0, 1]), ("has user NONE ann\n", [0, 3])):
+            with open(os.path.join(folder, "wishes"), "w", encoding="utf-8") as file:
+                file.write(wishes)
+            path = {"PATH": folder + ":" + os.environ["PATH"]}
+            came = [subprocess.run(["sh", "-c", line], cwd=folder, env=path, check=False, capture_output=True).returncode for line in lines]
+            tally.note(f"ci-job.yml, {wishes!r}", [] if came == statuses else [f"wanted {statuses}, came {came}"])
+
+
 def run_all(program, tally):
     """Runs each example, the demonstration and the trial."""
+    run_tasks(program, tally)
+    run_job(program, tally)
     run_demo(program, tally)
     run_try(tally)
     visudo = shutil.which("visudo", path=os.environ.get("PATH", "") + ":/usr/sbin")
