@@ -7,7 +7,7 @@ ghost use Rattle.sudoers_line_rows.specs.Alike.{is_same_member};
 ghost use Rattle.sudoers_line_rows.specs.Tables.{member_in_tables};
 ghost use Rattle.sudoers_line_rows.specs.View.{alias_definitions_of_view, members_of_view, node_of_view};
 ghost use Rattle.sudoers_tree.specs.Single.{reading_of_single_line};
-ghost use Rattle.sudoers_plan.specs.GivenText.{head_of_lone_list, is_member_listed, line_of_lone_list, only_member_between as between, only_member_of_definitions as of_definitions, only_member_of_line as of_line, text_with_percents_quoted};
+ghost use Rattle.sudoers_plan.specs.GivenText.{head_of_lone_list, is_member_listed, line_of_lone_list, only_member_between, only_member_of_definitions as of_definitions, only_member_of_line as of_line, text_with_percents_quoted};
 ghost use Rattle.sudoers_plan.specs.Plan.{numbers_of_passing};
 
 use std::alloc::{AllocError, Global};
@@ -81,18 +81,18 @@ fn only_member_of_definitions<'a>(
     match defs.rows {
         [row] => {
             let def = defs.tables.alias_definition_of_row(row);
-            only_member_between(&def.members, from, to)
+            find_only_member_between(&def.members, from, to)
         }
         _ => None,
     }
 }
 
-fn only_member_between<'a>(
+fn find_only_member_between<'a>(
     members: &RowsOfTable<'a, MemberRow>,
     from: usize,
     to: usize,
 ) -> Option<MemberInTables<'a>>
-    ensures { option_map (λ member. member_in_tables member.tables.now member.row.now) result ≡ between from to (members_of_view members.now) }
+    ensures { option_map (λ member. member_in_tables member.tables.now member.row.now) result ≡ only_member_between from to (members_of_view members.now) }
 {
     match members.rows {
         [row] => {
