@@ -293,6 +293,11 @@ BY_PROGRAM = {
         "place::place",
         "run::read_output_files",
     ),
+    "planning": (
+        "explain_edits::append_refusal_text",
+        "plan::count_equal_lines",
+        "plan::read_wish",
+    ),
     "asking_machine": (
         "ask::explain_user_answer",
         "ask::list_rights",

@@ -6,7 +6,9 @@ leaves each file as it was. Random policies and wishes are compared with a model
 
 import random
 
+from cases import Case
 from placing import Site, refusal
+from preload import with_library
 from program import Wanted
 from stand import Closed, Stand
 from tally import difference
@@ -197,8 +199,37 @@ def run_random(stand):
             stand.tally.note(f"{PART}: random policy {number}, {wishes}", difference("script", wanted, (came.stdout, came.status)))
 
 
+def run_growths(stand):
+    """If a growth of memory is refused, the answer is as with ample memory, or the error says so and nothing else is printed."""
+    words = (
+        ["plan", "main", "has user OPS eve", "lacks user TWICE eve", "has-line d/web # new"],
+        ["plan", "main", "lacks user OPS bob", "has user ADMNS bob"],
+        ["plan", "--after", "# end", "main", "has-line main # new"],
+        ["plan", "main", "has nothing"],
+    )
+
+    def check(library):
+        with Site(stand, SITE, script="") as site:
+            for asked in words:
+                ample = stand.run(asked, site.folder)
+                for refusal in ("refuse_growth", "refuse_from"):
+                    number, met = 0, True
+                    while met:
+                        number += 1
+                        case = Case("plan", tuple(asked), b"", None, folder=site.folder)
+                        came, report = library.run(stand.program, case, **{refusal: number})
+                        met = report.met
+                        told = (came.stdout, came.stderr, came.status)
+                        allowed = [(ample.stdout, ample.stderr, ample.status)]
+                        allowed += [(b"", text, status) for text in (b"sudoers_tool: NoMemory\n", b"") for status in (1, 3)]
+                        problems = [] if told in allowed else [f"{told}"]
+                        stand.tally.note(f"{PART}: {asked}, {refusal} {number}", problems)
+
+    with_library(stand.tally, check)
+
+
 def run_all(program, tally):
     """Runs all of it."""
     stand = Stand(PART, program, tally)
-    for run in (run_plans, run_refused, run_standard_input, run_random):
+    for run in (run_plans, run_refused, run_standard_input, run_random, run_growths):
         run(stand)
