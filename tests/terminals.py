@@ -53,6 +53,14 @@ SHOWN = (
         1,
     ),
     ("a_name_of_a_missing_file", {}, "show \x1b[2J", b"sudoers_tool: NoRoot\n  = help: \\x1b[2J: no such file\n", 1),
+    (
+        "a_plan",
+        {"main": "User_Alias OPS = bob\nOPS ALL = ALL\n"},
+        ["plan", "main", "has user OPS eve"],
+        b"main:\n-User_Alias OPS = bob\n+User_Alias OPS = bob, eve\n",
+        0,
+    ),
+    ("a_plan_of_nothing", {"main": "User_Alias OPS = bob\n"}, ["plan", "main", "has user OPS bob"], b"", 0),
     ("a_listing", HOSTILE, f"{ASKED} bob main", b"bob on h:\n    (root) /bin/a\\x1b[2J\n    (root) /bin/a\\x7f\n", 0),
     ("a_reason", HOSTILE, f"{ASKED} bob --why main /bin/a\x7f", b"main:1:23: allowed by: (root) /bin/a\\x7f\n", 0),
     ("names_of_files", {"main": "@includedir d\n", "d/\x1bx": "# a\n"}, "show main", b"file 1 main\n1 include 1\nfile 2 d/\\x1bx\n1 comment 1\n", 0),
@@ -157,10 +165,11 @@ def run_row(stand, row):
 def run_shown(stand, row):
     """Runs a row with each of its streams on a terminal: standard output and then standard error show the text."""
     name, tree, words, text, status = row
+    words = words.split(" ") if isinstance(words, str) else words
     with Folder({**PEOPLE, **tree}) as folder:
         shown = b""
         for stream in ("stdout", "stderr"):
-            came = run_on_terminal(stand.program, words.split(" "), folder, stream)
+            came = run_on_terminal(stand.program, words, folder, stream)
             shown += getattr(came, stream)
             stand.tally.note(f"{PART}: {name}, {stream}", difference("status", status, came.status))
         stand.tally.note(f"{PART}: {name}", difference("shown", text, shown))
