@@ -4,7 +4,10 @@ A case has wishes, and the script that makes them true. After the script the sam
 leaves each file as it was. Random policies and wishes are compared with a model, which knows lists of names alone.
 """
 
+import os
 import random
+import shutil
+import subprocess
 
 from cases import Case
 from placing import Site, refusal
@@ -199,6 +202,20 @@ def run_random(stand):
             stand.tally.note(f"{PART}: random policy {number}, {wishes}", difference("script", wanted, (came.stdout, came.status)))
 
 
+def run_visudo(stand):
+    """What `apply` puts in place for wishes passes `visudo -c`."""
+    visudo = shutil.which("visudo", path="/usr/sbin:/sbin:/usr/bin:/bin")
+    if visudo is None or os.geteuid() != 0:
+        stand.tally.skip(f"{PART}: visudo -c", "visudo is missing, or this is not root")
+        return
+    for words, script in PLANS:
+        if script:
+            with Site(stand, SITE, script=script) as site:
+                stand.run(apply_words(words), site.folder)
+                done = subprocess.run([visudo, "-c", "-f", "main"], cwd=site.folder, capture_output=True, check=False)
+                stand.tally.note(f"{PART}: visudo -c after {words}", [] if done.returncode == 0 else [f"{done.stdout} {done.stderr}"])
+
+
 def run_growths(stand):
     """If a growth of memory is refused, the answer is as with ample memory, or the error says so and nothing else is printed."""
     words = (
@@ -231,5 +248,5 @@ def run_growths(stand):
 def run_all(program, tally):
     """Runs all of it."""
     stand = Stand(PART, program, tally)
-    for run in (run_plans, run_refused, run_standard_input, run_random, run_growths):
+    for run in (run_plans, run_refused, run_standard_input, run_random, run_visudo, run_growths):
         run(stand)
