@@ -84,8 +84,13 @@ pub fn run_plan_command(rt: &HostRuntime, words: &ArgMatches<'_>) -> u8 {
     };
     let mut explanation = EditExplanation::new(rt.alloc(), are_errors_explained(rt, words));
     match print_plan(rt, words, &given, &mut explanation) {
-        Ok(true) if words.get_flag(CHECK) => UNMET_STATUS,
-        Ok(_) => 0,
+        Ok(is_something_to_do) => {
+            if is_something_to_do && words.get_flag(CHECK) {
+                UNMET_STATUS
+            } else {
+                0
+            }
+        }
         Err(error) => print_edit_error_and_get_status(rt, words, error, &mut explanation),
     }
 }
