@@ -201,7 +201,8 @@ fn make_refusal_error(
     refusal: PlanRefusal,
 ) -> PlaceError {
     let PlanRefusal { wish, fault } = refusal;
-    let (before, _) = given.wishes().split_at(wish.min(given.wishes().len()));
+    let wishes = given.wishes();
+    let (before, _) = wishes.split_at(wish.min(wishes.len()));
     let mut editor = Editor::new(policy);
     if let Ok(edits) = plan(editor.policy(), before) {
         let _ = editor.apply_all(edits.as_slice());
