@@ -16,7 +16,7 @@ pub enum PlanFault {
     /// No file on the walk has this name.
     #[error("NoFile")]
     NoFile,
-    /// The text, with LF behind it, is not exactly one logical line.
+    /// The text with LF after it is not exactly one logical line.
     #[error("BadLine")]
     BadLine,
     /// An include line would be removed.

@@ -69,7 +69,7 @@ pub fn find_edits_to_lack_member(
     Ok(make_member_drops(alloc, kind, alias, numbers)?)
 }
 
-/// Returns the edit that puts a member behind the last one, before the place `at`.
+/// Returns the edit that adds the member `text` after the last one, at the place `at`.
 fn make_member_addition(
     alloc: Global,
     kind: Kind,

@@ -36,10 +36,10 @@ pub enum Wish {
 /// Where a new line goes.
 #[derive(Debug, Drop)]
 pub enum LinePlace {
-    /// Behind the last line.
+    /// After the last line.
     End,
-    /// Behind the one line that is this text.
+    /// After the only line with this text.
     After(Text),
-    /// Before the one line that is this text.
+    /// Before the only line with this text.
     Before(Text),
 }

@@ -9,9 +9,9 @@ use thiserror::Error;
 /// What holds for all wishes of lines of a call.
 #[derive(Clone, Copy, Debug)]
 pub struct WishOptions<'a> {
-    /// The text of the line behind which a new line goes.
+    /// A new line goes after the line with this text.
     pub after: Option<&'a str>,
-    /// The text of the line before which a new line goes.
+    /// A new line goes before the line with this text.
     pub before: Option<&'a str>,
     /// Whether an include line may be removed.
     pub even_includes: bool,
@@ -173,7 +173,7 @@ fn split_at_given_byte(text: &[u8], at: Option<usize>) -> (&[u8], Option<&[u8]>)
     }
 }
 
-/// Returns the number of the first blank of `text` before which no backslash stands.
+/// Returns the number of the first blank of `text` that has no backslash before it.
 fn offset_of_open_blank(text: &[u8]) -> Option<usize> {
     let mut before = b'/';
     for (at, byte) in text.iter().enumerate() {

@@ -11,10 +11,10 @@ use sudoers_plan::{Wish, WishFault, WishOptions, WishPart, read_wish};
 /// The argument or option that gives a wish.
 pub const WISH: &str = "WISH";
 
-/// The option with the line behind which a new line goes.
+/// The option that puts a new line after a line.
 const AFTER: &str = "after";
 
-/// The option with the line before which a new line goes.
+/// The option that puts a new line before a line.
 const BEFORE: &str = "before";
 
 /// The flag that lets include lines be removed.
@@ -100,13 +100,15 @@ pub fn add_wish_options<'a>(
     let after = Arg::new(alloc, AFTER)
         .long(AFTER)
         .value_name("TEXT")
-        .help("Put a new line behind the one line that is TEXT; without it behind the last line")
+        .help(
+            "Put a new line after the only line that is TEXT; without this option, after the last line",
+        )
         .requires_arg(WISH)?
         .conflicts_with(BEFORE)?;
     let before = Arg::new(alloc, BEFORE)
         .long(BEFORE)
         .value_name("TEXT")
-        .help("Put a new line before the one line that is TEXT")
+        .help("Put a new line before the only line that is TEXT")
         .requires_arg(WISH)?;
     let even_includes = Arg::new(alloc, EVEN_INCLUDES)
         .long(EVEN_INCLUDES)
