@@ -13,7 +13,7 @@ use Rattle.sudoers_list_people.specs.internal.Slices.{texts_of_view}
 use Rattle.sudoers_list_people.specs.People.{rows_of_file_text, first_fault_in_people_file, bad_row_fault}
 use Rattle.sudoers_list_people.specs.declared.fault.PeopleFile.{PeopleFile}
 use Rattle.sudoers_list_people.specs.declared.fault.PeopleFault.TheVariants.{TooLarge}
-use Rattle.sudoers_list_people.proofs.Keys.{any_by_key_is_any_of_keys}
+use Rattle.sudoers_names.proofs.Keys.{any_by_key_is_any_of_keys}
 
 -- What is the same as another is the same as all that it is.
 pub record IsKeyEquality {X : Type 0} (same : X → X → Bool) : Type 0 where

@@ -10,7 +10,6 @@ mod passwd_and_group_row_reading;
 mod people;
 mod reading;
 mod request;
-mod seen_names;
 mod text_pieces;
 mod who;
 

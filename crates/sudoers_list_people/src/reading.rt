@@ -13,9 +13,9 @@ use crate::fault::{PeopleFault, PeopleFile};
 use crate::passwd_and_group_row_reading::{
     is_skipped_account_row, read_group_row, read_passwd_row,
 };
-use crate::seen_names::SeenNames;
 use crate::text_pieces::split_text_at_byte;
 use std::alloc::{AllocError, Global};
+use sudoers_names::NameSet;
 use sudoers_text::TEXT_LIMIT;
 
 /// Reads the text of passwd.
@@ -32,7 +32,7 @@ pub fn read_passwd_text(alloc: Global, text: &[u8]) -> Result<Vec<PasswdAccount>
         return Err(PeopleFault::TooLarge);
     }
     let mut accounts = Vec::new(alloc);
-    let mut seen = SeenNames::new(alloc);
+    let mut seen = NameSet::new(alloc);
     let rows = split_text_at_byte(alloc, b'\n', text)?;
     for (at, row) in rows.iter().enumerate() {
         if !add_passwd_row(alloc, &mut accounts, &mut seen, row)? {
@@ -48,7 +48,7 @@ pub fn read_passwd_text(alloc: Global, text: &[u8]) -> Result<Vec<PasswdAccount>
 fn add_passwd_row(
     alloc: Global,
     accounts: &mut Vec<PasswdAccount>,
-    seen: &mut SeenNames,
+    seen: &mut NameSet,
     row: &[u8],
 ) -> Result<bool, AllocError>
     requires { seen.old ≡ map (λ (a : AccountOf). a.name) accounts.old.items }
@@ -82,7 +82,7 @@ pub fn read_group_text(alloc: Global, text: &[u8]) -> Result<Vec<GroupFileRow>, 
         return Err(PeopleFault::TooLarge);
     }
     let mut groups = Vec::new(alloc);
-    let mut seen = SeenNames::new(alloc);
+    let mut seen = NameSet::new(alloc);
     let rows = split_text_at_byte(alloc, b'\n', text)?;
     for (at, row) in rows.iter().enumerate() {
         if !add_group_row(alloc, &mut groups, &mut seen, row)? {
@@ -98,7 +98,7 @@ pub fn read_group_text(alloc: Global, text: &[u8]) -> Result<Vec<GroupFileRow>, 
 fn add_group_row(
     alloc: Global,
     groups: &mut Vec<GroupFileRow>,
-    seen: &mut SeenNames,
+    seen: &mut NameSet,
     row: &[u8],
 ) -> Result<bool, AllocError>
     requires { seen.old ≡ map (λ (g : GroupOf). g.name) groups.old.items }

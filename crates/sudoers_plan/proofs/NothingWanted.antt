@@ -14,7 +14,8 @@ use Rattle.sudoers_plan.specs.declared.fault.PlanFault.TheVariants.{BadMember, N
 use Rattle.sudoers_plan.specs.declared.wish.Wish.{Wish}
 use Rattle.sudoers_plan.specs.declared.wish.Wish.TheVariants.{HasMember, LacksMember, HasLine, LacksLine}
 use Rattle.sudoers_plan.specs.GivenText.{is_line_of_text, is_member_listed, is_text_of_include_line, is_text_of_one_line, member_of_text}
-use Rattle.sudoers_plan.specs.Plan.{MeetsAllWishes, MeetsWish, edits_putting_line, edits_wanted_by, first_unmet_wish, is_nothing_wanted, line_texts_of_file, number_of_file_on_walk, number_of_new_line, numbers_of_passing, plan_result_and_then, planned_for_wish, planned_for_wishes, policy_after_wanted_edits, numbered_result_and_then, result_or_fault_if_none}
+use Rattle.sudoers_plan.specs.Plan.{MeetsAllWishes, MeetsWish, edits_putting_line, edits_wanted_by, first_unmet_wish, is_nothing_wanted, line_texts_of_file, number_of_file_on_walk, number_of_new_line, plan_result_and_then, planned_for_wish, planned_for_wishes, policy_after_wanted_edits, numbered_result_and_then, result_or_fault_if_none}
+use Rattle.sudoers_plan.specs.Numbers.{numbers_of_passing}
 
 -- NUMBERS OF ITEMS THAT PASS A TEST
 

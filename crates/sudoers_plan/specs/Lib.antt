@@ -1,2 +1,4 @@
 pub mod GivenText
+pub mod Numbers
 pub mod Plan
+pub mod User

@@ -18,9 +18,11 @@ use Rattle.sudoers_edit.specs.Editing.{policy_or_first_refusal}
 use Rattle.sudoers_plan.specs.declared.fault.PlanFault.{PlanFault}
 use Rattle.sudoers_plan.specs.declared.fault.PlanFault.TheVariants.{BadMember, NoAlias, NoFile, BadLine, IncludeLine, NoAnchor, SeveralAnchors, Refused, NotMet, NoMemory}
 use Rattle.sudoers_plan.specs.declared.wish.Wish.{Wish}
-use Rattle.sudoers_plan.specs.declared.wish.Wish.TheVariants.{HasMember, LacksMember, HasLine, LacksLine}
+use Rattle.sudoers_plan.specs.declared.wish.Wish.TheVariants.{HasMember, LacksMember, HasLine, LacksLine, NoUser}
 use Rattle.sudoers_plan.specs.declared.wish.LinePlace.{LinePlace}
 use Rattle.sudoers_plan.specs.declared.wish.LinePlace.TheVariants.{End, After, Before}
+use Rattle.sudoers_plan.specs.Numbers.{numbers_of_passing}
+use Rattle.sudoers_plan.specs.User.{edits_to_lose_user, is_user_named_in_lines}
 use Rattle.sudoers_plan.specs.GivenText.{member_of_text, is_member_listed, text_with_percents_quoted, is_text_of_one_line, is_line_of_text, is_text_of_include_line}
 
 -- WHICH POLICIES MEET A WISH
@@ -55,6 +57,7 @@ MeetsWish policy (HasMember k alias text) = IsMemberListedAs true k alias text p
 MeetsWish policy (LacksMember k alias text) = IsMemberListedAs false k alias text policy
 MeetsWish policy (HasLine name text place) = IsLineThereAs true name text policy
 MeetsWish policy (LacksLine name text even_includes) = IsLineThereAs false name text policy
+MeetsWish policy (NoUser user even_denials) = is_user_named_in_lines user policy.walk.lines policy.walk.lines ≡ false
 
 unfoldable pub MeetsAllWishes : LoadedPolicy → List Wish → Type 0
 MeetsAllWishes policy wishes = AllByRecursion (MeetsWish policy) wishes
@@ -70,11 +73,6 @@ result_or_fault_if_none (Some x) fault next = next x
 abbrev pub plan_result_and_then : {A B : Type 0} → Result A PlanFault → (A → Result B PlanFault) → Result B PlanFault
 plan_result_and_then (Ok x) next = next x
 plan_result_and_then (Err fault) next = Err fault
-
--- the numbers, counted from n on, of the items that pass a test
-abbrev pub numbers_of_passing : {X : Type 0} → (X → Bool) → ℕ → List X → List ℕ
-numbers_of_passing test n [] = []
-numbers_of_passing test n (x ∷ xs) = if test x then n ∷ numbers_of_passing test (n + 1) xs else numbers_of_passing test (n + 1) xs
 
 -- MEMBERS
 
@@ -148,6 +146,7 @@ edits_wanted_by (HasMember k alias text) policy = edits_to_have_member k alias t
 edits_wanted_by (LacksMember k alias text) policy = edits_to_lack_member k alias text policy
 edits_wanted_by (HasLine name text place) policy = edits_to_have_line name text place policy
 edits_wanted_by (LacksLine name text even_includes) policy = edits_to_lack_line name text even_includes policy
+edits_wanted_by (NoUser user even_denials) policy = edits_to_lose_user user even_denials policy
 
 -- PLANS
 

@@ -2,6 +2,7 @@
 
 use std::alloc::{AllocError, AllocFailed};
 use sudoers_edit::EditFault;
+use sudoers_tree::WalkLineSpot;
 use thiserror::Error;
 
 /// Why a wish cannot be made true.
@@ -28,6 +29,12 @@ pub enum PlanFault {
     /// Several lines of the file are the text that says where the new line goes.
     #[error("SeveralAnchors")]
     SeveralAnchors,
+    /// The line at `at` denies something to the user, or to an alias in which he stands. Without him it could let him in.
+    #[error("Denial")]
+    Denial { at: WalkLineSpot },
+    /// The line at `at` is for aliases that would go, and would be for all users.
+    #[error("EmptiedScope")]
+    EmptiedScope { at: WalkLineSpot },
     /// An edit that the wish wants is refused.
     #[error("{0}")]
     Refused(EditFault),

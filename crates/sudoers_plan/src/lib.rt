@@ -7,6 +7,10 @@ mod line_wishes;
 mod member_text;
 mod member_wishes;
 mod planning;
+mod user_aliases;
+mod user_lines;
+mod user_members;
+mod user_wish;
 mod wish;
 mod wish_words;
 

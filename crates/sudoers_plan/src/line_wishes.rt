@@ -3,7 +3,8 @@
 ghost use Rattle.std.specs.Prelude.{◌≡◌, ◌++◌, ◌∷◌, ◌-◌, [], length, map, reverse, slice_get, IfOk, MatchResult};
 ghost use Rattle.std.specs.Option.{option_map_or};
 ghost use Rattle.sudoers_plan.specs.GivenText.{is_line_of_text};
-ghost use Rattle.sudoers_plan.specs.Plan.{IsFaultOrNoMemory, IsOutcomeUnlessNoMemory, edits_putting_line, edits_to_have_line, edits_to_lack_line, is_line_without_lf, line_texts_of_file, number_of_file_on_walk, number_of_new_line, numbers_of_passing, only_anchor_number};
+ghost use Rattle.sudoers_plan.specs.Plan.{IsFaultOrNoMemory, IsOutcomeUnlessNoMemory, edits_putting_line, edits_to_have_line, edits_to_lack_line, is_line_without_lf, line_texts_of_file, number_of_file_on_walk, number_of_new_line, only_anchor_number};
+ghost use Rattle.sudoers_plan.specs.Numbers.{numbers_of_passing};
 
 use crate::fault::PlanFault;
 use crate::line_text::GivenLine;

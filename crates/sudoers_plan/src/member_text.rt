@@ -8,7 +8,7 @@ ghost use Rattle.sudoers_line_rows.specs.Tables.{member_in_tables};
 ghost use Rattle.sudoers_line_rows.specs.View.{alias_definitions_of_view, members_of_view, node_of_view};
 ghost use Rattle.sudoers_tree.specs.Single.{reading_of_single_line};
 ghost use Rattle.sudoers_plan.specs.GivenText.{head_of_lone_list, is_member_listed, line_of_lone_list, only_member_between, only_member_of_definitions as of_definitions, only_member_of_line as of_line, text_with_percents_quoted};
-ghost use Rattle.sudoers_plan.specs.Plan.{numbers_of_passing};
+ghost use Rattle.sudoers_plan.specs.Numbers.{numbers_of_passing};
 
 use std::alloc::{AllocError, Global};
 use sudoers_edit_script::Text;

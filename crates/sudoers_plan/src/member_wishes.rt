@@ -1,6 +1,6 @@
 //! The edits that wishes of members want.
 
-ghost use Rattle.std.specs.Prelude.{◌≡◌, ◌++◌, codes, map, reverse, IfOk};
+ghost use Rattle.std.specs.Prelude.{◌≡◌, ◌++◌, codes, map, reverse, IfOk, OnOk};
 ghost use Rattle.sudoers_plan.specs.GivenText.{text_with_percents_quoted};
 ghost use Rattle.sudoers_plan.specs.Plan.{IsOutcomeUnlessNoMemory, edits_to_have_member, edits_to_lack_member};
 
@@ -65,8 +65,9 @@ pub fn find_edits_to_lack_member(
     let Some(members) = policy.walk().members_of_alias(kind, alias) else {
         return Err(PlanFault::NoAlias);
     };
-    let numbers = member.numbers_of_alike(alloc, &members)?;
-    Ok(make_member_drops(alloc, kind, alias, numbers)?)
+    let mut edits = Edits::new(alloc);
+    append_member_drops(alloc, kind, alias, member.numbers_of_alike(alloc, &members)?, &mut edits)?;
+    Ok(edits)
 }
 
 /// Returns the edit that adds the member `text` after the last one, at the place `at`.
@@ -89,16 +90,16 @@ fn make_member_addition(
     })
 }
 
-/// Returns the edits that take out the members with these numbers, which ascend, the last first.
-fn make_member_drops(
+/// Appends the edits that take out the members with these numbers, which ascend, the last first.
+pub fn append_member_drops(
     alloc: Global,
     kind: Kind,
     alias: &[u8],
     numbers: Vec<u32>,
-) -> Result<Edits, AllocError>
-    ensures { IfOk result (λ edits. edits ≡ map (λ at. Edit.DropMember kind alias.now at) (reverse numbers.items)) }
+    edits: &mut Edits,
+) -> Result<(), AllocError>
+    ensures { OnOk result (edits.new ≡ edits.old ++ map (λ at. Edit.DropMember kind alias.now at) (reverse numbers.items)) }
 {
-    let mut edits = Edits::new(alloc);
     let mut numbers = numbers;
     while let Some(number) = numbers.pop() {
         edits.push(Edit::DropMember {
@@ -107,5 +108,5 @@ fn make_member_drops(
             at: number,
         })?;
     }
-    Ok(edits)
+    Ok(())
 }

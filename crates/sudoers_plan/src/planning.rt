@@ -7,6 +7,7 @@ ghost use Rattle.sudoers_plan.specs.Plan.{IsOutcomeUnlessNoMemory, IsFaultOrNoMe
 use crate::fault::{PlanFault, PlanRefusal};
 use crate::line_wishes::{find_edits_to_have_line, find_edits_to_lack_line};
 use crate::member_wishes::{find_edits_to_have_member, find_edits_to_lack_member};
+use crate::user_wish::find_edits_to_lose_user;
 use crate::wish::Wish;
 use std::alloc::AllocError;
 use sudoers_edit::{Edit, Editor, Edits};
@@ -131,5 +132,8 @@ fn find_wanted_edits(policy: &Policy, wish: &Wish) -> Result<Edits, PlanFault>
             text,
             even_includes,
         } => find_edits_to_lack_line(policy, file.as_slice(), text.as_slice(), *even_includes),
+        Wish::NoUser { user, even_denials } => {
+            find_edits_to_lose_user(policy, user.as_slice(), *even_denials)
+        }
     }
 }

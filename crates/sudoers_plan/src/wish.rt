@@ -31,6 +31,12 @@ pub enum Wish {
         text: Text,
         even_includes: bool,
     },
+    /// No rule and no alias names the user. Letter case does not matter. `even_denials` says whether members may go that deny him
+    /// something.
+    NoUser {
+        user: Text,
+        even_denials: bool,
+    },
 }
 
 /// Where a new line goes.

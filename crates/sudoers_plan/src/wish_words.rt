@@ -15,6 +15,8 @@ pub struct WishOptions<'a> {
     pub before: Option<&'a str>,
     /// Whether an include line may be removed.
     pub even_includes: bool,
+    /// Whether members may be removed that deny a user something.
+    pub even_denials: bool,
 }
 
 /// A part of a wish.
@@ -24,6 +26,7 @@ pub enum WishPart {
     Member,
     File,
     Text,
+    User,
 }
 
 /// Why a text is no wish.
@@ -55,8 +58,8 @@ impl<T: Drop> From<AllocFailed<T>> for WishFault {
     }
 }
 
-/// Reads one wish: `has KIND ALIAS MEMBER`, `lacks KIND ALIAS MEMBER`, `has-line FILE TEXT` or `lacks-line FILE TEXT`. One blank stands
-/// between two parts, and the last part goes to the end.
+/// Reads one wish: `has KIND ALIAS MEMBER`, `lacks KIND ALIAS MEMBER`, `has-line FILE TEXT`, `lacks-line FILE TEXT` or `no-user NAME`. One
+/// blank stands between two parts, and the last part goes to the end.
 ///
 /// # Errors
 ///
@@ -90,9 +93,21 @@ pub fn read_wish(alloc: Global, text: &[u8], options: &WishOptions<'_>) -> Resul
             text,
             even_includes,
         })
+    } else if word == b"no-user".as_slice() {
+        let user = read_user_part(alloc, rest)?;
+        let even_denials = options.even_denials;
+        Ok(Wish::NoUser { user, even_denials })
     } else {
         Err(WishFault::UnknownWish)
     }
+}
+
+/// Reads the part `NAME`.
+fn read_user_part(alloc: Global, text: &[u8]) -> Result<Text, WishFault> {
+    if text.is_empty() {
+        return Err(WishFault::MissingPart(WishPart::User));
+    }
+    Ok(Text::from_slice(alloc, text)?)
 }
 
 /// Reads the parts `KIND ALIAS MEMBER`.

@@ -2,7 +2,8 @@ use Rattle.std.proofs.Common.{◌≡◌, ◌++◌, drop, map}
 use Rattle.sudoers_tree.specs.Line.{line_of_row}
 use Rattle.sudoers_tree.specs.Policy.{texts_of_lines}
 use Rattle.sudoers_plan.specs.GivenText.{is_line_of_text}
-use Rattle.sudoers_plan.specs.Plan.{line_texts_of_file, numbers_of_passing}
+use Rattle.sudoers_plan.specs.Plan.{line_texts_of_file}
+use Rattle.sudoers_plan.specs.Numbers.{numbers_of_passing}
 use Rattle.sudoers_plan.proofs.line_wishes.find_equal_lines.Given as goal
 
 abbrev pub invariant-loop-number : goal.invariant-loop-number

@@ -1,7 +1,7 @@
 use Rattle.std.proofs.Common.{◌≡◌, ◌++◌, drop, map}
 use Rattle.sudoers_line_rows.specs.Alike.{is_same_member}
 use Rattle.sudoers_line_rows.specs.Tables.{member_in_tables}
-use Rattle.sudoers_plan.specs.Plan.{numbers_of_passing}
+use Rattle.sudoers_plan.specs.Numbers.{numbers_of_passing}
 use Rattle.sudoers_plan.proofs.member_text.MemberInTables.numbers_of_alike.Given as goal
 
 abbrev pub invariant-loop-number : goal.invariant-loop-number

@@ -1,7 +1,7 @@
 use Rattle.std.proofs.Common.{◌≡◌, ◌∙◌, ◌∷◌, ◌++◌, [], not, ap, map, ℕ, List, bytes_eq, if◌then◌else◌}
 use Rattle.std.specs.List.{list_any}
-use Rattle.sudoers_list_people.proofs.Keys.{any_by_key_is_any_of_keys, keys_after_adding_are_keys_with_name}
-use Rattle.sudoers_list_people.proofs.seen_names.SeenNames.add.Goals as goal
+use Rattle.sudoers_names.proofs.Keys.{any_by_key_is_any_of_keys, keys_after_adding_are_keys_with_name}
+use Rattle.sudoers_names.proofs.names.NameSet.add.Goals as goal
 
 pub returns-clause-new : goal.returns-clause-new
 returns-clause-new c =

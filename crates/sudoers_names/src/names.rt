@@ -1,6 +1,6 @@
-//! Names that were seen.
+//! Names in a set.
 
-ghost use Rattle.std.specs.Prelude.{◌≡◌, [], ◌∷◌, ◌++◌, not, if◌then◌else◌, IfOk, OnOk};
+ghost use Rattle.std.specs.Prelude.{◌≡◌, [], ◌∷◌, ◌++◌, not, length, if◌then◌else◌, IfOk, OnOk};
 ghost use Rattle.std.specs.Str.{bytes_eq};
 ghost use Rattle.std.specs.List.{list_any};
 
@@ -10,26 +10,40 @@ use std::marker::Model;
 
 /// Names, each once.
 #[derive(Drop)]
-pub struct SeenNames {
+pub struct NameSet {
     names: IndexSet<Vec<u8>>,
 }
 
-impl Model for SeenNames {
+impl Model for NameSet {
     ghost use Rattle.std.specs.Prelude.{ℕ, List, map};
 
     ghost Value = { List (List ℕ) };
 
-    ghost view = { λ seen. map (λ name. name.items) seen.names.keys };
+    ghost view = { λ set. map (λ name. name.items) set.names.keys };
 }
 
-impl SeenNames {
+impl NameSet {
     /// Returns no names.
-    pub fn new(alloc: Global) -> SeenNames
+    pub fn new(alloc: Global) -> NameSet
         ensures { result ≡ [] }
     {
-        SeenNames {
+        NameSet {
             names: IndexSet::new(alloc),
         }
+    }
+
+    /// Returns how many names there are.
+    pub fn len(&self) -> usize
+        ensures { result ≡ length self.now }
+    {
+        self.names.len()
+    }
+
+    /// Returns whether `name` is one of them.
+    pub fn has(&self, name: &[u8]) -> bool
+        ensures { result ≡ list_any (bytes_eq name.now) self.now }
+    {
+        self.names.contains(name)
     }
 
     /// Adds `name`. Returns whether it is new.

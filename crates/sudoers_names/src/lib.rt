@@ -1,0 +1,6 @@
+//! Names, each once.
+#![tactic(auto)]
+
+mod names;
+
+pub use names::NameSet;
