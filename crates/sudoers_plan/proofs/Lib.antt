@@ -1,2 +1,6 @@
 pub mod NothingWanted
+pub mod Numbers
 pub mod PlanOutcomes
+pub mod UserAliases
+pub mod UserEdits
+pub mod UserMet

@@ -12,42 +12,12 @@ use Rattle.sudoers_tree.specs.Definition.{members_of_alias_definition}
 use Rattle.sudoers_plan.specs.declared.fault.PlanFault.{PlanFault}
 use Rattle.sudoers_plan.specs.declared.fault.PlanFault.TheVariants.{BadMember, NoAlias, NoFile, BadLine, IncludeLine}
 use Rattle.sudoers_plan.specs.declared.wish.Wish.{Wish}
-use Rattle.sudoers_plan.specs.declared.wish.Wish.TheVariants.{HasMember, LacksMember, HasLine, LacksLine}
+use Rattle.sudoers_plan.specs.declared.wish.Wish.TheVariants.{HasMember, LacksMember, HasLine, LacksLine, NoUser}
 use Rattle.sudoers_plan.specs.GivenText.{is_line_of_text, is_member_listed, is_text_of_include_line, is_text_of_one_line, member_of_text}
-use Rattle.sudoers_plan.specs.Plan.{MeetsAllWishes, MeetsWish, edits_putting_line, edits_wanted_by, first_unmet_wish, is_nothing_wanted, line_texts_of_file, number_of_file_on_walk, number_of_new_line, plan_result_and_then, planned_for_wish, planned_for_wishes, policy_after_wanted_edits, numbered_result_and_then, result_or_fault_if_none}
 use Rattle.sudoers_plan.specs.Numbers.{numbers_of_passing}
-
--- NUMBERS OF ITEMS THAT PASS A TEST
-
-positive_is_not_zero : (n : ℕ) → (suc n == 0) ≡ false
-positive_is_not_zero n = grind (arith)
-
--- an item passes exactly if there is a number of one
-pub any_passes_if_numbered : {X : Type 0} (test : X → Bool) (n : ℕ) (xs : List X) → list_any test xs ≡ not (length (numbers_of_passing test n xs) == 0)
-any_passes_if_numbered test n [] = refl
-any_passes_if_numbered test n (x ∷ xs) = by (test x) (any_passes_if_numbered test (n + 1) xs)
-  where
-    by : (b : Bool) → list_any test xs ≡ not (length (numbers_of_passing test (n + 1) xs) == 0)
-        → (b || list_any test xs) ≡ not (length (if b then n ∷ numbers_of_passing test (n + 1) xs else numbers_of_passing test (n + 1) xs) == 0)
-    by true rest = ap not (sym (positive_is_not_zero (length (numbers_of_passing test (n + 1) xs))))
-    by false rest = rest
-
--- there is no number where none passes, and the other way round
-none_passes : {X : Type 0} (test : X → Bool) (n : ℕ) (xs : List X) → (numbers_of_passing test n xs ≡ []) ↔ (list_any test xs ≡ false)
-none_passes test n xs = by (numbers_of_passing test n xs) (any_passes_if_numbered test n xs)
-  where
-    by : (ns : List ℕ) → list_any test xs ≡ not (length ns == 0) → (ns ≡ []) ↔ (list_any test xs ≡ false)
-    by [] e = ((λ _. e), (λ _. refl))
-    by (m ∷ ns) e = ((λ h. absurd (cc)), (λ h. absurd (let t : true ≡ false = ap not (sym (positive_is_not_zero (length ns))) ∙ sym e ∙ h in cc)))
-
--- no edit is made of no number, and of a number one is
-no_edit_of_numbers : (f : ℕ → Edit) (ns : List ℕ) → (map f (reverse ns) ≡ []) ↔ (ns ≡ [])
-no_edit_of_numbers f [] = ((λ _. refl), (λ _. refl))
-no_edit_of_numbers f (n ∷ ns) = ((λ h. absurd (no_end (reverse ns) (sym (ap (map f) (reverse-append (n ∷ []) ns)) ∙ h))), (λ h. absurd (cc)))
-  where
-    no_end : (ms : List ℕ) → map f (ms ++ n ∷ []) ≡ [] → ⊥
-    no_end [] h = cc
-    no_end (m ∷ ms) h = cc
+use Rattle.sudoers_plan.proofs.Numbers.{no_edit_of_numbers, none_passes}
+use Rattle.sudoers_plan.proofs.UserMet.{nothing_wanted_of_user_if_not_named}
+use Rattle.sudoers_plan.specs.Plan.{MeetsAllWishes, MeetsWish, edits_putting_line, edits_wanted_by, first_unmet_wish, is_nothing_wanted, line_texts_of_file, number_of_file_on_walk, number_of_new_line, plan_result_and_then, planned_for_wish, planned_for_wishes, policy_after_wanted_edits, numbered_result_and_then, result_or_fault_if_none}
 
 abbrev ok : List Edit → Result (List Edit) PlanFault
 ok edits = Ok edits
@@ -123,6 +93,8 @@ nothing_wanted_if_met (LacksLine name text even_includes) policy =
       (λ h. (none_passes (is_line_of_text text) 0 (line_texts_of_file policy f)).0 ((no_edit_of_numbers (λ at. Delete f at) _).0 h)),
       (λ h. (no_edit_of_numbers (λ at. Delete f at) _).1 ((none_passes (is_line_of_text text) 0 (line_texts_of_file policy f)).1 h)),
     ))
+
+nothing_wanted_if_met (NoUser user even_denials) policy = nothing_wanted_of_user_if_not_named user even_denials policy
 
 nothing_is_ok : (r : Result (List Edit) PlanFault) → is_nothing_wanted r ≡ true → r ≡ Ok []
 nothing_is_ok (Ok []) h = refl

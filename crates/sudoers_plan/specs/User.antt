@@ -119,8 +119,13 @@ is_user_denied_in_list user lines aliases ms = list_any (λ (m : Member). m.nega
 -- The line denies something to the user, or to an alias in which he stands. In the scope of a Defaults line aliases alone count, since
 -- the user's own name stays there.
 abbrev pub is_user_denied_in_line : List ℕ → List Line → List (List ℕ) → Node → Bool
-is_user_denied_in_line user lines aliases n =
-    list_any (is_user_denied_in_list (Some user) lines aliases) (user_lists_of_node n) || is_user_denied_in_list None lines aliases (scope_users_of_node n)
+is_user_denied_in_line user lines aliases (node.Alias k defs) =
+    if is_equal_kind k User then list_any (λ (d : Def). is_user_denied_in_list (Some user) lines aliases d.members) defs else false
+is_user_denied_in_line user lines aliases (node.Spec users groups) = is_user_denied_in_list (Some user) lines aliases users
+is_user_denied_in_line user lines aliases (node.Defaults scope params) = is_user_denied_in_list None lines aliases (users_of_scope scope)
+is_user_denied_in_line user lines aliases node.Blank = false
+is_user_denied_in_line user lines aliases node.Comment = false
+is_user_denied_in_line user lines aliases (node.Include dir path) = false
 
 -- there is a member, and all are aliases that go
 abbrev pub is_scope_emptied : List Line → List (List ℕ) → List Member → Bool
@@ -177,9 +182,10 @@ edits_of_user_definitions user lines emptied at n [] = []
 edits_of_user_definitions user lines emptied at n (d ∷ ds) =
     edits_of_user_definitions user lines emptied at (n + 1) ds ++ edits_of_user_definition user lines emptied at n d
 
--- there is a definition, and all are emptied
+-- there is a definition, and all are of aliases that go
 abbrev pub are_definitions_emptied : List (List ℕ) → List Def → Bool
-are_definitions_emptied emptied ds = list_any (λ (d : Def). list_any (bytes_eq d.name) emptied) ds && list_all (λ (d : Def). list_any (bytes_eq d.name) emptied) ds
+are_definitions_emptied emptied [] = false
+are_definitions_emptied emptied (d ∷ ds) = list_any (bytes_eq d.name) emptied && list_all (λ (e : Def). list_any (bytes_eq e.name) emptied) ds
 
 -- those of a line with this text that says this
 abbrev pub edits_of_user_node : List ℕ → List Line → List (List ℕ) → WalkLineSpot → List ℕ → Node → List Edit

@@ -16,7 +16,7 @@ use sudoers_text::ends_in_lf;
 use sudoers_tree::Policy;
 
 /// Returns the edits after which a line of the file `name` is `text`. `place` says where a new one goes.
-#[tactic(auto, using(crate::proofs::NothingWanted::any_passes_if_numbered))]
+#[tactic(auto, using(crate::proofs::Numbers::any_passes_if_numbered))]
 pub fn find_edits_to_have_line(
     policy: &Policy,
     name: &[u8],
@@ -41,7 +41,7 @@ pub fn find_edits_to_have_line(
 }
 
 /// Returns the edits after which no line of the file `name` is `text`. `even_includes` says whether an include line may be removed.
-#[tactic(auto, using(crate::proofs::NothingWanted::any_passes_if_numbered))]
+#[tactic(auto, using(crate::proofs::Numbers::any_passes_if_numbered))]
 pub fn find_edits_to_lack_line(
     policy: &Policy,
     name: &[u8],

@@ -16,6 +16,7 @@ use sudoers_tree::{ALIAS_LIMIT, Policy};
 /// # Errors
 ///
 /// Memory ran out.
+#[tactic(auto, unfolding(crate::specs::User::aliases_of_user))]
 pub fn find_aliases_of_user(
     policy: &Policy,
     part: ListPart,

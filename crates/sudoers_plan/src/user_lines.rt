@@ -1,7 +1,11 @@
 //! What a line loses with a user.
 
-ghost use Rattle.std.specs.Prelude.{◌≡◌, ◌++◌, ◌∷◌, [], None, Some, drop, if◌then◌else◌, IfOk, OnOk};
+ghost use Rattle.std.specs.Prelude.{◌≡◌, ◌++◌, ◌∷◌, [], None, Some, drop, map, if◌then◌else◌, IfOk, OnOk};
+ghost use Rattle.std.specs.List.{list_all, list_any};
 ghost use Rattle.std.specs.Option.{option_copied};
+ghost use Rattle.std.specs.Str.{bytes_eq};
+ghost use Rattle.sudoers_grammar.specs.Node.{Def as DefOf};
+ghost use Rattle.sudoers_line_rows.specs.Tables.{alias_definition_in_tables};
 ghost use Rattle.sudoers_line_rows.specs.View.{alias_definition_of_view, alias_definitions_of_view, members_of_view, node_of_view};
 ghost use Rattle.sudoers_edit.specs.Splice.{bytes_between};
 ghost use Rattle.sudoers_plan.specs.User.{are_definitions_emptied, edits_of_user_definition, edits_of_user_definitions, edits_of_user_list, edits_of_user_node, is_member_of_user, line_without_members, start_of_first_member};
@@ -12,7 +16,7 @@ use std::alloc::AllocError;
 use sudoers_edit_script::{Edit, Edits, Text};
 use sudoers_grammar::Kind;
 use sudoers_line_rows::{
-    AliasDefinitionRow, Def, MemberRow, Node, RowsOfTable, Scope, convert_offset_to_u32,
+    AliasDefinitionRow, Def, MemberRow, Node, RowsOfTable, Scope, Tables, convert_offset_to_u32,
 };
 use sudoers_names::NameSet;
 use sudoers_tree::{Policy, WalkLineSpot};
@@ -131,14 +135,27 @@ impl<'a> LeavingUser<'a> {
 fn are_all_emptied(emptied: &NameSet, defs: &RowsOfTable<'_, AliasDefinitionRow>) -> bool
     ensures { result ≡ are_definitions_emptied emptied.now (alias_definitions_of_view defs.now) }
 {
-    let mut left = defs.rows;
+    match defs.rows.split_first() {
+        Some((first, others)) => {
+            emptied.has(defs.tables.alias_definition_of_row(first).name)
+                && are_others_emptied(emptied, defs.tables, others)
+        }
+        None => false,
+    }
+}
+
+/// Returns whether each definition is of an emptied alias.
+fn are_others_emptied(emptied: &NameSet, tables: &Tables, rows: &[AliasDefinitionRow]) -> bool
+    ensures { result ≡ list_all (λ (d : DefOf). list_any (bytes_eq d.name) emptied.now) (map (alias_definition_in_tables tables.now) rows.now) }
+{
+    let mut left = rows;
     while let Some((row, behind)) = left.split_first() {
-        if !emptied.has(defs.tables.alias_definition_of_row(row).name) {
+        if !emptied.has(tables.alias_definition_of_row(row).name) {
             return false;
         }
         left = behind;
     }
-    !defs.rows.is_empty()
+    true
 }
 
 /// Appends the edit that takes the line at `at` out.
@@ -214,6 +231,7 @@ fn start_of_first(members: &RowsOfTable<'_, MemberRow>) -> usize
 }
 
 /// Returns the bytes of `text` from the offset `from` on.
+#[tactic(auto, using(crate::proofs::UserEdits::drop_by_least))]
 fn slice_behind(text: &[u8], from: usize) -> &[u8]
     ensures { result.now ≡ drop from text.now }
 {
@@ -221,6 +239,7 @@ fn slice_behind(text: &[u8], from: usize) -> &[u8]
 }
 
 /// Returns the bytes of `text` from the offset `from` up to `to`.
+#[tactic(auto, using(crate::proofs::UserEdits::take_by_least))]
 fn slice_between(text: &[u8], from: usize, to: usize) -> &[u8]
     ensures { result.now ≡ bytes_between from to text.now }
 {

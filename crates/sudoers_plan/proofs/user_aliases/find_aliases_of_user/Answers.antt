@@ -1,0 +1,25 @@
+use Rattle.std.proofs.Common.{◌≡◌, ◌∙◌, ◌+◌, ◌-◌, length, sym, ap}
+use Rattle.sudoers_tree.specs.Policy.{alias_limit_of_each_kind}
+use Rattle.sudoers_plan.specs.User.{names_after_rounds, names_with_lines_of_user}
+use Rattle.sudoers_plan.proofs.UserAliases.{one_round, round_ends, rounds_end}
+use Rattle.sudoers_plan.proofs.user_aliases.find_aliases_of_user.Goals as goal
+
+pub returns-then-len-before : goal.returns-then-len-before
+returns-then-len-before c =
+    let part = c.args.part in
+    let user = c.args.user.now in
+    let lines = c.args.policy.now.walk.lines in
+    let names = c.loop.names in
+    let one : c.add_aliases_of_lines.new.names ≡ names_with_lines_of_user part user lines names lines = c.in_ok-add_aliases_of_lines.ensures in
+    let same : length (names_with_lines_of_user part user lines names lines) ≡ length names = ap length (sym one) ∙ sym c.len.ensures ∙ c.if-len-before.true ∙ c.len-before.ensures in
+    one ∙ round_ends part user lines names same ∙ sym (rounds_end (alias_limit_of_each_kind - c.loop.counter) part user lines names same) ∙ c.loop.invariant
+
+pub loop-preserved : goal.loop-preserved
+loop-preserved c =
+    let part = c.args.part in
+    let user = c.args.user.now in
+    let lines = c.args.policy.now.walk.lines in
+    let names = c.loop.names in
+    let one : c.add_aliases_of_lines.new.names ≡ names_with_lines_of_user part user lines names lines = c.in_ok-add_aliases_of_lines.ensures in
+    ap (names_after_rounds (alias_limit_of_each_kind - (c.loop.counter + 1)) part user lines) one
+    ∙ sym (one_round alias_limit_of_each_kind c.loop.counter part user lines names c.loop-test.true) ∙ c.loop.invariant
