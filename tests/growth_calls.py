@@ -294,7 +294,10 @@ BY_PROGRAM = {
         "run::read_output_files",
     ),
     "planning": (
+        "explain_edits::ShownLine::append_bytes_between",
+        "explain_edits::ShownLine::append_place",
         "explain_edits::append_refusal_text",
+        "explain_edits::make_user_notes",
         "plan::count_equal_lines",
         "plan::read_wish",
     ),

@@ -50,7 +50,7 @@ class List:
 class Line:
     """A rule, a Defaults line for users, or definitions of aliases."""
 
-    def __init__(self, form, lists, names=()):
+    def __init__(self, form, lists, names):
         self.form, self.lists, self.names = form, lists, names
 
     def text(self):
@@ -80,11 +80,11 @@ class RandomPolicy:
         names = list(draw.sample(ALIASES, draw.randint(1, 4)))
         lines, left = [], names[:]
         while left:
-            defined, left = left[: draw.randint(1, 2)], left[2:] if False else left
-            left = left[len(defined) :]
+            count = draw.randint(1, 2)
+            defined, left = left[:count], left[count:]
             lines.append(Line("alias", [List(draw, names[names.index(name) + 1 :], 3) for name in defined], defined))
-        lines += [Line("rule", [List(draw, names, 4)]) for _ in range(draw.randint(1, 3))]
-        lines += [Line("scope", [List(draw, names, 3)]) for _ in range(draw.randint(0, 2))]
+        lines += [Line("rule", [List(draw, names, 4)], ()) for _ in range(draw.randint(1, 3))]
+        lines += [Line("scope", [List(draw, names, 3)], ()) for _ in range(draw.randint(0, 2))]
         draw.shuffle(lines)
         cuts = sorted(draw.randint(0, len(lines)) for _ in range(2))
         self.names, self.parts = names, (lines[: cuts[0]], lines[cuts[0] : cuts[1]], lines[cuts[1] :])
@@ -159,10 +159,8 @@ class RandomPolicy:
             return lambda member: name_of(member) in all_of or (line.form != "scope" and self.is_named(member, user))
 
         def changed(line):
-            kept = [(name, one.without(goes(line))) for name, one in zip(line.names or [""], line.lists)]
-            if line.form == "alias":
-                kept = [(name, one.without(goes(line))) for name, one in zip(line.names, line.lists)]
-            kept = [(name, one) for name, one in kept if one.members]
-            return Line(line.form, [one for _, one in kept], [name for name, _ in kept] if line.form == "alias" else ())
+            lists = [one.without(goes(line)) for one in line.lists]
+            names = [name for name, one in zip(line.names, lists) if one.members]
+            return Line(line.form, [one for one in lists if one.members], names)
 
         return self.files(changed), None, self.notes_of(user)

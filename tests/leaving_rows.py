@@ -102,7 +102,7 @@ LEFT = {
 KEPT = (
     ("%adm ALL = ALL\n", said("main:1:1", "%adm", "bob may be in this group")),
     ("ann, \\\n  !%#7 ALL = ALL\n", said("main:2:3", "!%#7", "bob may be in this group")),
-    ("User_Alias A = ann : B = %:x\n", said("main:1:25", "%:x", "bob may be in this group")),
+    ("User_Alias A = ann : B = %:x\n", said("main:1:26", "%:x", "bob may be in this group")),
     ("#7 ALL = ALL\n", said("main:1:1", "#7", "bob may have this ID")),
     ("# a\n+net ALL = ALL\n", said("main:2:1", "+net", "bob may be in this netgroup")),
     ("ALL ALL = ALL\n", said("main:1:1", "ALL", "bob is one of all users")),
@@ -110,7 +110,7 @@ KEPT = (
     ("Defaults>bob, %adm !lecture\n", said("main:1:10", "bob", "bob stays in the scope of a Defaults line")),
     ("Defaults:!bob !lecture\n", said("main:1:10", "!bob", "bob stays in the scope of a Defaults line")),
     ("Defaults@bob !lecture\n", ""),
-    ("ann ALL = (bob, %adm : bob) /bin/a, (root, BOB) /bin/b : ALL = (\"bob\") /bin/c\n", said("main:1:12", "bob", "bob stays in a runas list") + said("main:1:44", "BOB", "bob stays in a runas list") + said("main:1:66", '"bob"', "bob stays in a runas list")),
+    ("ann ALL = (bob, %adm : bob) /bin/a, (root, BOB) /bin/b : ALL = (\"bob\") /bin/c\n", said("main:1:12", "bob", "bob stays in a runas list") + said("main:1:44", "BOB", "bob stays in a runas list") + said("main:1:65", '"bob"', "bob stays in a runas list")),
     ("Runas_Alias DB = bob, %adm : BOB = root\nRunas_Alias OTHER = BOB\n", said("main:1:18", "bob", "bob stays in a Runas_Alias")),
     ("Cmnd_Alias A = ALL, !/bin/su\nann ALL = A, !/bin/sh\n", ""),
     ("%adm ALL = ALL, !/bin/su\n", said("main:1:1", "%adm", "bob may be in this group")),

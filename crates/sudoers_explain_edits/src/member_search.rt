@@ -36,6 +36,20 @@ pub fn is_name_of_user(policy: &Policy, kind: Kind, atom: &BorrowedAtom<'_>, use
     }
 }
 
+/// Returns the numbers, from 0, of the lines of the walk that define aliases of the kind `kind`.
+fn list_lines_with_definitions(policy: &Policy, kind: Kind) -> Result<Vec<usize>, AllocError> {
+    let mut numbers = Vec::new(policy.allocator());
+    let lines = policy.lines();
+    for (number, row) in lines.rows.iter().enumerate() {
+        if let Node::Alias { kind: own, .. } = lines.tables.node_of_row(&row.node)
+            && is_same_kind(own, kind)
+        {
+            numbers.push(number)?;
+        }
+    }
+    Ok(numbers)
+}
+
 impl<'a> MemberSearch<'a> {
     /// Returns the search for `wanted` in lists of the kind `kind`.
     ///
@@ -53,9 +67,10 @@ impl<'a> MemberSearch<'a> {
             wanted,
             aliases: NameSet::new(policy.allocator()),
         };
+        let numbers = list_lines_with_definitions(policy, kind)?;
         for _ in 0..ALIAS_LIMIT {
             let before = search.aliases.len();
-            search.add_aliases_of_lines()?;
+            search.add_aliases_of_lines(numbers.as_slice())?;
             if search.aliases.len() == before {
                 break;
             }
@@ -63,12 +78,12 @@ impl<'a> MemberSearch<'a> {
         Ok(search)
     }
 
-    /// Adds the aliases that the lines of the walk define, and that have a member which is looked for.
-    fn add_aliases_of_lines(&mut self) -> Result<(), AllocError> {
+    /// Adds the aliases that the lines with the numbers `numbers` define, and that have a member which is looked for.
+    fn add_aliases_of_lines(&mut self, numbers: &[usize]) -> Result<(), AllocError> {
         let lines = self.policy.lines();
-        for row in lines.rows {
-            if let Node::Alias { kind, defs } = lines.tables.node_of_row(&row.node)
-                && is_same_kind(kind, self.kind)
+        for number in numbers {
+            if let Some(row) = lines.rows.get(*number)
+                && let Node::Alias { defs, .. } = lines.tables.node_of_row(&row.node)
             {
                 self.add_aliases_of_definitions(&defs)?;
             }
