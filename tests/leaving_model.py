@@ -129,9 +129,9 @@ class RandomPolicy:
         is_scope = line.form == "scope"
         denied = [member for member in members if is_negated(member) and (name_of(member) in any_of or (not is_scope and self.is_named(member, user)))]
         if denied and not even_denials:
-            return f"Denial: {{}}: the line denies something to {user} or to an alias with this user; --even-denials goes on"
+            return f"Denial: {{}}: this denies something to {user} or to an alias with {user}; --even-denials goes on"
         if is_scope and all(name_of(member) in all_of for member in members):
-            return "EmptiedScope: {}: the Defaults line would be for all users; take it out with lacks-line first"
+            return "EmptiedScope: {}: the Defaults line would be for all users; lacks-line takes it out"
         return None
 
     def notes_of(self, user):

@@ -126,8 +126,8 @@ NO_LONGER_DENIED = (
     ("User_Alias OPS = bob\nUser_Alias MORE = OPS, carol\nMORE ALL = ALL, !/bin/su\n%adm ALL = ALL\n", said("main:3:17", "!/bin/su", DENIED) + said("main:4:1", "%adm", "bob may be in this group")),
 )
 
-DENIAL = "the line denies something to bob or to an alias with this user; --even-denials goes on"
-SCOPE = "the Defaults line would be for all users; take it out with lacks-line first"
+DENIAL = "this denies something to bob or to an alias with bob; --even-denials goes on"
+SCOPE = "the Defaults line would be for all users; lacks-line takes it out"
 NO_BOB = ("no-user bob",)
 REFUSED = (
     Refused(main("# a\nALL, !bob ALL = ALL\n"), (), NO_BOB, 0, f"Denial: main:2: {DENIAL}"),

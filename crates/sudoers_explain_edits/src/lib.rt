@@ -9,7 +9,7 @@ mod input_mistakes;
 mod line_refusals;
 mod lists;
 mod name_refusals;
-mod member_search;
+mod member_finder;
 mod nearest;
 mod refusals;
 mod script_faults;

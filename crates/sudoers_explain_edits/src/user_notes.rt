@@ -1,6 +1,6 @@
 //! Notes about what may still concern users who leave a policy.
 
-use crate::member_search::{MemberSearch, SearchedMember, is_name_of_user};
+use crate::member_finder::{MemberFinder, SearchedMember, is_name_of_user};
 use crate::shown_lines::ShownLine;
 use std::alloc::{AllocError, Global};
 use sudoers_explain::make_shown_row;
@@ -34,10 +34,10 @@ enum NotedList {
 struct LeavingUser<'a> {
     policy: &'a Policy,
     name: &'a [u8],
-    /// The search for the user in lists of users.
-    named: MemberSearch<'a>,
-    /// The search for denied commands.
-    denied: MemberSearch<'a>,
+    /// Finds the user in lists of users.
+    named: MemberFinder<'a>,
+    /// Finds denied commands.
+    denied: MemberFinder<'a>,
 }
 
 /// Notes, one on a line.
@@ -85,8 +85,8 @@ fn find_leaving_user<'a>(
     Ok(LeavingUser {
         policy,
         name,
-        named: MemberSearch::from_policy(policy, Kind::User, SearchedMember::User(name))?,
-        denied: MemberSearch::from_policy(policy, Kind::Cmnd, SearchedMember::Denial)?,
+        named: MemberFinder::from_policy(policy, Kind::User, SearchedMember::User(name))?,
+        denied: MemberFinder::from_policy(policy, Kind::Cmnd, SearchedMember::Denial)?,
     })
 }
 

@@ -180,11 +180,14 @@ fn append_denial(
     at: WalkLineSpot,
 ) -> Result<(), AllocError> {
     append_line_place(out, policy, at)?;
-    out.extend_from_slice(b"the line denies something to ")?;
     if let Wish::NoUser { user, .. } = wish {
+        out.extend_from_slice(b"this denies something to ")?;
         out.extend_from_slice(user.as_slice())?;
+        out.extend_from_slice(b" or to an alias with ")?;
+        out.extend_from_slice(user.as_slice())?;
+        out.extend_from_slice(b"; --even-denials goes on")?;
     }
-    out.extend_from_slice(b" or to an alias with this user; --even-denials goes on")
+    Ok(())
 }
 
 /// Appends that the Defaults line at `at` would be for all users.
@@ -194,9 +197,7 @@ fn append_emptied_scope(
     at: WalkLineSpot,
 ) -> Result<(), AllocError> {
     append_line_place(out, policy, at)?;
-    out.extend_from_slice(
-        b"the Defaults line would be for all users; take it out with lacks-line first",
-    )
+    out.extend_from_slice(b"the Defaults line would be for all users; lacks-line takes it out")
 }
 
 /// Appends that the member is the only one.

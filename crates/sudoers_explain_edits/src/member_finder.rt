@@ -16,9 +16,9 @@ pub enum SearchedMember<'a> {
     Denial,
 }
 
-/// A search in lists of one kind, with the aliases of this kind in which such a member stands.
+/// A finder of members in lists of one kind, with the aliases of this kind in which such a member stands.
 #[derive(Drop)]
-pub struct MemberSearch<'a> {
+pub struct MemberFinder<'a> {
     policy: &'a Policy,
     kind: Kind,
     wanted: SearchedMember<'a>,
@@ -50,8 +50,8 @@ fn list_lines_with_definitions(policy: &Policy, kind: Kind) -> Result<Vec<usize>
     Ok(numbers)
 }
 
-impl<'a> MemberSearch<'a> {
-    /// Returns the search for `wanted` in lists of the kind `kind`.
+impl<'a> MemberFinder<'a> {
+    /// Returns the finder of `wanted` in lists of the kind `kind`.
     ///
     /// # Errors
     ///
@@ -60,8 +60,8 @@ impl<'a> MemberSearch<'a> {
         policy: &'a Policy,
         kind: Kind,
         wanted: SearchedMember<'a>,
-    ) -> Result<MemberSearch<'a>, AllocError> {
-        let mut search = MemberSearch {
+    ) -> Result<MemberFinder<'a>, AllocError> {
+        let mut finder = MemberFinder {
             policy,
             kind,
             wanted,
@@ -69,13 +69,13 @@ impl<'a> MemberSearch<'a> {
         };
         let numbers = list_lines_with_definitions(policy, kind)?;
         for _ in 0..ALIAS_LIMIT {
-            let before = search.aliases.len();
-            search.add_aliases_of_lines(numbers.as_slice())?;
-            if search.aliases.len() == before {
+            let before = finder.aliases.len();
+            finder.add_aliases_of_lines(numbers.as_slice())?;
+            if finder.aliases.len() == before {
                 break;
             }
         }
-        Ok(search)
+        Ok(finder)
     }
 
     /// Adds the aliases that the lines with the numbers `numbers` define, and that have a member which is looked for.
