@@ -104,6 +104,7 @@ KEPT = (
     ("ann, \\\n  !%#7 ALL = ALL\n", said("main:2:3", "!%#7", "bob may be in this group")),
     ("User_Alias A = ann : B = %:x\n", said("main:1:26", "%:x", "bob may be in this group")),
     ("#7 ALL = ALL\n", said("main:1:1", "#7", "bob may have this ID")),
+    ('ann, "%a\x07b" ALL = ALL\n', said("main:1:6", '"%a\\x07b"', "bob may be in this group")),
     ("# a\n+net ALL = ALL\n", said("main:2:1", "+net", "bob may be in this netgroup")),
     ("ALL ALL = ALL\n", said("main:1:1", "ALL", "bob is one of all users")),
     ("Defaults:bob, %adm, ann, BOB !lecture\n", said("main:1:10", "bob", "bob stays in the scope of a Defaults line") + said("main:1:15", "%adm", "bob may be in this group") + said("main:1:26", "BOB", "bob stays in the scope of a Defaults line")),

@@ -107,7 +107,11 @@ impl UserNotes<'_> {
     /// Appends the notes about `user`, in the order of the walk.
     fn append_notes_of_user(&mut self, user: &LeavingUser<'_>) -> Result<(), AllocError> {
         let lines = user.policy.lines();
-        for (row, spot) in lines.rows.iter().zip(user.policy.spots_of_walk_lines().iter()) {
+        for (row, spot) in lines
+            .rows
+            .iter()
+            .zip(user.policy.spots_of_walk_lines().iter())
+        {
             let says = Line::from_line_row(lines.tables, row);
             let line = ShownLine {
                 file: user.policy.file_name(spot.file),
@@ -136,7 +140,8 @@ impl UserNotes<'_> {
                 self.append_notes_of_host_groups(line, groups, user)
             }
             Node::Defaults {
-                scope: Some(scope), ..
+                scope: Some(scope),
+                ..
             } => {
                 let list = NotedList::Scope(scope.kind);
                 self.append_notes_of_members(line, &scope.members, list, user)
@@ -221,7 +226,11 @@ impl UserNotes<'_> {
         for row in groups.rows {
             let group = groups.tables.host_group_of_row(row);
             if let Some(member) = user.find_denied_command(&group) {
-                return self.append_note(line, &member, &[b"the rule denied commands to ", user.name]);
+                return self.append_note(
+                    line,
+                    &member,
+                    &[b"the rule denied commands to ", user.name],
+                );
             }
         }
         Ok(())
@@ -278,7 +287,9 @@ impl LeavingUser<'_> {
                 Some(b" stays in the scope of a Defaults line")
             }
             NotedList::Scope(Kind::User) => words_of_wider_atom(atom),
-            NotedList::Runas if self.is_named_by(atom, Kind::Runas) => Some(b" stays in a runas list"),
+            NotedList::Runas if self.is_named_by(atom, Kind::Runas) => Some(
+                b" stays in a runas list",
+            ),
             NotedList::RunasAlias if self.is_named_by(atom, Kind::Runas) => {
                 Some(b" stays in a Runas_Alias")
             }
@@ -288,7 +299,8 @@ impl LeavingUser<'_> {
 
     /// Returns whether `atom` is the name of this user in a list of the kind `kind`.
     fn is_named_by(&self, atom: &BorrowedAtom<'_>, kind: Kind) -> bool {
-        matches!(kind, Kind::User | Kind::Runas) && is_name_of_user(self.policy, kind, atom, self.name)
+        matches!(kind, Kind::User | Kind::Runas)
+            && is_name_of_user(self.policy, kind, atom, self.name)
     }
 
     /// Returns the first command of the host group `group` that is denied.

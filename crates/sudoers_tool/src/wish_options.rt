@@ -182,17 +182,27 @@ pub fn read_given_wishes(
 
 /// Returns the message of a usage error: none of `wishes` uses an option of `options`.
 fn find_unused_option(wishes: &[Wish], options: &WishOptions<'_>) -> Option<&'static str> {
-    let has_new_line = wishes.iter().any(|wish| matches!(wish, Wish::HasLine { .. }));
+    let has_new_line = wishes
+        .iter()
+        .any(|wish| matches!(wish, Wish::HasLine { .. }));
     if options.after.is_some() && !has_new_line {
         return Some("--after: no wish of the call is has-line");
     }
     if options.before.is_some() && !has_new_line {
         return Some("--before: no wish of the call is has-line");
     }
-    if options.even_includes && !wishes.iter().any(|wish| matches!(wish, Wish::LacksLine { .. })) {
+    if options.even_includes
+        && !wishes
+            .iter()
+            .any(|wish| matches!(wish, Wish::LacksLine { .. }))
+    {
         return Some("--even-includes: no wish of the call is lacks-line");
     }
-    if options.even_denials && !wishes.iter().any(|wish| matches!(wish, Wish::NoUser { .. })) {
+    if options.even_denials
+        && !wishes
+            .iter()
+            .any(|wish| matches!(wish, Wish::NoUser { .. }))
+    {
         return Some("--even-denials: no wish of the call is no-user");
     }
     None
