@@ -96,9 +96,22 @@ def run_notes(stand):
             site.note(f"{more} notes too many", ["plan", "main", "no-user bob"], Wanted(b"", notes.encode()), site.before)
 
 
+def visudo_or_none():
+    """The program `visudo`, if it is installed and this is root, who alone may own what it reads."""
+    return shutil.which("visudo", path="/usr/sbin:/sbin:/usr/bin:/bin") if os.geteuid() == 0 else None
+
+
+def visudo_problems(visudo, folder, files):
+    """What `visudo -c` says of the policy `main` with these files, where it does not pass."""
+    for file in files:
+        os.chmod(os.path.join(folder, file), 0o440)
+    done = subprocess.run([visudo, "-c", "-f", "main"], cwd=folder, capture_output=True, check=False)
+    return [] if done.returncode == 0 else [f"{done.stdout} {done.stderr}"]
+
+
 def run_random(stand):
     """Random policies lose the user as the model does. Where no member is wider than a name, he may then run nothing."""
-    draw = random.Random(SEED)
+    draw, visudo = random.Random(SEED), visudo_or_none()
     with Site(stand, {"main": "", "passwd": PASSWD, "group": GROUP}, script="") as site:
         nothing = stand.run([*LISTED, "main"], site.folder)
     for number in range(RANDOM_POLICIES):
@@ -121,6 +134,8 @@ def run_random(stand):
             if not policy.has_wider_members():
                 site.note(f"{name}, listed", [*LISTED, "main"], Wanted(nothing.stdout, nothing.stderr, nothing.status), state(site.folder))
             if is_placed:
+                problems = visudo_problems(visudo, site.folder, ()) if visudo is not None else []
+                stand.tally.note(f"{PART}: {name}, visudo -c", problems)
                 stand.run(["place", "--undo", "undo"], site.folder)
                 back = {**state(site.folder)}
                 back.pop("undo")
@@ -129,19 +144,15 @@ def run_random(stand):
 
 def run_visudo(stand):
     """What `apply` puts in place passes `visudo -c`."""
-    visudo = shutil.which("visudo", path="/usr/sbin:/sbin:/usr/bin:/bin")
-    if visudo is None or os.geteuid() != 0:
+    visudo = visudo_or_none()
+    if visudo is None:
         stand.tally.skip(f"{PART}: visudo -c", "visudo is missing, or this is not root")
         return
     for name, row in LEFT.items():
         with Site(stand, row.files, script="") as site:
-            os.chmod(os.path.join(site.folder, "main"), 0o440)
             stand.run(["apply", "--undo-file", "undo", *row.options, "--wish", f"no-user {row.user}", "main"], site.folder)
-            for file in row.files:
-                os.chmod(os.path.join(site.folder, file), 0o440)
-            done = subprocess.run([visudo, "-c", "-f", "main"], cwd=site.folder, capture_output=True, check=False)
-            is_known = name == "aliases in a circle" or done.returncode == 0
-            stand.tally.note(f"{PART}: visudo -c after {name}", [] if is_known else [f"{done.stdout} {done.stderr}"])
+            problems = visudo_problems(visudo, site.folder, row.files)
+            stand.tally.note(f"{PART}: visudo -c after {name}", [] if name == "aliases in a circle" else problems)
 
 
 def run_growths(stand):

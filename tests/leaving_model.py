@@ -5,7 +5,9 @@ ALIASES = ("OPS", "DEV", "WEB", "SUP")
 # Names that are no alias, BOB included: it is the name of a user as long as no line defines it.
 USERS = ("bob", "BOB", "bob", '"bob"', "ann", "carol", "bobby")
 WIDER = {"%adm": "may be in this group", "#7": "may have this ID", "+net": "may be in this netgroup", "ALL": "is one of all users"}
+# visudo takes no line end within a scope, so the last is for rules and aliases alone.
 GAPS = (", ", ",", " , ", ", \\\n    ")
+GAPS_OF_SCOPE = GAPS[:-1]
 
 
 def name_of(member):
@@ -21,9 +23,9 @@ def is_negated(member):
 class List:
     """Members, with the bytes between them."""
 
-    def __init__(self, draw, aliases, most):
+    def __init__(self, draw, aliases, most, gaps=GAPS):
         self.members = [self.drawn(draw, aliases) for _ in range(draw.randint(1, most))]
-        self.gaps = [draw.choice(GAPS) for _ in self.members]
+        self.gaps = [draw.choice(gaps) for _ in self.members]
 
     @staticmethod
     def drawn(draw, aliases):
@@ -84,7 +86,7 @@ class RandomPolicy:
             defined, left = left[:count], left[count:]
             lines.append(Line("alias", [List(draw, names[names.index(name) + 1 :], 3) for name in defined], defined))
         lines += [Line("rule", [List(draw, names, 4)], ()) for _ in range(draw.randint(1, 3))]
-        lines += [Line("scope", [List(draw, names, 3)], ()) for _ in range(draw.randint(0, 2))]
+        lines += [Line("scope", [List(draw, names, 3, GAPS_OF_SCOPE)], ()) for _ in range(draw.randint(0, 2))]
         draw.shuffle(lines)
         cuts = sorted(draw.randint(0, len(lines)) for _ in range(2))
         self.names, self.parts = names, (lines[: cuts[0]], lines[cuts[0] : cuts[1]], lines[cuts[1] :])
