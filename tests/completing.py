@@ -28,11 +28,11 @@ FOLDER = "sub"
 COMMANDS = ("apply", "check", "convert", "edit", "help", "list", "place", "plan", "show", "what", "who", "why")
 WITH_OPTIONS = tuple(name for name in COMMANDS if name != "help")
 OPTIONS_OF_APPLY = (
-    *("--after", "--allow-undefined", "--also", "--before", "--dry-run", "--even-includes", "--explain", "-h", "--help"),
+    *("--after", "--allow-undefined", "--also", "--before", "--dry-run", "--even-denials", "--even-includes", "--explain", "-h", "--help"),
     *("--plain", "--root", "--undo-file", "--wish"),
 )
 OPTIONS_OF_PLAN = (
-    *("--after", "--also", "--before", "--check", "--even-includes", "--explain", "-h", "--help"),
+    *("--after", "--also", "--before", "--check", "--even-denials", "--even-includes", "--explain", "-h", "--help"),
     *("--plain", "--root"),
 )
 OPTIONS_OF_LIST = (
@@ -54,7 +54,7 @@ OPTIONS_OF_FOLDERS = ("--same", "--usr-merge", "--no-same")
 ALL_FILES = (*FILES, FOLDER)
 FORMS = ("json", "sudoers")
 KEYS = ("group=", "host=", "user=")
-WISHES = ("has ", "has-line ", "lacks ", "lacks-line ")
+WISHES = ("has ", "has-line ", "lacks ", "lacks-line ", "no-user ")
 
 ROWS = (
     (("",), COMMANDS),
@@ -224,7 +224,8 @@ ROWS = (
     (("plan", "--a"), ("--after", "--also")),
     (("plan", "--b"), ("--before",)),
     (("plan", "--c"), ("--check",)),
-    (("plan", "--e"), ("--even-includes", "--explain")),
+    (("plan", "--e"), ("--even-denials", "--even-includes", "--explain")),
+    (("plan", "--even-d"), ("--even-denials",)),
     (("plan", "--p"), ("--plain",)),
     (("plan", "--also", ""), ALL_FILES),
     (("plan", "--also=w"), ("web team",)),
@@ -243,6 +244,7 @@ ROWS = (
     (("plan", "policy", "lacks-"), ("lacks-line ",)),
     (("plan", "policy", "'"), WISHES),
     (("plan", "policy", "'l"), ("lacks ", "lacks-line ")),
+    (("plan", "policy", "'n"), ("no-user ",)),
     (("plan", "policy", "'has user A"), ()),
     (("plan", "policy", '"has-'), ("has-line ",)),
     (("plan", "policy", "'has user A bob'", "'h"), ("has ", "has-line ")),
@@ -257,7 +259,7 @@ ROWS = (
     (("apply", "--a"), ("--after", "--allow-undefined", "--also")),
     (("apply", "--b"), ("--before",)),
     (("apply", "--d"), ("--dry-run",)),
-    (("apply", "--e"), ("--even-includes", "--explain")),
+    (("apply", "--e"), ("--even-denials", "--even-includes", "--explain")),
     (("apply", "--p"), ("--plain",)),
     (("apply", "--u"), ("--undo-file",)),
     (("apply", "--undo-file", ""), ALL_FILES),
@@ -291,6 +293,7 @@ ROWS = (
     (("apply", "policy", "--wish", "'has user A bob'", "p"), ()),
     (("apply", "--after", "p"), ()),
     (("apply", "--before", "x", "--even-includes", "w"), ("web team",)),
+    (("apply", "--even-denials", "--wish", "'no"), ("no-user ",)),
     (("wh",), ("what", "who", "why")),
     (("who",), ("who",)),
     (("who", ""), ALL_FILES),

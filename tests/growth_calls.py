@@ -108,6 +108,7 @@ INNER = {
     "grammar::parse_include_path": "tree::leads",
     "grammar::parse_option_value": "line_reader::parse",
     "grammar::parse_single_token_atom": "line_reader::parse",
+    "names::NameSet::add": "list_people::People::read",
     "line_reader::read_line": "line_reader::parse",
     "line_rows::append_table_rows": "line_reader::parse",
     "line_rows::convert_offset_to_u32": "line_reader::parse",
@@ -294,7 +295,10 @@ BY_PROGRAM = {
         "run::read_output_files",
     ),
     "planning": (
+        "explain_edits::ShownLine::append_bytes_between",
+        "explain_edits::ShownLine::append_place",
         "explain_edits::append_refusal_text",
+        "explain_edits::make_user_notes",
         "plan::count_equal_lines",
         "plan::read_wish",
     ),

@@ -10,7 +10,7 @@ import shutil
 import subprocess
 
 from cases import Case
-from placing import Site, refusal
+from placing import Site, refusal, state
 from preload import with_library
 from program import Wanted
 from stand import Closed, Stand
@@ -63,6 +63,10 @@ PLANS = (
     (["--after", "DEV WEB = RUN", "has-line d/web # new"], "file 2\nendline\ninsert 4\n|# new\n"),
     (["--after", "nothing like it", "has-line main # end"], ""),
     (["--even-includes", "lacks-line main @includedir d"], "delete 4\n"),
+    (["--even-includes", "has-line main # new", "lacks-line main # end"], "insert 7\n|# new\ndelete 6\ndelete 5\n"),
+    (["no-user carol"], "drop user OPS 2\n"),
+    (["--even-denials", "no-user eve"], "drop user TWICE 4\ndrop user TWICE 2\ndrop user TWICE 1\n"),
+    (["no-user bob", "has user OPS eve"], "drop user TWICE 3\ndrop user OPS 1\nadd user OPS 2\n>, eve\n"),
 )
 
 # Wishes that are refused, the number of the wish that the error names, from 0, the error and what explains it.
@@ -86,14 +90,25 @@ REFUSED = (
 )
 
 # Words that are no wish.
-NO_WISHES = ("", "has", "has user", "has user OPS", "has person OPS bob", "hasline main # x", "has-line main", "lacks-line", "no-user bob")
+NO_WISHES = ("", "has", "has user", "has user OPS", "has person OPS bob", "hasline main # x", "has-line main", "lacks-line", "no-user", "no-user ", "no-users bob")
+
+# Options that no wish of the call uses, the wishes, and the option that the error names.
+UNUSED = (
+    (["--after", "OPS ALL = ALL"], ["has user OPS bob"], "--after: no wish of the call is has-line"),
+    (["--after", "OPS ALL = ALL"], ["lacks-line main # x"], "--after: no wish of the call is has-line"),
+    (["--before", "OPS ALL = ALL"], ["no-user bob", "lacks user OPS eve"], "--before: no wish of the call is has-line"),
+    (["--even-includes"], ["has-line main # x"], "--even-includes: no wish of the call is lacks-line"),
+    (["--even-includes", "--even-denials"], ["lacks-line main # x"], "--even-denials: no wish of the call is no-user"),
+    (["--even-denials"], ["has user OPS bob"], "--even-denials: no wish of the call is no-user"),
+    (["--even-denials", "--after", "x"], ["no-user eve"], "--after: no wish of the call is has-line"),
+)
 
 
 def wishes_of(words):
     """The wishes among the words, without the options before them."""
     rest = list(words)
     while rest and rest[0].startswith("--"):
-        rest = rest[1:] if rest[0] == "--even-includes" else rest[2:]
+        rest = rest[1:] if rest[0].startswith("--even-") else rest[2:]
     return rest
 
 
@@ -146,6 +161,28 @@ def run_refused(stand):
                 problems = difference("status", 2, came.status) + difference("standard output", b"", came.stdout)
                 problems += [] if came.stderr.startswith(b"error: ") else [f"its error is {came.stderr}"]
                 stand.tally.note(f"{PART}: {words}", problems)
+
+
+def note_usage_error(stand, folder, words, why, stdin=b""):
+    """The words are a wrong command line, for this reason, and nothing is printed on standard output."""
+    came = stand.run(words, folder, stdin)
+    problems = difference("status", 2, came.status) + difference("standard output", b"", came.stdout)
+    problems += difference("first line", f"error: {why}", came.stderr.decode().split("\n")[0])
+    stand.tally.note(f"{PART}: {words}, {stdin}", problems)
+
+
+def run_unused(stand):
+    """An option that no wish of the call uses is a usage error, of wishes on standard input too. Nothing is touched."""
+    with Site(stand, SITE, script="") as site:
+        for options, wishes, why in UNUSED:
+            note_usage_error(stand, site.folder, ["plan", *options, "main", *wishes], why)
+            named = [word for wish in wishes for word in ("--wish", wish)]
+            note_usage_error(stand, site.folder, ["apply", *options, *named, "main"], why)
+            note_usage_error(stand, site.folder, ["plan", *options, "main", "-"], why, "\n".join(wishes).encode())
+        note_usage_error(stand, site.folder, ["plan", "--even-denials", "main", "-"], "--even-denials: no wish of the call is no-user")
+        site.note("an option for a wish on standard input", ["plan", "--even-includes", "main", "-"], Wanted(), site.before, stdin=b"lacks-line main # x\n")
+        site.note("an option for one of two wishes", ["plan", "--after", "# end", "main", "-", "has-line main # end"], Wanted(), site.before, stdin=b"has user OPS bob\n")
+        stand.tally.note(f"{PART}: unused options touch nothing", difference("files", site.before, state(site.folder)))
 
 
 def run_standard_input(stand):
@@ -248,5 +285,5 @@ def run_growths(stand):
 def run_all(program, tally):
     """Runs all of it."""
     stand = Stand(PART, program, tally)
-    for run in (run_plans, run_refused, run_standard_input, run_random, run_visudo, run_growths):
+    for run in (run_plans, run_refused, run_unused, run_standard_input, run_random, run_visudo, run_growths):
         run(stand)

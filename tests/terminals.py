@@ -60,6 +60,13 @@ SHOWN = (
         b"main:\n-User_Alias OPS = bob\n+User_Alias OPS = bob, eve\n",
         0,
     ),
+    (
+        "a_plan_with_a_note",
+        {"main": 'bob, ann ALL = ALL\n"%a\x1b" ALL = ALL\n'},
+        ["plan", "main", "no-user bob"],
+        b'main:\n-bob, ann ALL = ALL\n+ann ALL = ALL\nsudoers_tool: main:2:1: "%a\\x1b": bob may be in this group\n',
+        0,
+    ),
     ("a_plan_of_nothing", {"main": "User_Alias OPS = bob\n"}, ["plan", "main", "has user OPS bob"], b"", 0),
     ("a_listing", HOSTILE, f"{ASKED} bob main", b"bob on h:\n    (root) /bin/a\\x1b[2J\n    (root) /bin/a\\x7f\n", 0),
     ("a_reason", HOSTILE, f"{ASKED} bob --why main /bin/a\x7f", b"main:1:23: allowed by: (root) /bin/a\\x7f\n", 0),

@@ -54,6 +54,7 @@ function __sudoers_tool_wishes
     echo 'has-line '\t'FILE TEXT: the file has the line'
     echo 'lacks '\t'KIND ALIAS MEMBER: the alias lacks the member'
     echo 'lacks-line '\t'FILE TEXT: the file lacks the line'
+    echo 'no-user '\t'NAME: no rule and no user alias names the user'
 end
 
 # Succeeds if the next word is the command of list, or a word after it.
@@ -139,6 +140,7 @@ complete -c sudoers_tool -n '__fish_seen_subcommand_from apply' -l wish -x -a '(
 complete -c sudoers_tool -n '__fish_seen_subcommand_from apply plan' -l after -x -d 'Text of the line behind which has-line puts a new one'
 complete -c sudoers_tool -n '__fish_seen_subcommand_from apply plan' -l before -x -d 'Text of the line before which has-line puts a new one'
 complete -c sudoers_tool -n '__fish_seen_subcommand_from apply plan' -l even-includes -d 'Let lacks-line take an include line out'
+complete -c sudoers_tool -n '__fish_seen_subcommand_from apply plan' -l even-denials -d 'Let no-user take a user out to whom a line denies something'
 complete -c sudoers_tool -n '__fish_seen_subcommand_from plan' -l check -d 'Set the exit status 1 if there is something to do'
 complete -c sudoers_tool -n '__fish_seen_subcommand_from check' -s q -d 'Print no report; only set the exit status'
 complete -c sudoers_tool -n '__fish_seen_subcommand_from check' -s s -d 'Treat undefined and cyclic aliases as errors'

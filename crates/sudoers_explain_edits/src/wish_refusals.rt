@@ -6,7 +6,7 @@ use sudoers_edit::EditFault;
 use sudoers_grammar::{Kind, alias_keyword_of_kind};
 use sudoers_plan::{LinePlace, PlanFault, Wish, count_equal_lines};
 use sudoers_text::append_decimal_number;
-use sudoers_tree::{Policy, is_same_kind};
+use sudoers_tree::{Policy, WalkLineSpot, is_same_kind};
 
 /// How many files of a policy are named.
 const MOST_NAMED: usize = 5;
@@ -32,6 +32,8 @@ pub fn append_refusal_text(
             out.extend_from_slice(b"an include line is removed only with --even-includes")
         }
         PlanFault::NotMet => out.extend_from_slice(b"another wish of the call undoes it"),
+        PlanFault::Denial { at } => append_denial(out, policy, wish, *at),
+        PlanFault::EmptiedScope { at } => append_emptied_scope(out, policy, *at),
         PlanFault::Refused(EditFault::OnlyOne) => append_only_member(out, wish),
         PlanFault::Refused(_) | PlanFault::NoMemory => Ok(()),
         fault => append_refusal_of_name_or_text(out, policy, wish, fault),
@@ -65,6 +67,7 @@ fn append_refusal_of_name_or_text(
         Wish::HasLine { file, .. } | Wish::LacksLine { file, .. } => {
             append_missing_file(out, policy, file.as_slice())
         }
+        Wish::NoUser { .. } => Ok(()),
     }
 }
 
@@ -155,6 +158,46 @@ fn append_anchors(
     }
     out.extend_from_slice(anchor.as_slice())?;
     out.extend_from_slice(b"'")
+}
+
+/// Appends the place of the line at `at`: its file and its first physical line.
+fn append_line_place(
+    out: &mut Vec<u8>,
+    policy: &Policy,
+    at: WalkLineSpot,
+) -> Result<(), AllocError> {
+    out.extend_from_slice(policy.file_name(at.file))?;
+    out.extend_from_slice(b":")?;
+    append_decimal_number(policy.allocator(), out, at.row)?;
+    out.extend_from_slice(b": ")
+}
+
+/// Appends that the line at `at` denies something to the user of the wish.
+fn append_denial(
+    out: &mut Vec<u8>,
+    policy: &Policy,
+    wish: &Wish,
+    at: WalkLineSpot,
+) -> Result<(), AllocError> {
+    append_line_place(out, policy, at)?;
+    if let Wish::NoUser { user, .. } = wish {
+        out.extend_from_slice(b"this denies something to ")?;
+        out.extend_from_slice(user.as_slice())?;
+        out.extend_from_slice(b" or to an alias with ")?;
+        out.extend_from_slice(user.as_slice())?;
+        out.extend_from_slice(b"; --even-denials goes on")?;
+    }
+    Ok(())
+}
+
+/// Appends that the Defaults line at `at` would be for all users.
+fn append_emptied_scope(
+    out: &mut Vec<u8>,
+    policy: &Policy,
+    at: WalkLineSpot,
+) -> Result<(), AllocError> {
+    append_line_place(out, policy, at)?;
+    out.extend_from_slice(b"the Defaults line would be for all users; lacks-line takes it out")
 }
 
 /// Appends that the member is the only one.

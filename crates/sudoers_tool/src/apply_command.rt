@@ -17,7 +17,7 @@ use crate::place_command::{
 use crate::place_trouble::{PlaceError, make_place_error};
 use crate::placed_files::is_read_by_include_line;
 use crate::placed_paths::make_error_of_file;
-use crate::plan_command::{make_planned_script, print_wish_error_and_get_status};
+use crate::plan_command::{make_planned_script, print_notes, print_wish_error_and_get_status};
 use crate::terminal::{open_standard_output, print_error_line};
 use crate::wish_options::{
     GivenWishes, WISH, add_wish_options, has_wishes, make_wish_option, read_given_wishes,
@@ -142,10 +142,26 @@ fn apply_script_or_wishes(
     given: &GivenWishes,
     explanation: &mut EditExplanation,
 ) -> Result<(), PlaceError> {
-    let alloc = rt.alloc();
     let policy = policy_name_of_edit_words(words);
-    check_policy_name(alloc, policy)?;
-    let edited = edit_files(rt, words, given, explanation)?;
+    check_policy_name(rt.alloc(), policy)?;
+    if !has_wishes(words) {
+        let edited = edit_files(rt, words, explanation)?;
+        return place_or_show_files(rt, words, policy, edited);
+    }
+    let (edited, notes) = edit_files_as_wished(rt, words, given, explanation)?;
+    place_or_show_files(rt, words, policy, edited)?;
+    print_notes(rt, notes.as_slice());
+    Ok(())
+}
+
+/// Puts the files of the policy `policy` in place that `edit --files` printed as `edited`, or prints their changed lines, as `words` say.
+fn place_or_show_files(
+    rt: &HostRuntime,
+    words: &ArgMatches<'_>,
+    policy: &str,
+    edited: Vec<u8>,
+) -> Result<(), PlaceError> {
+    let alloc = rt.alloc();
     let files = read_files_of_output(alloc, policy, edited.as_slice())?;
     check_new_aliases(alloc, words, &files)?;
     print_files_not_included(rt, words, policy, edited.as_slice())?;
@@ -231,22 +247,30 @@ fn place_new_output(
     outcome
 }
 
-/// Returns what `edit --files` prints for the policy that `words` name and the script that they name, or the one that makes the wishes true.
+/// Returns what `edit --files` prints for the policy and the script that `words` name.
 fn edit_files(
+    rt: &HostRuntime,
+    words: &ArgMatches<'_>,
+    explanation: &mut EditExplanation,
+) -> Result<Vec<u8>, PlaceError> {
+    let script = read_script_file(rt, words.get_str(SCRIPT).unwrap_or(""))?;
+    let files = gather_files_to_edit(rt, words, script.len())?;
+    make_edit_output(rt.alloc(), script.as_slice(), files.as_slice(), explanation)
+}
+
+/// Returns what `edit --files` prints for the policy that `words` name and the script that makes the wishes true, and the notes of the plan.
+fn edit_files_as_wished(
     rt: &HostRuntime,
     words: &ArgMatches<'_>,
     given: &GivenWishes,
     explanation: &mut EditExplanation,
-) -> Result<Vec<u8>, PlaceError> {
+) -> Result<(Vec<u8>, Vec<u8>), PlaceError> {
     let alloc = rt.alloc();
-    if has_wishes(words) {
-        let files = gather_files_to_edit(rt, words, 0)?;
-        let script = make_planned_script(alloc, files.as_slice(), given, explanation)?;
-        return make_edit_output(alloc, script.as_slice(), files.as_slice(), explanation);
-    }
-    let script = read_script_file(rt, words.get_str(SCRIPT).unwrap_or(""))?;
-    let files = gather_files_to_edit(rt, words, script.len())?;
-    make_edit_output(alloc, script.as_slice(), files.as_slice(), explanation)
+    let files = gather_files_to_edit(rt, words, 0)?;
+    let planned = make_planned_script(alloc, files.as_slice(), given, explanation)?;
+    let script = planned.script.as_slice();
+    let edited = make_edit_output(alloc, script, files.as_slice(), explanation)?;
+    Ok((edited, planned.notes))
 }
 
 /// Returns what `edit --files` prints for the script `script` and the files `files`.

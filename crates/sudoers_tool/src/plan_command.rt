@@ -10,7 +10,7 @@ use crate::explaining_edits::EditExplanation;
 use crate::file_trouble::FileTrouble;
 use crate::place_command::read_files_of_output;
 use crate::place_trouble::{PlaceError, PlaceTrouble};
-use crate::terminal::{open_standard_output, print_error_line};
+use crate::terminal::{open_standard_error, open_standard_output, print_error_line};
 use crate::usage_errors::print_usage_error_of_command;
 use crate::wish_options::{
     FORMS_OF_WISHES, GivenWishes, WISH, WishError, add_wish_options, make_wish_message,
@@ -22,7 +22,7 @@ use std::io::{IsTerminal, Write};
 use sudoers_edit::Editor;
 use sudoers_edit_script::write_script;
 use sudoers_explain::make_shown_row;
-use sudoers_explain_edits::append_refusal_text;
+use sudoers_explain_edits::{append_refusal_text, make_user_notes};
 use sudoers_plan::{EditFault, PlanFault, PlanRefusal, Wish, WishFault, plan};
 use sudoers_run::{EditInputShape, LayerFault, ToolFault, fault_text, make_edit_output_of_files};
 use sudoers_tree::{NamedFile, Policy};
@@ -48,6 +48,18 @@ const ERROR_STATUS: u8 = 3;
 /// What help prints last.
 const EXIT_STATUS: &str =
     "Exit status: 0 planned, or nothing to do; 1 with --check, something to do; 2 a wrong command line; 3 an error. See sudoers_tool(8).";
+
+/// What each note begins with.
+const LINE_START: &[u8] = b"sudoers_tool: ";
+
+/// The script that makes wishes true.
+#[derive(Drop)]
+pub struct PlannedScript {
+    /// The script; no bytes if the wishes are true.
+    pub script: Vec<u8>,
+    /// The lines about what may still concern users who leave; no bytes without such a user.
+    pub notes: Vec<u8>,
+}
 
 /// Returns the command line of `plan`.
 pub fn make_plan_subcommand<'a>(alloc: Global, top: Arg<'a>) -> Result<Command<'a>, AllocError> {
@@ -113,6 +125,11 @@ pub fn print_wish_error_and_get_status(
         WishError::Text(..) => {
             let _ = print_error_line(rt, &[b"NoMemory"]);
         }
+        WishError::UnusedOption(message) => {
+            if let Ok(status) = print_usage_error_of_command(rt, name, message) {
+                return status;
+            }
+        }
         WishError::Trouble(trouble) => {
             if let Ok(text) = trouble.text(rt.alloc()) {
                 let _ = print_error_line(rt, &[text.as_slice()]);
@@ -122,7 +139,7 @@ pub fn print_wish_error_and_get_status(
     ERROR_STATUS
 }
 
-/// Prints the edits that make the wishes true: as a script, or on a terminal as changed lines. Returns whether there is an edit.
+/// Prints the edits that make the wishes true, and the notes about users who leave. Returns whether there is an edit.
 fn print_plan(
     rt: &HostRuntime,
     words: &ArgMatches<'_>,
@@ -132,19 +149,36 @@ fn print_plan(
     let policy = policy_name_of_edit_words(words);
     check_policy_name(rt.alloc(), policy)?;
     let files = gather_files_to_edit(rt, words, 0)?;
-    let script = make_planned_script(rt.alloc(), files.as_slice(), given, explanation)?;
-    if script.is_empty() {
-        return Ok(false);
+    let planned = make_planned_script(rt.alloc(), files.as_slice(), given, explanation)?;
+    let script = planned.script.as_slice();
+    if !script.is_empty() {
+        print_script(rt, policy, script, files.as_slice())?;
     }
+    print_notes(rt, planned.notes.as_slice());
+    Ok(!script.is_empty())
+}
+
+/// Prints the script `script` of the files `files` of the policy `policy`, on a terminal as changed lines.
+fn print_script(
+    rt: &HostRuntime,
+    policy: &str,
+    script: &[u8],
+    files: &[NamedFile],
+) -> Result<(), PlaceError> {
     if rt.stdout().is_terminal() {
-        print_lines_changed_by_script(rt, policy, script.as_slice(), files.as_slice())?;
-    } else if open_standard_output(rt)
-        .write_all(script.as_slice())
-        .is_err()
-    {
-        return Err(PlaceError::from(ToolFault::Write));
+        return print_lines_changed_by_script(rt, policy, script, files);
     }
-    Ok(true)
+    match open_standard_output(rt).write_all(script) {
+        Ok(()) => Ok(()),
+        Err(_) => Err(PlaceError::from(ToolFault::Write)),
+    }
+}
+
+/// Prints the lines `notes` on standard error.
+pub fn print_notes(rt: &HostRuntime, notes: &[u8]) {
+    if !notes.is_empty() {
+        let _ = open_standard_error(rt).write_all(notes);
+    }
 }
 
 /// Prints the lines that the script `script` changes in the files `files` of the policy `policy`.
@@ -164,7 +198,7 @@ fn print_lines_changed_by_script(
     }
 }
 
-/// Returns the script that makes the wishes true of the policy of the files `files`; no bytes if they are true.
+/// Returns the script that makes the wishes true of the policy of the files `files`, and the notes about users who leave.
 ///
 /// # Errors
 ///
@@ -174,7 +208,7 @@ pub fn make_planned_script(
     files: &[NamedFile],
     given: &GivenWishes,
     explanation: &mut EditExplanation,
-) -> Result<Vec<u8>, PlaceError> {
+) -> Result<PlannedScript, PlaceError> {
     let policy = match Policy::load(alloc, files) {
         Ok(policy) => policy,
         Err(fault) => {
@@ -187,8 +221,9 @@ pub fn make_planned_script(
         Ok(edits) => edits,
         Err(refusal) => return Err(make_refusal_error(alloc, policy, given, refusal)),
     };
+    let notes = make_user_notes(&policy, given.wishes(), LINE_START)?;
     match write_script(alloc, edits.as_slice()) {
-        Ok(script) => Ok(script),
+        Ok(script) => Ok(PlannedScript { script, notes }),
         Err(fault) => Err(PlaceError::from(FileTrouble::from(LayerFault::from(fault)))),
     }
 }

@@ -4,25 +4,18 @@ use crate::files::KeptDisk;
 use crate::json_output::{JSON, write_document};
 use clap::{Arg, ArgAction, ArgMatches};
 use std::alloc::{AllocError, Global};
+use sudoers_explain_edits::ShownLine;
 use sudoers_files::gather;
 use sudoers_grammar::{Kind, alias_keyword_of_kind};
 use sudoers_run::{LayerFault, ToolFault};
 use sudoers_text::append_decimal_number;
 use sudoers_tree::{
-    AliasDefinitionRow, HostGroup, HostGroupRow, Line, MemberRow, Node, Policy, RowsOfTable,
-    column_behind, lf_count,
+    AliasDefinitionRow, HostGroup, HostGroupRow, Line, Member, MemberRow, Node, Policy,
+    RowsOfTable, lf_count,
 };
 
 /// The flag that asks for the members.
 const MEMBERS: &str = "members";
-
-/// A line of a file: the name of the file, the number of its first physical line, from 1, and its bytes.
-#[derive(Clone, Copy)]
-struct ShownLine<'a> {
-    file: &'a [u8],
-    row: usize,
-    text: &'a [u8],
-}
 
 /// Members as they are shown, one on a line.
 #[derive(Drop)]
@@ -148,8 +141,7 @@ impl ShownMembers {
     ) -> Result<(), AllocError> {
         for (place, row) in group.commands.rows.iter().enumerate() {
             let member = group.commands.tables.command_of_row(row).member;
-            self.append_place_and_label(line, member.start, label, place)?;
-            self.append_text(line.text, member.start, member.stop)?;
+            self.append_member(line, &member, label, place)?;
         }
         Ok(())
     }
@@ -163,45 +155,25 @@ impl ShownMembers {
     ) -> Result<(), AllocError> {
         for (place, row) in members.rows.iter().enumerate() {
             let member = members.tables.member_of_row(row);
-            self.append_place_and_label(line, member.start, label, place)?;
-            self.append_text(line.text, member.start, member.stop)?;
+            self.append_member(line, &member, label, place)?;
         }
         Ok(())
     }
 
-    /// Appends where the byte `start` of the line stands, the label `label`, and the number `place`, from 0.
-    fn append_place_and_label(
+    /// Appends the place and the text of `member` of the line, the label `label`, and the number `place`, from 0.
+    fn append_member(
         &mut self,
         line: ShownLine<'_>,
-        start: usize,
+        member: &Member<'_>,
         label: &[u8],
         place: usize,
     ) -> Result<(), AllocError> {
-        let (before, _) = line.text.split_at(start.min(line.text.len()));
-        let row = line.row.saturating_add(lf_count(before));
-        self.text.extend_from_slice(line.file)?;
-        self.text.push(b':')?;
-        append_decimal_number(self.alloc, &mut self.text, row)?;
-        self.text.push(b':')?;
-        append_decimal_number(self.alloc, &mut self.text, column_behind(before))?;
+        line.append_place(self.alloc, &mut self.text, member.start)?;
         self.text.push(b'\t')?;
         self.text.extend_from_slice(label)?;
         append_decimal_number(self.alloc, &mut self.text, place.saturating_add(1))?;
-        Ok(self.text.push(b'\t')?)
-    }
-
-    /// Appends the bytes of `line` from `start` up to `stop`, with a blank for each line end and the backslash before it, and LF.
-    fn append_text(&mut self, line: &[u8], start: usize, stop: usize) -> Result<(), AllocError> {
-        let (front, _) = line.split_at(stop.min(line.len()));
-        let (_, text) = front.split_at(start.min(front.len()));
-        for (at, byte) in text.iter().enumerate() {
-            let (_, rest) = text.split_at(at.min(text.len()));
-            match (rest, *byte) {
-                ([b'\\', b'\n', ..] | [b'\\', b'\r', b'\n', ..] | [b'\r', b'\n', ..], _) => {}
-                (_, b'\n') => self.text.push(b' ')?,
-                (_, byte) => self.text.push(byte)?,
-            }
-        }
+        self.text.push(b'\t')?;
+        line.append_bytes_between(&mut self.text, member.start, member.stop)?;
         Ok(self.text.push(b'\n')?)
     }
 }

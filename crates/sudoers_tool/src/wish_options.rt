@@ -20,9 +20,12 @@ const BEFORE: &str = "before";
 /// The flag that lets include lines be removed.
 const EVEN_INCLUDES: &str = "even-includes";
 
+/// The flag that lets members be removed that deny a user something.
+const EVEN_DENIALS: &str = "even-denials";
+
 /// What help says of a wish.
 pub const FORMS_OF_WISHES: &str =
-    "`has KIND ALIAS MEMBER`, `lacks KIND ALIAS MEMBER`, `has-line FILE TEXT` or `lacks-line FILE TEXT`, as one word; or `-` for wishes on standard input, one on a line. KIND is user, runas, host or cmnd; a blank in FILE is written `\\ `";
+    "`has KIND ALIAS MEMBER`, `lacks KIND ALIAS MEMBER`, `has-line FILE TEXT`, `lacks-line FILE TEXT` or `no-user NAME`, as one word; or `-` for wishes on standard input, one on a line. KIND is user, runas, host or cmnd; a blank in FILE is written `\\ `";
 
 /// The wishes of a call, and the text of each.
 #[derive(Drop)]
@@ -36,6 +39,8 @@ pub struct GivenWishes {
 pub enum WishError {
     /// This text is no wish.
     Text(Vec<u8>, WishFault),
+    /// No wish uses an option: the message of the usage error.
+    UnusedOption(&'static str),
     /// The standard input cannot be read, or memory ran out.
     Trouble(FileTrouble),
 }
@@ -115,7 +120,16 @@ pub fn add_wish_options<'a>(
         .action(ArgAction::SetTrue)
         .help("Let `lacks-line` remove an include line")
         .requires_arg(WISH)?;
-    command.arg(after)?.arg(before)?.arg(even_includes)
+    let even_denials = Arg::new(alloc, EVEN_DENIALS)
+        .long(EVEN_DENIALS)
+        .action(ArgAction::SetTrue)
+        .help("Let `no-user` remove a user to whom a line denies something")
+        .requires_arg(WISH)?;
+    command
+        .arg(after)?
+        .arg(before)?
+        .arg(even_includes)?
+        .arg(even_denials)
 }
 
 /// Returns whether `words` give wishes.
@@ -135,7 +149,7 @@ pub fn has_standard_input_twice(words: &ArgMatches<'_>) -> bool {
 ///
 /// # Errors
 ///
-/// The first text that is no wish; the standard input cannot be read; memory ran out.
+/// The first text that is no wish; an option that no wish uses; the standard input cannot be read; memory ran out.
 pub fn read_given_wishes(
     rt: &HostRuntime,
     words: &ArgMatches<'_>,
@@ -144,6 +158,7 @@ pub fn read_given_wishes(
         after: words.get_str(AFTER),
         before: words.get_str(BEFORE),
         even_includes: words.get_flag(EVEN_INCLUDES),
+        even_denials: words.get_flag(EVEN_DENIALS),
     };
     let mut given = GivenWishes {
         texts: Vec::new(rt.alloc()),
@@ -159,7 +174,38 @@ pub fn read_given_wishes(
             given.add_wish(rt.alloc(), text.as_bytes(), &options)?;
         }
     }
-    Ok(given)
+    match find_unused_option(given.wishes(), &options) {
+        Some(message) => Err(WishError::UnusedOption(message)),
+        None => Ok(given),
+    }
+}
+
+/// Returns the message of a usage error: none of `wishes` uses an option of `options`.
+fn find_unused_option(wishes: &[Wish], options: &WishOptions<'_>) -> Option<&'static str> {
+    let has_new_line = wishes
+        .iter()
+        .any(|wish| matches!(wish, Wish::HasLine { .. }));
+    if options.after.is_some() && !has_new_line {
+        return Some("--after: no wish of the call is has-line");
+    }
+    if options.before.is_some() && !has_new_line {
+        return Some("--before: no wish of the call is has-line");
+    }
+    if options.even_includes
+        && !wishes
+            .iter()
+            .any(|wish| matches!(wish, Wish::LacksLine { .. }))
+    {
+        return Some("--even-includes: no wish of the call is lacks-line");
+    }
+    if options.even_denials
+        && !wishes
+            .iter()
+            .any(|wish| matches!(wish, Wish::NoUser { .. }))
+    {
+        return Some("--even-denials: no wish of the call is no-user");
+    }
+    None
 }
 
 /// Returns the message of a usage error: the text `text`, given as `place`, is no wish for `fault`.
@@ -183,12 +229,13 @@ pub fn make_wish_message(
 fn words_of_wish_fault(fault: &WishFault) -> &'static str {
     match fault {
         WishFault::UnknownWish =>
-            "a wish begins with `has`, `lacks`, `has-line` or `lacks-line`, and one blank",
+            "a wish begins with `has`, `lacks`, `has-line`, `lacks-line` or `no-user`, and one blank",
         WishFault::UnknownKind => "the kind is `user`, `runas`, `host` or `cmnd`, behind one blank",
         WishFault::MissingPart(WishPart::Alias) => "the alias is missing",
         WishFault::MissingPart(WishPart::Member) => "the member is missing",
         WishFault::MissingPart(WishPart::File) => "the file is missing",
         WishFault::MissingPart(WishPart::Text) => "the text is missing",
+        WishFault::MissingPart(WishPart::User) => "the name of the user is missing",
         WishFault::NoMemory => "memory ran out",
     }
 }
