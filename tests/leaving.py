@@ -62,10 +62,6 @@ def run_refused(stand):
             site.note("refused", ["plan", *row.options, "main", *row.wishes], wanted, site.before)
             named = [word for wish in row.wishes for word in ("--wish", wish)]
             site.note("refused", ["apply", "--undo-file", "undo", *row.options, *named, "main"], wanted, site.before)
-    glued = {"main": 'ann, "bob"ALL = ALL\n'}
-    with Site(stand, glued, script="") as site:
-        wanted = refusal("no-user bob: NotPolicy: main:1:8: syntax error: UnexpectedToken")
-        site.note("two names would be one", ["plan", "main", "no-user bob"], wanted, site.before)
     emptied = {"main": "User_Alias OPS = bob\nDefaults:OPS !lecture\n"}
     with Site(stand, emptied, script="") as site:
         words = ["plan", "main", "lacks-line main Defaults:OPS !lecture", "no-user bob"]

@@ -129,6 +129,7 @@ NO_LONGER_DENIED = (
 
 DENIAL = "this denies something to bob or to an alias with bob; --even-denials goes on"
 SCOPE = "the Defaults line would be for all users; lacks-line takes it out"
+MISREAD = "without the user the line would not read as now; has-line and lacks-line exchange it"
 NO_BOB = ("no-user bob",)
 REFUSED = (
     Refused(main("# a\nALL, !bob ALL = ALL\n"), (), NO_BOB, 0, f"Denial: main:2: {DENIAL}"),
@@ -145,6 +146,10 @@ REFUSED = (
     Refused(main("User_Alias OPS = bob\nDefaults:!OPS !lecture\n"), ("--even-denials",), NO_BOB, 0, f"EmptiedScope: main:2: {SCOPE}"),
     Refused(main("User_Alias OPS = bob\nDefaults:OPS !lecture\nALL, !bob ALL = ALL\n"), (), NO_BOB, 0, f"EmptiedScope: main:2: {SCOPE}"),
     Refused(main("User_Alias OPS = bob, ann\nALL, !OPS ALL = ALL\n"), (), ("has user OPS eve", "has-line main # new", "no-user bob"), 2, f"Denial: main:2: {DENIAL}"),
+    Refused(main("bob, Defaults ALL = ALL\n"), (), NO_BOB, 0, f"Misread: main:1: {MISREAD}"),
+    Refused(main("ann ALL = ALL\nbob, User_Alias X = ALL\n"), (), NO_BOB, 0, f"Misread: main:2: {MISREAD}"),
+    Refused(main("ann, \"bob\"ALL = ALL\n"), (), NO_BOB, 0, f"Misread: main:1: {MISREAD}"),
+    Refused(main("bob, Cmnd_Alias X = /bin/a\n"), (), NO_BOB, 0, f"Misread: main:1: {MISREAD}"),
     Refused(main("User_Alias OPS = ann\n"), (), ("no-user bob", "has user OPS bob"), 0, "NotMet: another wish of the call undoes it"),
     Refused(main("User_Alias OPS = bob, ann\n"), (), ("has user OPS bob", "no-user bob"), 0, "NotMet: another wish of the call undoes it"),
 )

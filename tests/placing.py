@@ -50,6 +50,8 @@ DRY_RUNS = (
     ("file 2\ndelete 2\nrename user OPS CREW\n", CHANGED_MAIN + "d/web:\n-OPS ALL = /bin/a\n"),
     ("insert 3\n|bob ALL = ALL, \\\n|    !/bin/a\n", "main:\n+bob ALL = ALL, \\\n+    !/bin/a\n"),
     ("move 1 2\n", "main:\n+@includedir d\n-@includedir d\n"),
+    ("file 2\nopenend\n", "d/web:\n-OPS ALL = /bin/a\n+OPS ALL = /bin/a\n\\ No newline at end of file\n"),
+    ("file 2\nopenend\nendline\ninsert 1\n|# new\nopenend\n", "d/web:\n+# new\n-OPS ALL = /bin/a\n+OPS ALL = /bin/a\n\\ No newline at end of file\n"),
 )
 # Scripts that change nothing.
 IDLE = ("", "insert 1\n|# gone\ndelete 1\n", RENAME + "rename user CREW OPS\n")

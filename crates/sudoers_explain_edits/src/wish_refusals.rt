@@ -34,6 +34,7 @@ pub fn append_refusal_text(
         PlanFault::NotMet => out.extend_from_slice(b"another wish of the call undoes it"),
         PlanFault::Denial { at } => append_denial(out, policy, wish, *at),
         PlanFault::EmptiedScope { at } => append_emptied_scope(out, policy, *at),
+        PlanFault::Misread { at } => append_misread(out, policy, *at),
         PlanFault::Refused(EditFault::OnlyOne) => append_only_member(out, wish),
         PlanFault::Refused(_) | PlanFault::NoMemory => Ok(()),
         fault => append_refusal_of_name_or_text(out, policy, wish, fault),
@@ -198,6 +199,14 @@ fn append_emptied_scope(
 ) -> Result<(), AllocError> {
     append_line_place(out, policy, at)?;
     out.extend_from_slice(b"the Defaults line would be for all users; lacks-line takes it out")
+}
+
+/// Appends that the line at `at` would be read as something else.
+fn append_misread(out: &mut Vec<u8>, policy: &Policy, at: WalkLineSpot) -> Result<(), AllocError> {
+    append_line_place(out, policy, at)?;
+    out.extend_from_slice(
+        b"without the user the line would not read as now; has-line and lacks-line exchange it",
+    )
 }
 
 /// Appends that the member is the only one.

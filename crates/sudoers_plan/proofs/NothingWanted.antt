@@ -1,7 +1,6 @@
 -- A wish wants no edit exactly where it is met.
-use Rattle.std.proofs.Common.{◌≡◌, ◌∙◌, ◌↔◌, ℕ, suc, ◌+◌, ◌==◌, Bool, true, false, not, List, [], ◌∷◌, ◌++◌, length, map, reverse, Option, Some, None, Result, Ok, Err, IsSomeAnd, refl, sym, ap, if◌then◌else◌, ◌&&◌, ◌||◌}
-use Rattle.std.proofs.Common.{arith}
-use Rattle.std.proofs.lemmas.List.{append-nil, reverse-append}
+use Rattle.std.proofs.Common.{◌≡◌, ◌∙◌, ◌↔◌, ℕ, ◌+◌, Bool, true, false, not, List, [], ◌∷◌, ◌++◌, map, reverse, Option, Some, None, Result, Ok, Err, IsSomeAnd, refl, ap, if◌then◌else◌, ◌&&◌}
+use Rattle.std.proofs.lemmas.List.{append-nil}
 use Rattle.std.specs.List.{list_any}
 use Rattle.sudoers_grammar.specs.Node.{Member}
 use Rattle.sudoers_tree.specs.Load.{LoadedPolicy}
@@ -93,7 +92,6 @@ nothing_wanted_if_met (LacksLine name text even_includes) policy =
       (λ h. (none_passes (is_line_of_text text) 0 (line_texts_of_file policy f)).0 ((no_edit_of_numbers (λ at. Delete f at) _).0 h)),
       (λ h. (no_edit_of_numbers (λ at. Delete f at) _).1 ((none_passes (is_line_of_text text) 0 (line_texts_of_file policy f)).1 h)),
     ))
-
 nothing_wanted_if_met (NoUser user even_denials) policy = nothing_wanted_of_user_if_not_named user even_denials policy
 
 nothing_is_ok : (r : Result (List Edit) PlanFault) → is_nothing_wanted r ≡ true → r ≡ Ok []

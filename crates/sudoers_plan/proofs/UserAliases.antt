@@ -2,13 +2,10 @@
 use Rattle.std.proofs.Common.{◌≡◌, ◌∙◌, ℕ, zero, suc, ◌+◌, ◌-◌, ◌<◌, Bool, true, false, List, [], ◌∷◌, ◌++◌, length, refl, sym, ap, if◌then◌else◌, arith, append_assoc, append-nil, length-append}
 use Rattle.std.specs.List.{list_any}
 use Rattle.std.specs.Str.{bytes_eq}
-use Rattle.sudoers_grammar.specs.declared.node.Kind.TheVariants.{User}
-use Rattle.sudoers_grammar.specs.Node.{Def, Node}
-use Rattle.sudoers_grammar.specs.Node as node
-use Rattle.sudoers_tree.specs.Definition.{is_equal_kind}
+use Rattle.sudoers_grammar.specs.Node.{Def}
 use Rattle.sudoers_tree.specs.Line.{Line}
 use Rattle.sudoers_plan.specs.declared.user_members.ListPart.{ListPart}
-use Rattle.sudoers_plan.specs.User.{is_list_of_user, names_after_rounds, names_with_definitions_of_user, names_with_line_of_user, names_with_lines_of_user, names_with_name}
+use Rattle.sudoers_plan.specs.User.{is_list_of_user, names_after_rounds, names_with_definitions_of_user, names_with_name}
 
 -- NAMES ARE ADDED AT THE END
 
@@ -39,48 +36,30 @@ with_definitions_begins part user all (d ∷ ds) names =
     begins_then names _ _ (with_name_if_begins (is_list_of_user part user all names d.members) names d.name)
     (with_definitions_begins part user all ds (if is_list_of_user part user all names d.members then names_with_name names d.name else names))
 
-with_definitions_if_begins : (b : Bool) (part : ListPart) (user : List ℕ) (all : List Line) (names : List (List ℕ)) (ds : List Def)
-    → Begins names (if b then names_with_definitions_of_user part user all names ds else names)
-with_definitions_if_begins true part user all names ds = with_definitions_begins part user all ds names
-with_definitions_if_begins false part user all names ds = begins_self names
-
-with_line_begins : (part : ListPart) (user : List ℕ) (all : List Line) (names : List (List ℕ)) (n : Node) → Begins names (names_with_line_of_user part user all names n)
-with_line_begins part user all names node.Blank = begins_self names
-with_line_begins part user all names node.Comment = begins_self names
-with_line_begins part user all names (node.Include dir path) = begins_self names
-with_line_begins part user all names (node.Defaults scope params) = begins_self names
-with_line_begins part user all names (node.Alias k defs) = with_definitions_if_begins (is_equal_kind k User) part user all names defs
-with_line_begins part user all names (node.Spec users groups) = begins_self names
-
-with_lines_begins : (part : ListPart) (user : List ℕ) (all : List Line) (lines : List Line) (names : List (List ℕ)) → Begins names (names_with_lines_of_user part user all names lines)
-with_lines_begins part user all [] names = begins_self names
-with_lines_begins part user all (line ∷ lines) names =
-    begins_then names _ _ (with_line_begins part user all names line.node) (with_lines_begins part user all lines (names_with_line_of_user part user all names line.node))
-
 -- ROUNDS
 
 no_more : (names more : List (List ℕ)) → Begins names more → length more ≡ length names → more ≡ names
 no_more names more ([], p) h = p ∙ append-nil names
 no_more names more (x ∷ others, p) h = absurd (let longer : length (names ++ x ∷ others) ≡ length names + length (x ∷ others) = length-append names (x ∷ others) in let same : length (names ++ x ∷ others) ≡ length names = sym (ap length p) ∙ h in grind (arith, longer, same))
 
-pub rounds_stay : (n : ℕ) (part : ListPart) (user : List ℕ) (lines : List Line) (names : List (List ℕ)) → names_with_lines_of_user part user lines names lines ≡ names
-    → names_after_rounds n part user lines names ≡ names
-rounds_stay zero part user lines names h = refl
-rounds_stay (suc n) part user lines names h = ap (names_after_rounds n part user lines) h ∙ rounds_stay n part user lines names h
+pub rounds_stay : (n : ℕ) (part : ListPart) (user : List ℕ) (lines : List Line) (defs : List Def) (names : List (List ℕ)) → names_with_definitions_of_user part user lines names defs ≡ names
+    → names_after_rounds n part user lines defs names ≡ names
+rounds_stay zero part user lines defs names h = refl
+rounds_stay (suc n) part user lines defs names h = ap (names_after_rounds n part user lines defs) h ∙ rounds_stay n part user lines defs names h
 
 -- A round that adds no name leaves the names.
-pub round_ends : (part : ListPart) (user : List ℕ) (lines : List Line) (names : List (List ℕ))
-    → length (names_with_lines_of_user part user lines names lines) ≡ length names → names_with_lines_of_user part user lines names lines ≡ names
-round_ends part user lines names h = no_more names _ (with_lines_begins part user lines lines names) h
+pub round_ends : (part : ListPart) (user : List ℕ) (lines : List Line) (defs : List Def) (names : List (List ℕ))
+    → length (names_with_definitions_of_user part user lines names defs) ≡ length names → names_with_definitions_of_user part user lines names defs ≡ names
+round_ends part user lines defs names h = no_more names _ (with_definitions_begins part user lines defs names) h
 
 -- After a round that adds no name, no other round adds one.
-pub rounds_end : (n : ℕ) (part : ListPart) (user : List ℕ) (lines : List Line) (names : List (List ℕ))
-    → length (names_with_lines_of_user part user lines names lines) ≡ length names → names_after_rounds n part user lines names ≡ names
-rounds_end n part user lines names h = rounds_stay n part user lines names (round_ends part user lines names h)
+pub rounds_end : (n : ℕ) (part : ListPart) (user : List ℕ) (lines : List Line) (defs : List Def) (names : List (List ℕ))
+    → length (names_with_definitions_of_user part user lines names defs) ≡ length names → names_after_rounds n part user lines defs names ≡ names
+rounds_end n part user lines defs names h = rounds_stay n part user lines defs names (round_ends part user lines defs names h)
 
 -- One round is done, and one less is left.
-pub one_round : (limit done : ℕ) (part : ListPart) (user : List ℕ) (lines : List Line) (names : List (List ℕ)) → done < limit
-    → names_after_rounds (limit - done) part user lines names ≡ names_after_rounds (limit - (done + 1)) part user lines (names_with_lines_of_user part user lines names lines)
-one_round limit done part user lines names h =
+pub one_round : (limit done : ℕ) (part : ListPart) (user : List ℕ) (lines : List Line) (defs : List Def) (names : List (List ℕ)) → done < limit
+    → names_after_rounds (limit - done) part user lines defs names ≡ names_after_rounds (limit - (done + 1)) part user lines defs (names_with_definitions_of_user part user lines names defs)
+one_round limit done part user lines defs names h =
     let left : limit - done ≡ suc (limit - (done + 1)) = grind (arith, h) in
-    ap (λ n. names_after_rounds n part user lines names) left
+    ap (λ n. names_after_rounds n part user lines defs names) left

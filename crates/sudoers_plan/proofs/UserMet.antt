@@ -1,26 +1,31 @@
 -- A user of whom nothing has to go is named nowhere.
-use Rattle.std.proofs.Common.{◌≡◌, ◌∙◌, ◌↔◌, ℕ, ◌+◌, ◌&&◌, ◌||◌, Bool, true, false, not, List, [], ◌∷◌, ◌++◌, map, reverse, Option, Some, None, Result, Ok, Err, refl, sym, ap, if◌then◌else◌}
-use Rattle.std.specs.List.{list_any, list_all}
+use Rattle.std.proofs.Common.{◌≡◌, ◌∙◌, ◌↔◌, ℕ, ◌+◌, ◌&&◌, ◌||◌, Bool, true, false, not, List, [], ◌∷◌, ◌++◌, map, reverse, Option, Some, None, Result, Ok, refl, ap, if◌then◌else◌}
+use Rattle.std.proofs.lemmas.List.{map-append}
+use Rattle.std.proofs.lemmas.List.Folds.{list_any-append}
+use Rattle.std.specs.List.{filter, list_any, list_all}
 use Rattle.std.specs.Str.{bytes_eq}
 use Rattle.sudoers_grammar.specs.declared.node.Atom.{Atom}
 use Rattle.sudoers_grammar.specs.declared.node.Atom.TheVariants as atom
 use Rattle.sudoers_grammar.specs.declared.node.Kind.TheVariants.{User}
-use Rattle.sudoers_grammar.specs.Node.{Def, Member, Node, Scope}
+use Rattle.sudoers_grammar.specs.Node.{Def, Member, Node}
 use Rattle.sudoers_grammar.specs.Node as node
 use Rattle.sudoers_tree.specs.declared.place.WalkLineSpot.{WalkLineSpot}
 use Rattle.sudoers_tree.specs.Definition.{is_equal_kind}
 use Rattle.sudoers_tree.specs.Line.{Line}
 use Rattle.sudoers_tree.specs.Load.{LoadedPolicy}
 use Rattle.sudoers_tree.specs.Policy.{alias_limit_of_each_kind}
+use Rattle.sudoers_tree.specs.Single.{reading_of_single_line}
 use Rattle.sudoers_tree.specs.Walk.{WalkState, spot_of_walk_line}
 use Rattle.sudoers_edit_script.specs.declared.edit.Edit.{Edit}
 use Rattle.sudoers_edit_script.specs.declared.edit.Edit.TheVariants.{Delete, DropDef, DropMember, Insert}
 use Rattle.sudoers_plan.specs.declared.fault.PlanFault.{PlanFault}
-use Rattle.sudoers_plan.specs.declared.fault.PlanFault.TheVariants.{Denial, EmptiedScope}
+use Rattle.sudoers_plan.specs.declared.fault.PlanFault.TheVariants.{Denial, EmptiedScope, Misread}
 use Rattle.sudoers_plan.specs.declared.user_members.ListPart.{ListPart}
 use Rattle.sudoers_plan.specs.declared.user_members.ListPart.TheVariants.{Any, All}
+use Rattle.sudoers_plan.specs.declared.user_misread.UserLineKind.{UserLineKind}
+use Rattle.sudoers_plan.specs.declared.user_misread.UserLineKind.TheVariants.{Rule, Scope}
 use Rattle.sudoers_plan.specs.Numbers.{numbers_of_passing}
-use Rattle.sudoers_plan.specs.User.{aliases_of_user, are_definitions_emptied, edits_of_user_definition, edits_of_user_definitions, edits_of_user_lines, edits_of_user_list, edits_of_user_node, edits_to_lose_user, edits_unless_fault, fault_or_other, first_removal_fault, is_atom_of_user, is_list_of_user, is_member_of_user, is_name_of_user, is_scope_emptied, is_user_alias_defined, is_user_denied_in_line, is_user_denied_in_list, is_user_named_in_line, is_user_named_in_lines, line_without_members, names_after_rounds, names_with_definitions_of_user, names_with_line_of_user, names_with_lines_of_user, names_with_name, removal_fault_of_line, scope_users_of_node, user_lists_of_node, users_of_scope}
+use Rattle.sudoers_plan.specs.User.{aliases_of_user, are_definitions_emptied, edits_of_user_definition, edits_of_user_definitions, edits_of_user_lines, edits_of_user_list, edits_of_user_node, edits_to_lose_user, edits_unless_fault, fault_or_other, first_removal_fault, has_users, is_atom_of_user, is_line_misread, is_list_misread, is_list_of_user, is_member_of_user, is_name_of_user, is_scope_emptied, is_user_alias_defined, is_user_denied_in_line, is_user_denied_in_list, is_user_named_in_line, is_user_named_in_lines, line_without_members, names_with_definitions_of_user, names_with_name, removal_fault_of_line, scope_users_of_node, user_definitions_of_lines, user_definitions_of_node, user_lists_of_node, users_of_scope}
 use Rattle.sudoers_names.proofs.Keys.{any_by_key_is_any_of_keys}
 use Rattle.sudoers_plan.proofs.Numbers.{no_edit_of_numbers, none_passes}
 use Rattle.sudoers_plan.proofs.UserAliases.{rounds_stay}
@@ -107,30 +112,36 @@ no_definition part user lines (d ∷ ds) h =
     ap (λ b. names_with_definitions_of_user part user lines (if b then names_with_name [] d.name else []) ds) (no_list part user lines d.members both.0)
     ∙ no_definition part user lines ds both.1
 
-no_definition_if : (b : Bool) (part : ListPart) (user : List ℕ) (lines : List Line) (ds : List Def)
-    → list_any (list_any (is_member_of_user (Some user) lines [])) (if b then map (λ (d : Def). d.members) ds else []) ≡ false
-    → (if b then names_with_definitions_of_user part user lines [] ds else []) ≡ []
-no_definition_if true part user lines ds h = no_definition part user lines ds h
-no_definition_if false part user lines ds h = refl
+definitions_of_node_not_named : (user : List ℕ) (lines : List Line) (n : Node)
+    → list_any (list_any (is_member_of_user (Some user) lines [])) (user_lists_of_node n) ≡ false
+    → list_any (list_any (is_member_of_user (Some user) lines [])) (map (λ (d : Def). d.members) (user_definitions_of_node n)) ≡ false
+definitions_of_node_not_named user lines node.Blank h = refl
+definitions_of_node_not_named user lines node.Comment h = refl
+definitions_of_node_not_named user lines (node.Include dir path) h = refl
+definitions_of_node_not_named user lines (node.Defaults scope params) h = refl
+definitions_of_node_not_named user lines (node.Spec users groups) h = refl
+definitions_of_node_not_named user lines (node.Alias k defs) h = by (is_equal_kind k User) h
+  where
+    by : (b : Bool) → list_any (list_any (is_member_of_user (Some user) lines [])) (if b then map (λ (d : Def). d.members) defs else []) ≡ false
+        → list_any (list_any (is_member_of_user (Some user) lines [])) (map (λ (d : Def). d.members) (if b then defs else [])) ≡ false
+    by true e = e
+    by false e = refl
 
-no_name_in_line : (part : ListPart) (user : List ℕ) (lines : List Line) (n : Node)
-    → list_any (list_any (is_member_of_user (Some user) lines [])) (user_lists_of_node n) ≡ false → names_with_line_of_user part user lines [] n ≡ []
-no_name_in_line part user lines node.Blank h = refl
-no_name_in_line part user lines node.Comment h = refl
-no_name_in_line part user lines (node.Include dir path) h = refl
-no_name_in_line part user lines (node.Defaults scope params) h = refl
-no_name_in_line part user lines (node.Alias k defs) h = no_definition_if (is_equal_kind k User) part user lines defs h
-no_name_in_line part user lines (node.Spec users groups) h = refl
-
-no_name_in_lines : (part : ListPart) (user : List ℕ) (all lines : List Line) → is_user_named_in_lines user all lines ≡ false → names_with_lines_of_user part user all [] lines ≡ []
-no_name_in_lines part user all [] h = refl
-no_name_in_lines part user all (line ∷ lines) h =
+definitions_of_lines_not_named : (user : List ℕ) (all lines : List Line) → is_user_named_in_lines user all lines ≡ false
+    → list_any (list_any (is_member_of_user (Some user) all [])) (map (λ (d : Def). d.members) (user_definitions_of_lines lines)) ≡ false
+definitions_of_lines_not_named user all [] h = refl
+definitions_of_lines_not_named user all (line ∷ lines) h =
     let both = either_false (is_user_named_in_line user all line) (is_user_named_in_lines user all lines) h in
-    ap (λ names. names_with_lines_of_user part user all names lines) (no_name_in_line part user all line.node both.0) ∙ no_name_in_lines part user all lines both.1
+    ap (list_any (list_any (is_member_of_user (Some user) all []))) (map-append (λ (d : Def). d.members) (user_definitions_of_node line.node) (user_definitions_of_lines lines))
+    ∙ list_any-append (list_any (is_member_of_user (Some user) all [])) (map (λ (d : Def). d.members) (user_definitions_of_node line.node)) (map (λ (d : Def). d.members) (user_definitions_of_lines lines))
+    ∙ ap (λ b. b || list_any (list_any (is_member_of_user (Some user) all [])) (map (λ (d : Def). d.members) (user_definitions_of_lines lines))) (definitions_of_node_not_named user all line.node both.0)
+    ∙ definitions_of_lines_not_named user all lines both.1
 
 no_aliases : (part : ListPart) (user : List ℕ) (lines : List Line) → is_user_named_in_lines user lines lines ≡ false → aliases_of_user part user lines ≡ []
 unfolding aliases_of_user
-no_aliases part user lines h = rounds_stay alias_limit_of_each_kind part user lines [] (no_name_in_lines part user lines lines h)
+no_aliases part user lines h =
+    rounds_stay alias_limit_of_each_kind part user lines (user_definitions_of_lines lines) []
+    (no_definition part user lines (user_definitions_of_lines lines) (definitions_of_lines_not_named user lines lines h))
 
 -- NOTHING STANDS IN HIS WAY
 
@@ -169,18 +180,37 @@ no_denial user lines (node.Spec users groups) h = no_denial_in_list user lines u
 no_scope_emptied : (lines : List Line) (ms : List Member) → is_scope_emptied lines [] ms ≡ false
 no_scope_emptied lines ms = ap (λ b. b && list_all (is_member_of_user None lines []) ms) (none_of_all (is_member_of_user None lines []) (no_scope_member lines) ms)
 
-no_line_fault : (even : Bool) (user : List ℕ) (lines : List Line) (at : WalkLineSpot) (n : Node)
-    → list_any (list_any (is_member_of_user (Some user) lines [])) (user_lists_of_node n) ≡ false → removal_fault_of_line even user lines [] [] at n ≡ None
-no_line_fault even user lines at n h =
-    ap (λ b. if not even && b then Some (Denial at) else (if is_scope_emptied lines [] (scope_users_of_node n) then Some (EmptiedScope at) else None)) (no_denial user lines n h)
-    ∙ ap (λ b. if b then Some (Denial at) else (if is_scope_emptied lines [] (scope_users_of_node n) then Some (EmptiedScope at) else None)) (and_false (not even))
-    ∙ ap (λ b. if b then Some (EmptiedScope at) else None) (no_scope_emptied lines (scope_users_of_node n))
+no_misread_list : (kind : UserLineKind) (goes : Member → Bool) (text : List ℕ) (ms : List Member) → list_any goes ms ≡ false → is_list_misread kind goes text ms ≡ false
+no_misread_list kind goes text ms h =
+    ap (λ b. b && not (list_all goes ms) && not (has_users kind (filter (λ m. not (goes m)) ms) (reading_of_single_line (line_without_members goes text ms)))) h
+
+no_misread : (user : List ℕ) (lines : List Line) (text : List ℕ) (n : Node)
+    → list_any (list_any (is_member_of_user (Some user) lines [])) (user_lists_of_node n) ≡ false → is_line_misread user lines [] text n ≡ false
+no_misread user lines text node.Blank h = refl
+no_misread user lines text node.Comment h = refl
+no_misread user lines text (node.Include dir path) h = refl
+no_misread user lines text (node.Alias k defs) h = refl
+no_misread user lines text (node.Defaults scope params) h =
+    no_misread_list Scope (is_member_of_user None lines []) text (users_of_scope scope) (none_of_all (is_member_of_user None lines []) (no_scope_member lines) (users_of_scope scope))
+no_misread user lines text (node.Spec users groups) h =
+    no_misread_list Rule (is_member_of_user (Some user) lines []) text users (either_false (list_any (is_member_of_user (Some user) lines []) users) false h).0
+
+no_line_fault : (even : Bool) (user : List ℕ) (lines : List Line) (at : WalkLineSpot) (line : Line)
+    → is_user_named_in_line user lines line ≡ false → removal_fault_of_line even user lines [] [] at line ≡ None
+no_line_fault even user lines at line h =
+    ap (λ b. if not even && b then Some (Denial at) else (if is_scope_emptied lines [] (scope_users_of_node line.node) then Some (EmptiedScope at)
+    else (if is_line_misread user lines [] line.text line.node then Some (Misread at) else None))) (no_denial user lines line.node h)
+    ∙ ap (λ b. if b then Some (Denial at) else (if is_scope_emptied lines [] (scope_users_of_node line.node) then Some (EmptiedScope at)
+    else (if is_line_misread user lines [] line.text line.node then Some (Misread at) else None))) (and_false (not even))
+    ∙ ap (λ b. if b then Some (EmptiedScope at) else (if is_line_misread user lines [] line.text line.node then Some (Misread at) else None))
+    (no_scope_emptied lines (scope_users_of_node line.node))
+    ∙ ap (λ b. if b then Some (Misread at) else None) (no_misread user lines line.text line.node h)
 
 no_fault : (even : Bool) (user : List ℕ) (w : WalkState) (n : ℕ) (lines : List Line) → is_user_named_in_lines user w.lines lines ≡ false → first_removal_fault even user w [] [] n lines ≡ None
 no_fault even user w n [] h = refl
 no_fault even user w n (line ∷ lines) h =
     let both = either_false (is_user_named_in_line user w.lines line) (is_user_named_in_lines user w.lines lines) h in
-    ap (λ o. fault_or_other o (first_removal_fault even user w [] [] (n + 1) lines)) (no_line_fault even user w.lines (spot_of_walk_line w n) line.node both.0)
+    ap (λ o. fault_or_other o (first_removal_fault even user w [] [] (n + 1) lines)) (no_line_fault even user w.lines (spot_of_walk_line w n) line both.0)
     ∙ no_fault even user w (n + 1) lines both.1
 
 -- NOTHING GOES EXACTLY WHERE HE IS NOT NAMED
@@ -293,8 +323,8 @@ unfolding edits_to_lose_user edits_with
 nothing_wanted_of_user_if_not_named user even policy = (
   (λ h. lines_lose_nothing user policy.walk (aliases_of_user All user policy.walk.lines) 0 policy.walk.lines (ok_of _ _ h)),
   (λ h.
-    ap (λ his. edits_with user even policy his (aliases_of_user All user policy.walk.lines)) (no_aliases Any user policy.walk.lines h)
-    ∙ ap (edits_with user even policy []) (no_aliases All user policy.walk.lines h)
-    ∙ ap (edits_unless_fault (edits_of_user_lines user policy.walk [] 0 policy.walk.lines)) (no_fault even user policy.walk 0 policy.walk.lines h)
-    ∙ ap Ok (lines_stay user policy.walk 0 policy.walk.lines h)),
+      ap (λ his. edits_with user even policy his (aliases_of_user All user policy.walk.lines)) (no_aliases Any user policy.walk.lines h)
+      ∙ ap (edits_with user even policy []) (no_aliases All user policy.walk.lines h)
+      ∙ ap (edits_unless_fault (edits_of_user_lines user policy.walk [] 0 policy.walk.lines)) (no_fault even user policy.walk 0 policy.walk.lines h)
+      ∙ ap Ok (lines_stay user policy.walk 0 policy.walk.lines h)),
 )

@@ -1,26 +1,30 @@
 -- Where a user stands by name in a policy, and what goes when he goes.
-use Rattle.std.specs.Prelude.{ℕ, zero, suc, ◌+◌, ◌-◌, ◌==◌, ◌&&◌, ◌||◌, not, Bool, true, false, List, [], ◌∷◌, ◌++◌, take, drop, map, reverse, Option, Some, None, is_some, Result, Ok, Err, if◌then◌else◌}
-use Rattle.std.specs.List.{list_any, list_all}
+use Rattle.std.specs.Prelude.{ℕ, zero, suc, ◌+◌, ◌&&◌, ◌||◌, not, Bool, true, false, List, [], ◌∷◌, ◌++◌, take, drop, map, reverse, Option, Some, None, is_some, Result, Ok, Err, if◌then◌else◌}
+use Rattle.std.specs.List.{filter, list_any, list_all}
 use Rattle.std.specs.Str.{bytes_eq}
 use Rattle.sudoers_grammar.specs.declared.node.Atom.{Atom}
 use Rattle.sudoers_grammar.specs.declared.node.Atom.TheVariants as atom
 use Rattle.sudoers_grammar.specs.declared.node.Kind.TheVariants.{User}
-use Rattle.sudoers_grammar.specs.Node.{Def, Member, Node, Scope}
+use Rattle.sudoers_grammar.specs.Node.{Def, Member, Node}
 use Rattle.sudoers_grammar.specs.Node as node
+use Rattle.sudoers_line_rows.specs.Alike.{are_lists_alike, is_same_member}
 use Rattle.sudoers_match_member.specs.Hits.{is_name_equal_ignoring_case}
 use Rattle.sudoers_tree.specs.declared.place.WalkLineSpot.{WalkLineSpot}
 use Rattle.sudoers_tree.specs.Definition.{definition_place_of_name, is_equal_kind}
 use Rattle.sudoers_tree.specs.Line.{Line}
 use Rattle.sudoers_tree.specs.Load.{LoadedPolicy}
 use Rattle.sudoers_tree.specs.Policy.{alias_limit_of_each_kind}
+use Rattle.sudoers_tree.specs.Single.{reading_of_single_line}
 use Rattle.sudoers_tree.specs.Walk.{WalkState, spot_of_walk_line}
 use Rattle.sudoers_edit_script.specs.declared.edit.Edit.{Edit}
 use Rattle.sudoers_edit_script.specs.declared.edit.Edit.TheVariants.{Delete, DropDef, DropMember, Insert}
 use Rattle.sudoers_edit.specs.Splice.{bytes_between}
 use Rattle.sudoers_plan.specs.declared.fault.PlanFault.{PlanFault}
-use Rattle.sudoers_plan.specs.declared.fault.PlanFault.TheVariants.{Denial, EmptiedScope}
+use Rattle.sudoers_plan.specs.declared.fault.PlanFault.TheVariants.{Denial, EmptiedScope, Misread}
 use Rattle.sudoers_plan.specs.declared.user_members.ListPart.{ListPart}
 use Rattle.sudoers_plan.specs.declared.user_members.ListPart.TheVariants.{Any, All}
+use Rattle.sudoers_plan.specs.declared.user_misread.UserLineKind.{UserLineKind}
+use Rattle.sudoers_plan.specs.declared.user_misread.UserLineKind.TheVariants.{Rule, Scope}
 use Rattle.sudoers_plan.specs.Numbers.{numbers_of_passing}
 
 -- WHICH MEMBERS ARE HIS
@@ -52,7 +56,7 @@ user_lists_of_node (node.Include dir path) = []
 user_lists_of_node (node.Defaults scope params) = []
 
 -- the users for whom a Defaults line is
-abbrev pub users_of_scope : Option Scope → List Member
+abbrev pub users_of_scope : Option node.Scope → List Member
 users_of_scope None = []
 users_of_scope (Some scope) = if is_equal_kind scope.kind User then scope.members else []
 
@@ -88,27 +92,28 @@ names_with_definitions_of_user part user lines names [] = names
 names_with_definitions_of_user part user lines names (d ∷ ds) =
     names_with_definitions_of_user part user lines (if is_list_of_user part user lines names d.members then names_with_name names d.name else names) ds
 
-abbrev pub names_with_line_of_user : ListPart → List ℕ → List Line → List (List ℕ) → Node → List (List ℕ)
-names_with_line_of_user part user lines names (node.Alias k defs) = if is_equal_kind k User then names_with_definitions_of_user part user lines names defs else names
-names_with_line_of_user part user lines names node.Blank = names
-names_with_line_of_user part user lines names node.Comment = names
-names_with_line_of_user part user lines names (node.Include dir path) = names
-names_with_line_of_user part user lines names (node.Defaults scope params) = names
-names_with_line_of_user part user lines names (node.Spec users groups) = names
+-- the definitions of user aliases in a line, and in lines
+abbrev pub user_definitions_of_node : Node → List Def
+user_definitions_of_node (node.Alias k defs) = if is_equal_kind k User then defs else []
+user_definitions_of_node node.Blank = []
+user_definitions_of_node node.Comment = []
+user_definitions_of_node (node.Include dir path) = []
+user_definitions_of_node (node.Defaults scope params) = []
+user_definitions_of_node (node.Spec users groups) = []
 
-abbrev pub names_with_lines_of_user : ListPart → List ℕ → List Line → List (List ℕ) → List Line → List (List ℕ)
-names_with_lines_of_user part user all names [] = names
-names_with_lines_of_user part user all names (line ∷ lines) = names_with_lines_of_user part user all (names_with_line_of_user part user all names line.node) lines
+abbrev pub user_definitions_of_lines : List Line → List Def
+user_definitions_of_lines [] = []
+user_definitions_of_lines (line ∷ lines) = user_definitions_of_node line.node ++ user_definitions_of_lines lines
 
--- the names after so many rounds over all lines
-abbrev pub names_after_rounds : ℕ → ListPart → List ℕ → List Line → List (List ℕ) → List (List ℕ)
-names_after_rounds zero part user lines names = names
-names_after_rounds (suc n) part user lines names = names_after_rounds n part user lines (names_with_lines_of_user part user lines names lines)
+-- the names after so many rounds over the definitions
+abbrev pub names_after_rounds : ℕ → ListPart → List ℕ → List Line → List Def → List (List ℕ) → List (List ℕ)
+names_after_rounds zero part user lines defs names = names
+names_after_rounds (suc n) part user lines defs names = names_after_rounds n part user lines defs (names_with_definitions_of_user part user lines names defs)
 
 -- The user aliases in which the user stands, by name or by such an alias: in any member, or in all. There are at most as many user aliases
 -- as rounds, so no round more finds another.
 unfoldable pub aliases_of_user : ListPart → List ℕ → List Line → List (List ℕ)
-aliases_of_user part user lines = names_after_rounds alias_limit_of_each_kind part user lines []
+aliases_of_user part user lines = names_after_rounds alias_limit_of_each_kind part user lines (user_definitions_of_lines lines) []
 
 -- WHERE HE CANNOT GO
 
@@ -131,23 +136,7 @@ is_user_denied_in_line user lines aliases (node.Include dir path) = false
 abbrev pub is_scope_emptied : List Line → List (List ℕ) → List Member → Bool
 is_scope_emptied lines emptied ms = list_any (is_member_of_user None lines emptied) ms && list_all (is_member_of_user None lines emptied) ms
 
--- why the user cannot go from a line
-abbrev pub removal_fault_of_line : Bool → List ℕ → List Line → List (List ℕ) → List (List ℕ) → WalkLineSpot → Node → Option PlanFault
-removal_fault_of_line even_denials user lines his emptied at n =
-    if not even_denials && is_user_denied_in_line user lines his n then Some (Denial at)
-    else (if is_scope_emptied lines emptied (scope_users_of_node n) then Some (EmptiedScope at) else None)
-
-abbrev pub fault_or_other : Option PlanFault → Option PlanFault → Option PlanFault
-fault_or_other (Some fault) other = Some fault
-fault_or_other None other = other
-
--- the fault of the first of these lines that has one; they are numbered from n on
-abbrev pub first_removal_fault : Bool → List ℕ → WalkState → List (List ℕ) → List (List ℕ) → ℕ → List Line → Option PlanFault
-first_removal_fault even_denials user w his emptied n [] = None
-first_removal_fault even_denials user w his emptied n (line ∷ lines) =
-    fault_or_other (removal_fault_of_line even_denials user w.lines his emptied (spot_of_walk_line w n) line.node) (first_removal_fault even_denials user w his emptied (n + 1) lines)
-
--- WHAT GOES
+-- A LINE WITHOUT HIM
 
 abbrev pub start_of_first_member : List Member → ℕ
 start_of_first_member [] = 0
@@ -163,6 +152,44 @@ bytes_without_members goes line has_stayed from (m ∷ ms) =
 
 abbrev pub line_without_members : (Member → Bool) → List ℕ → List Member → List ℕ
 line_without_members goes line ms = take (start_of_first_member ms) line ++ bytes_without_members goes line false (start_of_first_member ms) ms
+
+-- the line is of this kind, and its users say what these say
+abbrev pub has_users : UserLineKind → List Member → Option Node → Bool
+has_users Rule ms (Some (node.Spec users groups)) = are_lists_alike is_same_member ms users
+has_users Scope ms (Some (node.Defaults scope params)) = are_lists_alike is_same_member ms (users_of_scope scope)
+has_users kind ms reading = false
+
+-- Some of the users of the line go, and what is left of it does not read as a line of this kind with the others.
+abbrev pub is_list_misread : UserLineKind → (Member → Bool) → List ℕ → List Member → Bool
+is_list_misread kind goes line ms =
+    list_any goes ms && not (list_all goes ms) && not (has_users kind (filter (λ m. not (goes m)) ms) (reading_of_single_line (line_without_members goes line ms)))
+
+abbrev pub is_line_misread : List ℕ → List Line → List (List ℕ) → List ℕ → Node → Bool
+is_line_misread user lines emptied text (node.Spec users groups) = is_list_misread Rule (is_member_of_user (Some user) lines emptied) text users
+is_line_misread user lines emptied text (node.Defaults scope params) = is_list_misread Scope (is_member_of_user None lines emptied) text (users_of_scope scope)
+is_line_misread user lines emptied text (node.Alias k defs) = false
+is_line_misread user lines emptied text node.Blank = false
+is_line_misread user lines emptied text node.Comment = false
+is_line_misread user lines emptied text (node.Include dir path) = false
+
+-- why the user cannot go from a line
+abbrev pub removal_fault_of_line : Bool → List ℕ → List Line → List (List ℕ) → List (List ℕ) → WalkLineSpot → Line → Option PlanFault
+removal_fault_of_line even_denials user lines his emptied at line =
+    if not even_denials && is_user_denied_in_line user lines his line.node then Some (Denial at)
+    else (if is_scope_emptied lines emptied (scope_users_of_node line.node) then Some (EmptiedScope at)
+    else (if is_line_misread user lines emptied line.text line.node then Some (Misread at) else None))
+
+abbrev pub fault_or_other : Option PlanFault → Option PlanFault → Option PlanFault
+fault_or_other (Some fault) other = Some fault
+fault_or_other None other = other
+
+-- the fault of the first of these lines that has one; they are numbered from n on
+abbrev pub first_removal_fault : Bool → List ℕ → WalkState → List (List ℕ) → List (List ℕ) → ℕ → List Line → Option PlanFault
+first_removal_fault even_denials user w his emptied n [] = None
+first_removal_fault even_denials user w his emptied n (line ∷ lines) =
+    fault_or_other (removal_fault_of_line even_denials user w.lines his emptied (spot_of_walk_line w n) line) (first_removal_fault even_denials user w his emptied (n + 1) lines)
+
+-- WHAT GOES
 
 -- A line that has a list of users loses the members that go, and goes itself where all do.
 abbrev pub edits_of_user_list : (Member → Bool) → WalkLineSpot → List ℕ → List Member → List Edit

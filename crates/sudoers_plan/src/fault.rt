@@ -35,6 +35,9 @@ pub enum PlanFault {
     /// The line at `at` is for aliases that would go, and would be for all users.
     #[error("EmptiedScope")]
     EmptiedScope { at: WalkLineSpot },
+    /// Without the user, the line at `at` would be read as something else, as another kind of line.
+    #[error("Misread")]
+    Misread { at: WalkLineSpot },
     /// An edit that the wish wants is refused.
     #[error("{0}")]
     Refused(EditFault),

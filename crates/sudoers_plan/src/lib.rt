@@ -10,6 +10,8 @@ mod planning;
 mod user_aliases;
 mod user_lines;
 mod user_members;
+mod user_misread;
+mod user_refusals;
 mod user_wish;
 mod wish;
 mod wish_words;

@@ -66,7 +66,13 @@ pub fn find_edits_to_lack_member(
         return Err(PlanFault::NoAlias);
     };
     let mut edits = Edits::new(alloc);
-    append_member_drops(alloc, kind, alias, member.numbers_of_alike(alloc, &members)?, &mut edits)?;
+    append_member_drops(
+        alloc,
+        kind,
+        alias,
+        member.numbers_of_alike(alloc, &members)?,
+        &mut edits,
+    )?;
     Ok(edits)
 }
 

@@ -1,15 +1,17 @@
 //! The aliases in which a user stands.
 
-ghost use Rattle.std.specs.Prelude.{◌≡◌, [], IfOk, OnOk};
-ghost use Rattle.sudoers_line_rows.specs.View.{alias_definitions_of_view, members_of_view, node_of_view};
-ghost use Rattle.sudoers_plan.specs.User.{aliases_of_user, is_list_of_user, names_with_definitions_of_user, names_with_line_of_user, names_with_lines_of_user};
+ghost use Rattle.std.specs.Prelude.{◌≡◌, ◌++◌, map, IfOk, OnOk};
+ghost use Rattle.sudoers_line_rows.specs.Tables.{alias_definition_in_tables, node_in_tables};
+ghost use Rattle.sudoers_line_rows.specs.View.{alias_definitions_of_view, members_of_view};
+ghost use Rattle.sudoers_tree.specs.Line.{lines_of_rows};
+ghost use Rattle.sudoers_plan.specs.User.{aliases_of_user, is_list_of_user, names_with_definitions_of_user, user_definitions_of_lines, user_definitions_of_node};
 
 use crate::user_members::{ListPart, UserMembers};
-use std::alloc::AllocError;
+use std::alloc::{AllocError, Global};
 use sudoers_grammar::Kind;
-use sudoers_line_rows::{AliasDefinitionRow, MemberRow, Node, RowsOfTable};
+use sudoers_line_rows::{AliasDefinitionRow, MemberRow, NodeRow, RowsOfTable, Tables, rows_in};
 use sudoers_names::NameSet;
-use sudoers_tree::{ALIAS_LIMIT, Policy};
+use sudoers_tree::{ALIAS_LIMIT, LineRow, Policy};
 
 /// Returns the aliases of users in which the user stands, by name or by such an alias: in any member, or in all.
 ///
@@ -25,10 +27,16 @@ pub fn find_aliases_of_user(
     ensures { IfOk result (λ names. names ≡ aliases_of_user part user.now policy.now.walk.lines) }
 {
     let alloc = policy.allocator();
+    let lines = policy.lines();
+    let rows = list_user_definitions(alloc, &lines)?;
+    let defs = RowsOfTable {
+        tables: lines.tables,
+        rows: rows.as_slice(),
+    };
     let mut names = NameSet::new(alloc);
     for _ in 0..ALIAS_LIMIT {
         let before = names.len();
-        add_aliases_of_lines(policy, part, user, &mut names)?;
+        add_aliases_of_definitions(policy, part, user, &defs, &mut names)?;
         if names.len() == before {
             return Ok(names);
         }
@@ -36,37 +44,34 @@ pub fn find_aliases_of_user(
     Ok(names)
 }
 
-/// Adds the aliases that the lines of the walk define, and that are the user's.
-fn add_aliases_of_lines(
-    policy: &Policy,
-    part: ListPart,
-    user: &[u8],
-    names: &mut NameSet,
-) -> Result<(), AllocError>
-    ensures { OnOk result (names.new ≡ names_with_lines_of_user part user.now policy.now.walk.lines names.old policy.now.walk.lines) }
+/// Returns the definitions of aliases of users in `lines`, in their order.
+fn list_user_definitions(
+    alloc: Global,
+    lines: &RowsOfTable<'_, LineRow>,
+) -> Result<Vec<AliasDefinitionRow>, AllocError>
+    ensures { IfOk result (λ rows. map (alias_definition_in_tables lines.now.tables.now) rows.items ≡ user_definitions_of_lines (lines_of_rows lines.now)) }
 {
-    let lines = policy.lines();
-    for row in lines.rows {
-        add_aliases_of_line(policy, part, user, &lines.tables.node_of_row(&row.node), names)?;
+    let mut rows = Vec::new(alloc);
+    for line in lines.rows {
+        append_user_definitions(lines.tables, &line.node, &mut rows)?;
     }
-    Ok(())
+    Ok(rows)
 }
 
-/// Adds the aliases that a line defines, and that are the user's.
-fn add_aliases_of_line(
-    policy: &Policy,
-    part: ListPart,
-    user: &[u8],
-    node: &Node<'_>,
-    names: &mut NameSet,
+/// Appends the definitions of aliases of users in a line that says `node`.
+fn append_user_definitions(
+    tables: &Tables,
+    node: &NodeRow,
+    rows: &mut Vec<AliasDefinitionRow>,
 ) -> Result<(), AllocError>
-    ensures { OnOk result (names.new ≡ names_with_line_of_user part user.now policy.now.walk.lines names.old (node_of_view node.now)) }
+    ensures { OnOk result (map (alias_definition_in_tables tables.now) rows.new.items
+        ≡ map (alias_definition_in_tables tables.now) rows.old.items ++ user_definitions_of_node (node_in_tables tables.now node.now)) }
 {
-    match node {
-        Node::Alias {
+    match *node {
+        NodeRow::Alias {
             kind: Kind::User,
             defs,
-        } => add_aliases_of_definitions(policy, part, user, defs, names),
+        } => rows.extend_from_slice(rows_in(tables.defs.as_slice(), defs)),
         _ => Ok(()),
     }
 }

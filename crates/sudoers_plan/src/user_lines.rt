@@ -31,7 +31,7 @@ pub struct LeavingUser<'a> {
 
 impl<'a> LeavingUser<'a> {
     /// Returns the test of the members that go from rules and aliases.
-    fn members(&self) -> UserMembers<'a>
+    pub fn members(&self) -> UserMembers<'a>
         ensures policy { result.policy.now ≡ self.now.policy.now }
         ensures user { option_copied result.user ≡ Some self.now.user.now }
         ensures aliases { result.aliases.now ≡ self.now.emptied.now }
@@ -75,11 +75,12 @@ impl<'a> LeavingUser<'a> {
                 append_edits_of_list(&self.members(), at, text, users, edits)
             }
             Node::Defaults {
-                scope:
-                    Some(Scope {
+                scope: Some(
+                    Scope {
                         kind: Kind::User,
                         members,
-                    }),
+                    },
+                ),
                 ..
             } => append_edits_of_list(&self.scope_members(), at, text, members, edits),
             _ => Ok(()),
@@ -126,7 +127,7 @@ impl<'a> LeavingUser<'a> {
             })?);
         }
         let alloc = self.policy.allocator();
-        let numbers = self.members().numbers(alloc, &def.members)?;
+        let numbers = self.members().list_numbers(alloc, &def.members)?;
         append_member_drops(alloc, Kind::User, def.name, numbers, edits)
     }
 }
@@ -194,7 +195,7 @@ fn append_edits_of_list(
 }
 
 /// Returns the line `text` without those of `members` that go.
-fn cut_members_out(
+pub fn cut_members_out(
     going: &UserMembers<'_>,
     text: &[u8],
     members: &RowsOfTable<'_, MemberRow>,
@@ -203,20 +204,20 @@ fn cut_members_out(
         ≡ line_without_members (is_member_of_user (option_copied going.now.user) going.now.policy.now.walk.lines going.now.aliases.now) text.now (members_of_view members.now)) }
 {
     let mut from = start_of_first(members);
-    let mut line = Text::from_slice(going.policy.allocator(), slice_between(text, 0, from))?;
+    let mut line = Text::from_slice(going.policy.allocator(), cut_slice_between(text, 0, from))?;
     let mut has_stayed = false;
     let mut left = members.rows;
     while let Some((row, behind)) = left.split_first() {
         let member = members.tables.member_of_row(row);
         if !going.has(members.tables, row) {
             let start = if has_stayed { from } else { member.start };
-            line.extend_from_slice(slice_between(text, start, member.stop))?;
+            line.extend_from_slice(cut_slice_between(text, start, member.stop))?;
             has_stayed = true;
         }
         from = member.stop;
         left = behind;
     }
-    line.extend_from_slice(slice_behind(text, from))?;
+    line.extend_from_slice(cut_slice_behind(text, from))?;
     Ok(line)
 }
 
@@ -232,7 +233,7 @@ fn start_of_first(members: &RowsOfTable<'_, MemberRow>) -> usize
 
 /// Returns the bytes of `text` from the offset `from` on.
 #[tactic(auto, using(crate::proofs::UserEdits::drop_by_least))]
-fn slice_behind(text: &[u8], from: usize) -> &[u8]
+fn cut_slice_behind(text: &[u8], from: usize) -> &[u8]
     ensures { result.now ≡ drop from text.now }
 {
     text.split_at(from.min(text.len())).1
@@ -240,9 +241,9 @@ fn slice_behind(text: &[u8], from: usize) -> &[u8]
 
 /// Returns the bytes of `text` from the offset `from` up to `to`.
 #[tactic(auto, using(crate::proofs::UserEdits::take_by_least))]
-fn slice_between(text: &[u8], from: usize, to: usize) -> &[u8]
+fn cut_slice_between(text: &[u8], from: usize, to: usize) -> &[u8]
     ensures { result.now ≡ bytes_between from to text.now }
 {
-    let behind = slice_behind(text, from);
+    let behind = cut_slice_behind(text, from);
     behind.split_at(to.saturating_sub(from).min(behind.len())).0
 }

@@ -1,7 +1,7 @@
 //! Which members of lists are a user's.
 
-ghost use Rattle.std.specs.Prelude.{◌≡◌, IfOk};
-ghost use Rattle.std.specs.List.{list_any, list_all};
+ghost use Rattle.std.specs.Prelude.{◌≡◌, map, not, IfOk};
+ghost use Rattle.std.specs.List.{filter, list_any, list_all};
 ghost use Rattle.std.specs.Option.{option_copied};
 ghost use Rattle.sudoers_line_rows.specs.Tables.{member_in_tables};
 ghost use Rattle.sudoers_line_rows.specs.View.{atom_of_view, members_of_view};
@@ -116,7 +116,7 @@ impl UserMembers<'_> {
     }
 
     /// Returns the numbers, from 0, of those of `members` that pass.
-    pub fn numbers(
+    pub fn list_numbers(
         &self,
         alloc: Global,
         members: &RowsOfTable<'_, MemberRow>,
@@ -131,5 +131,23 @@ impl UserMembers<'_> {
             }
         }
         Ok(numbers)
+    }
+
+    /// Returns those of `members` that do not pass.
+    pub fn list_others(
+        &self,
+        alloc: Global,
+        members: &RowsOfTable<'_, MemberRow>,
+    ) -> Result<Vec<MemberRow>, AllocError>
+        ensures { IfOk result (λ others. map (member_in_tables members.now.tables.now) others.items
+            ≡ filter (λ m. not (is_member_of_user (option_copied self.now.user) self.now.policy.now.walk.lines self.now.aliases.now m)) (members_of_view members.now)) }
+    {
+        let mut others = Vec::new(alloc);
+        for row in members.rows {
+            if !self.has(members.tables, row) {
+                others.push(*row)?;
+            }
+        }
+        Ok(others)
     }
 }

@@ -1,6 +1,7 @@
-use Rattle.std.proofs.Common.{◌≡◌, ◌∙◌, ◌+◌, ◌-◌, length, sym, ap}
+use Rattle.std.proofs.Common.{◌≡◌, ◌∙◌, ◌+◌, ◌-◌, length, map, sym, ap}
+use Rattle.sudoers_line_rows.specs.Tables.{alias_definition_in_tables}
 use Rattle.sudoers_tree.specs.Policy.{alias_limit_of_each_kind}
-use Rattle.sudoers_plan.specs.User.{names_after_rounds, names_with_lines_of_user}
+use Rattle.sudoers_plan.specs.User.{names_after_rounds, names_with_definitions_of_user}
 use Rattle.sudoers_plan.proofs.UserAliases.{one_round, round_ends, rounds_end}
 use Rattle.sudoers_plan.proofs.user_aliases.find_aliases_of_user.Goals as goal
 
@@ -9,17 +10,19 @@ returns-then-len-before c =
     let part = c.args.part in
     let user = c.args.user.now in
     let lines = c.args.policy.now.walk.lines in
+    let defs = map (alias_definition_in_tables c.lines-lines.result.tables.now) c.as_slice.result.now in
     let names = c.loop.names in
-    let one : c.add_aliases_of_lines.new.names ≡ names_with_lines_of_user part user lines names lines = c.in_ok-add_aliases_of_lines.ensures in
-    let same : length (names_with_lines_of_user part user lines names lines) ≡ length names = ap length (sym one) ∙ sym c.len.ensures ∙ c.if-len-before.true ∙ c.len-before.ensures in
-    one ∙ round_ends part user lines names same ∙ sym (rounds_end (alias_limit_of_each_kind - c.loop.counter) part user lines names same) ∙ c.loop.invariant
+    let one : c.add_aliases_of_definitions.new.names ≡ names_with_definitions_of_user part user lines names defs = c.in_ok-add_aliases_of_definitions.ensures in
+    let same : length (names_with_definitions_of_user part user lines names defs) ≡ length names = ap length (sym one) ∙ sym c.len.ensures ∙ c.if-len-before.true ∙ c.len-before.ensures in
+    one ∙ round_ends part user lines defs names same ∙ sym (rounds_end (alias_limit_of_each_kind - c.loop.counter) part user lines defs names same) ∙ c.loop.invariant
 
 pub loop-preserved : goal.loop-preserved
 loop-preserved c =
     let part = c.args.part in
     let user = c.args.user.now in
     let lines = c.args.policy.now.walk.lines in
+    let defs = map (alias_definition_in_tables c.lines-lines.result.tables.now) c.as_slice.result.now in
     let names = c.loop.names in
-    let one : c.add_aliases_of_lines.new.names ≡ names_with_lines_of_user part user lines names lines = c.in_ok-add_aliases_of_lines.ensures in
-    ap (names_after_rounds (alias_limit_of_each_kind - (c.loop.counter + 1)) part user lines) one
-    ∙ sym (one_round alias_limit_of_each_kind c.loop.counter part user lines names c.loop-test.true) ∙ c.loop.invariant
+    let one : c.add_aliases_of_definitions.new.names ≡ names_with_definitions_of_user part user lines names defs = c.in_ok-add_aliases_of_definitions.ensures in
+    ap (names_after_rounds (alias_limit_of_each_kind - (c.loop.counter + 1)) part user lines defs) one
+    ∙ sym (one_round alias_limit_of_each_kind c.loop.counter part user lines defs names c.loop-test.true) ∙ c.loop.invariant

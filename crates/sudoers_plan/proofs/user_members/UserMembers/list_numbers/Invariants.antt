@@ -3,7 +3,7 @@ use Rattle.std.specs.Option.{option_copied}
 use Rattle.sudoers_line_rows.specs.Tables.{member_in_tables}
 use Rattle.sudoers_plan.specs.Numbers.{numbers_of_passing}
 use Rattle.sudoers_plan.specs.User.{is_member_of_user}
-use Rattle.sudoers_plan.proofs.user_members.UserMembers.numbers.Given as goal
+use Rattle.sudoers_plan.proofs.user_members.UserMembers.list_numbers.Given as goal
 
 abbrev pub invariant-loop-number : goal.invariant-loop-number
 invariant-loop-number l =

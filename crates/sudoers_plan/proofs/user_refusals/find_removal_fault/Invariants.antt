@@ -1,7 +1,7 @@
 use Rattle.std.proofs.Common.{◌≡◌, drop, map}
 use Rattle.sudoers_tree.specs.Line.{line_of_row}
 use Rattle.sudoers_plan.specs.User.{first_removal_fault}
-use Rattle.sudoers_plan.proofs.user_wish.find_removal_fault.Given as goal
+use Rattle.sudoers_plan.proofs.user_refusals.find_removal_fault.Given as goal
 
 abbrev pub invariant-loop-number : goal.invariant-loop-number
 invariant-loop-number l =
