@@ -5,7 +5,7 @@ use Rattle.std.specs.Str.{bytes_eq}
 use Rattle.sudoers_grammar.specs.Node.{Def}
 use Rattle.sudoers_tree.specs.Line.{Line}
 use Rattle.sudoers_plan.specs.declared.user_members.ListPart.{ListPart}
-use Rattle.sudoers_plan.specs.User.{is_list_of_user, names_after_rounds, names_with_definitions_of_user, names_with_name}
+use Rattle.sudoers_plan.specs.User.{is_list_of_user, names_after_rounds, names_with_definitions_of_user}
 
 -- NAMES ARE ADDED AT THE END
 
@@ -19,22 +19,17 @@ begins_self names = ([], sym (append-nil names))
 begins_then : (a b c : List (List ℕ)) → Begins a b → Begins b c → Begins a c
 begins_then a b c (x, p) (y, q) = (x ++ y, q ∙ ap (λ l. l ++ y) p ∙ append_assoc a x y)
 
-with_name_begins : (names : List (List ℕ)) (name : List ℕ) → Begins names (names_with_name names name)
-with_name_begins names name = by (list_any (bytes_eq name) names)
-  where
-    by : (b : Bool) → Begins names (if b then names else names ++ name ∷ [])
-    by true = begins_self names
-    by false = (name ∷ [], refl)
-
-with_name_if_begins : (b : Bool) (names : List (List ℕ)) (name : List ℕ) → Begins names (if b then names_with_name names name else names)
-with_name_if_begins true names name = with_name_begins names name
-with_name_if_begins false names name = begins_self names
+with_name_begins : (has is : Bool) (names : List (List ℕ)) (name : List ℕ) → Begins names (if has then names else (if is then names ++ name ∷ [] else names))
+with_name_begins true is names name = begins_self names
+with_name_begins false true names name = (name ∷ [], refl)
+with_name_begins false false names name = begins_self names
 
 with_definitions_begins : (part : ListPart) (user : List ℕ) (all : List Line) (ds : List Def) (names : List (List ℕ)) → Begins names (names_with_definitions_of_user part user all names ds)
 with_definitions_begins part user all [] names = begins_self names
 with_definitions_begins part user all (d ∷ ds) names =
-    begins_then names _ _ (with_name_if_begins (is_list_of_user part user all names d.members) names d.name)
-    (with_definitions_begins part user all ds (if is_list_of_user part user all names d.members then names_with_name names d.name else names))
+    begins_then names _ _ (with_name_begins (list_any (bytes_eq d.name) names) (is_list_of_user part user all names d.members) names d.name)
+    (with_definitions_begins part user all ds
+    (if list_any (bytes_eq d.name) names then names else (if is_list_of_user part user all names d.members then names ++ d.name ∷ [] else names)))
 
 -- ROUNDS
 

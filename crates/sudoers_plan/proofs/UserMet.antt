@@ -25,7 +25,7 @@ use Rattle.sudoers_plan.specs.declared.user_members.ListPart.TheVariants.{Any, A
 use Rattle.sudoers_plan.specs.declared.user_misread.UserLineKind.{UserLineKind}
 use Rattle.sudoers_plan.specs.declared.user_misread.UserLineKind.TheVariants.{Rule, Scope}
 use Rattle.sudoers_plan.specs.Numbers.{numbers_of_passing}
-use Rattle.sudoers_plan.specs.User.{aliases_of_user, are_definitions_emptied, edits_of_user_definition, edits_of_user_definitions, edits_of_user_lines, edits_of_user_list, edits_of_user_node, edits_to_lose_user, edits_unless_fault, fault_or_other, first_removal_fault, has_users, is_atom_of_user, is_line_misread, is_list_misread, is_list_of_user, is_member_of_user, is_name_of_user, is_scope_emptied, is_user_alias_defined, is_user_denied_in_line, is_user_denied_in_list, is_user_named_in_line, is_user_named_in_lines, line_without_members, names_with_definitions_of_user, names_with_name, removal_fault_of_line, scope_users_of_node, user_definitions_of_lines, user_definitions_of_node, user_lists_of_node, users_of_scope}
+use Rattle.sudoers_plan.specs.User.{aliases_of_user, are_definitions_emptied, edits_of_user_definition, edits_of_user_definitions, edits_of_user_lines, edits_of_user_list, edits_of_user_node, edits_to_lose_user, edits_unless_fault, fault_or_other, first_removal_fault, has_users, is_atom_of_user, is_line_misread, is_list_misread, is_list_of_user, is_member_of_user, is_name_of_user, is_scope_emptied, is_user_alias_defined, is_user_denied_in_line, is_user_denied_in_list, is_user_named_in_line, is_user_named_in_lines, line_without_members, names_with_definitions_of_user, removal_fault_of_line, scope_users_of_node, user_definitions_of_lines, user_definitions_of_node, user_lists_of_node, users_of_scope}
 use Rattle.sudoers_names.proofs.Keys.{any_by_key_is_any_of_keys}
 use Rattle.sudoers_plan.proofs.Numbers.{no_edit_of_numbers, none_passes}
 use Rattle.sudoers_plan.proofs.UserAliases.{rounds_stay}
@@ -60,7 +60,7 @@ no_edits (e ∷ a) b h = absurd (cc)
 -- the scope of a Defaults line without aliases names nobody
 no_scope_atom : (lines : List Line) (a : Atom) → is_atom_of_user None lines [] a ≡ false
 no_scope_atom lines (atom.Name name) = refl
-no_scope_atom lines (atom.Alias name) = and_false (not (is_user_alias_defined lines name))
+no_scope_atom lines (atom.Alias name) = refl
 no_scope_atom lines atom.All = refl
 no_scope_atom lines (atom.Id n) = refl
 no_scope_atom lines (atom.Group name) = refl
@@ -80,7 +80,7 @@ no_scope_member lines m = no_scope_atom lines m.atom
 -- what is not the user's with aliases is not without
 fewer_atoms : (user : List ℕ) (lines : List Line) (aliases : List (List ℕ)) (a : Atom) → is_atom_of_user (Some user) lines aliases a ≡ false → is_atom_of_user (Some user) lines [] a ≡ false
 fewer_atoms user lines aliases (atom.Name name) h = h
-fewer_atoms user lines aliases (atom.Alias name) h = (either_false (list_any (bytes_eq name) aliases) (not (is_user_alias_defined lines name) && is_name_of_user (Some user) name) h).1
+fewer_atoms user lines aliases (atom.Alias name) h = (either_false (list_any (bytes_eq name) aliases) (is_name_of_user (Some user) name && not (is_user_alias_defined lines name)) h).1
 fewer_atoms user lines aliases atom.All h = refl
 fewer_atoms user lines aliases (atom.Id n) h = refl
 fewer_atoms user lines aliases (atom.Group name) h = refl
@@ -109,7 +109,7 @@ no_definition : (part : ListPart) (user : List ℕ) (lines : List Line) (ds : Li
 no_definition part user lines [] h = refl
 no_definition part user lines (d ∷ ds) h =
     let both = either_false (list_any (is_member_of_user (Some user) lines []) d.members) (list_any (list_any (is_member_of_user (Some user) lines [])) (map (λ (e : Def). e.members) ds)) h in
-    ap (λ b. names_with_definitions_of_user part user lines (if b then names_with_name [] d.name else []) ds) (no_list part user lines d.members both.0)
+    ap (λ b. names_with_definitions_of_user part user lines (if b then d.name ∷ [] else []) ds) (no_list part user lines d.members both.0)
     ∙ no_definition part user lines ds both.1
 
 definitions_of_node_not_named : (user : List ℕ) (lines : List Line) (n : Node)

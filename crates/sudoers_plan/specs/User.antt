@@ -40,7 +40,7 @@ is_user_alias_defined lines name = is_some (definition_place_of_name User name l
 -- The member is the user's name, or one of these aliases. The name of an alias that is not defined is the name of a user.
 abbrev pub is_atom_of_user : Option (List ℕ) → List Line → List (List ℕ) → Atom → Bool
 is_atom_of_user user lines aliases (atom.Name name) = is_name_of_user user name
-is_atom_of_user user lines aliases (atom.Alias name) = list_any (bytes_eq name) aliases || (not (is_user_alias_defined lines name) && is_name_of_user user name)
+is_atom_of_user user lines aliases (atom.Alias name) = list_any (bytes_eq name) aliases || (is_name_of_user user name && not (is_user_alias_defined lines name))
 is_atom_of_user user lines aliases a = false
 
 abbrev pub is_member_of_user : Option (List ℕ) → List Line → List (List ℕ) → Member → Bool
@@ -83,14 +83,12 @@ abbrev pub is_list_of_user : ListPart → List ℕ → List Line → List (List 
 is_list_of_user Any user lines aliases ms = list_any (is_member_of_user (Some user) lines aliases) ms
 is_list_of_user All user lines aliases ms = list_any (is_member_of_user (Some user) lines aliases) ms && list_all (is_member_of_user (Some user) lines aliases) ms
 
-abbrev pub names_with_name : List (List ℕ) → List ℕ → List (List ℕ)
-names_with_name names name = if list_any (bytes_eq name) names then names else names ++ name ∷ []
-
 -- the names, and those of the definitions whose lists are the user's, each asked with the names before it
 abbrev pub names_with_definitions_of_user : ListPart → List ℕ → List Line → List (List ℕ) → List Def → List (List ℕ)
 names_with_definitions_of_user part user lines names [] = names
 names_with_definitions_of_user part user lines names (d ∷ ds) =
-    names_with_definitions_of_user part user lines (if is_list_of_user part user lines names d.members then names_with_name names d.name else names) ds
+    names_with_definitions_of_user part user lines
+    (if list_any (bytes_eq d.name) names then names else (if is_list_of_user part user lines names d.members then names ++ d.name ∷ [] else names)) ds
 
 -- the definitions of user aliases in a line, and in lines
 abbrev pub user_definitions_of_node : Node → List Def

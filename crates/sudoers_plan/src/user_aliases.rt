@@ -89,7 +89,7 @@ fn add_aliases_of_definitions(
     let alloc = policy.allocator();
     for row in defs.rows {
         let def = defs.tables.alias_definition_of_row(row);
-        if is_list_of_user_part(policy, part, user, &def.members, names) {
+        if !names.has(def.name) && is_list_of_user_part(policy, part, user, &def.members, names) {
             names.add(alloc, def.name)?;
         }
     }

@@ -60,7 +60,7 @@ impl UserMembers<'_> {
         match *atom {
             BorrowedAtom::Name(name) => self.is_user(name),
             BorrowedAtom::Alias(name) => {
-                self.aliases.has(name) || !self.is_defined(name) && self.is_user(name)
+                self.aliases.has(name) || self.is_user(name) && !self.is_defined(name)
             }
             _ => false,
         }
