@@ -30,7 +30,7 @@ pub fn is_name_of_user(policy: &Policy, kind: Kind, atom: &BorrowedAtom<'_>, use
     match *atom {
         BorrowedAtom::Name(name) => is_same_name_ignoring_case(name, user),
         BorrowedAtom::Alias(name) => {
-            policy.definition(kind, name).is_none() && is_same_name_ignoring_case(name, user)
+            is_same_name_ignoring_case(name, user) && policy.definition(kind, name).is_none()
         }
         _ => false,
     }
@@ -98,7 +98,7 @@ impl<'a> MemberFinder<'a> {
     ) -> Result<(), AllocError> {
         for row in defs.rows {
             let def = defs.tables.alias_definition_of_row(row);
-            if self.has_member_among(&def.members) {
+            if !self.aliases.has(def.name) && self.has_member_among(&def.members) {
                 self.aliases.add(self.policy.allocator(), def.name)?;
             }
         }
