@@ -18,7 +18,7 @@ from devices import Stand as Devices
 from devices import refuse_growths
 from preload import with_library
 from program import SECONDS, Wanted, fault
-from stand import EMPTY_FOLDER, PIPE, Folder, Link, Stand, stand_of_nobody
+from stand import EMPTY_FOLDER, Closed, Folder, Link, Stand, stand_of_nobody
 from tally import difference
 
 PART = "installed"
@@ -268,39 +268,39 @@ def without_owners(text):
 
 
 def run_whole_outputs(stand):
-    """What comes with the notes, also for a user who is not root: other lines, errors, standard input and wrong words."""
-    files = {"main": "@includedir d\n@includedir none\n@includedir d/\n@includedir main\nbob ALL = WEB\n", "d/a": "# a\n", "d/b.x": "", "d/c~": ""}
+    """What comes before the notes, also for a user who is not root."""
+    main = "bob ALL = WEB\n@includedir d\n@includedir none\n@includedir main\n"
+    files = {"main": main, "d/a": "# a\n", "d/b.x": "", "d/c~": ""}
     skipped = "d/b.x: not read: its name contains '.'\nd/c~: not read: its name ends in '~'\n"
     missing = "main: not read: no such folder\nnone: not read: no such folder\n"
+    undefined = "main:1:11: undefined Cmnd_Alias WEB\n"
+    errors = tuple(f"main:{row}:8: syntax error: EndOfLine\n" for row in (1, 2))
+    open_folder = "d: not read by sudo: mode 0777, should be 0755\n"
+    empty = {"main": "@includedir d\n@includedir d/\n", "d": Closed(None, 0o777)}
     cases = (
-        ("a skipped name", {"main": "@includedir d\n", "d/b.x": ""}, "check --installed main", "main: parsed OK\nd/b.x: not read: its name contains '.'\n", 0),
-        ("an undefined alias", {"main": "bob ALL = WEB\n"}, "check --installed main", "main:1:11: undefined Cmnd_Alias WEB\nmain: parsed OK\n", 0),
-        ("an undefined alias, strict", {"main": "bob ALL = WEB\n"}, "check -s --installed main", "main:1:11: undefined Cmnd_Alias WEB\nmain: faults found\n", 1),
-        ("skipped names and missing folders", files, "check --installed main", f"main:5:11: undefined Cmnd_Alias WEB\nmain: parsed OK\n{skipped}{missing}", 0),
-        ("an error of the policy", {"main": "bob ALL\n@includedir d\n", "d": EMPTY_FOLDER}, "check --installed main", "main:1:8: syntax error: EndOfLine\n", 1),
-        ("all errors", {"main": "bob ALL\nann ALL\n"}, "check --all --installed main", "main:1:8: syntax error: EndOfLine\nmain:2:8: syntax error: EndOfLine\n", 1),
-        ("no file", {}, "check --installed main", None, 1),
+        ("--installed", "an undefined alias", {"main": "bob ALL = WEB\n"}, undefined + "main: parsed OK\n", 0),
+        ("-s --installed", "an undefined alias", {"main": "bob ALL = WEB\n"}, undefined + "main: faults found\n", 1),
+        ("--installed", "skipped names", files, f"{undefined}main: parsed OK\n{skipped}{missing}", 0),
+        ("--installed", "an error", {**empty, "main": "bob ALL\n@includedir d\n"}, errors[0] + open_folder, 1),
+        ("--installed", "no lines", {**empty, "main": "@includedir d\n\0"}, "main: NUL at byte 14\n", 1),
+        ("--all --installed", "all errors", {"main": "bob ALL\nann ALL\n"}, "".join(errors), 1),
+        ("--installed", "a folder twice", empty, f"main: parsed OK\n{open_folder}", 0),
+        ("-s --installed", "a folder twice", empty, f"main: parsed OK\n{open_folder}", 1),
     )
-    for name, tree, words, text, status in cases:
+    for words, name, tree, text, status in cases:
         with Folder(tree) as folder:
-            for one, _, _ in os.walk(folder):
-                os.chmod(one, 0o755)
-            for made in tree:
-                if made != "d":
-                    os.chmod(os.path.join(folder, made), 0o440)
-            came = stand.run(words, folder)
-            if text is None:
-                stand.tally.note(f"{PART}: {name}", fault("NoRoot").problems(came))
-                continue
+            for one, _, names in os.walk(folder):
+                os.chmod(one, 0o777 if "d" in tree and one.endswith("/d") else 0o755)
+                for file in names:
+                    os.chmod(os.path.join(one, file), 0o440)
+            came = stand.run(f"check {words} main", folder)
             problems = difference("lines", text.encode(), without_owners(came.stdout))
-            strict_by_owner = os.geteuid() != 0 and "-s" in words
-            problems += [] if strict_by_owner else difference("status", status, came.status)
-            stand.tally.note(f"{PART}: {name}", problems)
+            stand.tally.note(f"{PART}: {name}, {words}", problems + difference("status", status, came.status))
 
 
 def run_no_files(stand):
     """A policy that is no file of the disk, and options that do not go together."""
-    with Folder({"pipe": PIPE, "d": EMPTY_FOLDER}) as folder:
+    with Folder({"d": EMPTY_FOLDER}) as folder:
         os.chmod(os.path.join(folder, "d"), 0o755)
         note = b"-: parsed OK\n-: not looked at: standard input\n"
         stand.note("standard input", "check --installed -", Wanted(note), folder, b"# a\n")
@@ -308,6 +308,7 @@ def run_no_files(stand):
         stand.note("standard input, quiet", "check -q -s --installed -", Wanted(status=1), folder, b"# a\n")
         note = b"/dev/null: parsed OK\n/dev/null: not read by sudo: no regular file\n"
         stand.note("a device", "check --installed /dev/null", Wanted(note), folder)
+        stand.note("no file", "check --installed none", fault("NoRoot"), folder)
         came = stand.run("check --installed --json main", folder)
         stand.tally.note(f"{PART}: --json", Wanted(status=2, stderr=came.stderr, stderr_has=(b"--json",)).problems(came))
 

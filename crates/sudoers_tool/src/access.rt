@@ -44,7 +44,7 @@ impl Refuser {
 
 impl Access {
     /// Returns the access that the disk has in `metadata`.
-    pub fn of_metadata(metadata: &Metadata) -> Access {
+    pub fn from_metadata(metadata: &Metadata) -> Access {
         Access {
             owner: metadata.uid(),
             group: metadata.gid(),

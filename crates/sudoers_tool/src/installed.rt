@@ -40,7 +40,7 @@ pub fn make_installed_flag<'a>(alloc: Global) -> Result<Arg<'a>, AllocError> {
         .long(INSTALLED)
         .action(ArgAction::SetTrue)
         .help(
-            "After the report, do what --skipped does, and list links, and files and folders that sudo or `visudo -c` refuses for their owner or mode",
+            "After the report, do what --skipped does, and list links, and files and folders that sudo or visudo refuses for their owner or mode",
         )
         .conflicts_with(JSON)
 }
@@ -124,7 +124,7 @@ impl InstalledNotes {
         if !metadata.is_file() {
             return self.append_refusal(alloc, name, Refuser::Sudo, "no regular file");
         }
-        let access = Access::of_metadata(&metadata);
+        let access = Access::from_metadata(&metadata);
         if let Some(refuser) = access.refuser_for_owner() {
             self.append_wrong_owner(alloc, name, refuser, &access)?;
         }
@@ -198,7 +198,7 @@ impl InstalledNotes {
             return Ok(());
         }
         self.append_link(disk, name)?;
-        let access = Access::of_metadata(&metadata);
+        let access = Access::from_metadata(&metadata);
         if access.owner != 0 {
             self.append_wrong_owner(alloc, name, Refuser::Sudo, &access)?;
         }
