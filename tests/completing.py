@@ -41,7 +41,7 @@ OPTIONS_OF_LIST = (
     *("--same", "--usr-merge"),
 )
 OPTIONS_OF_CHECK = (
-    *("-h", "--help", "-q", "-s", "--root", "--skipped", "--all", "--json"),
+    *("-h", "--help", "-q", "-s", "--root", "--skipped", "--installed", "--all", "--json"),
     *("--error-status", "--explain", "--plain"),
 )
 OPTIONS_OF_SHOW = ("--error-status", "--explain", "-h", "--help", "--json", "--members", "--plain", "--root")
@@ -78,6 +78,8 @@ ROWS = (
     (("check", "--explain", "--plain", "w"), ("web team",)),
     (("check", "--s"), ("--skipped",)),
     (("check", "--j"), ("--json",)),
+    (("check", "--i"), ("--installed",)),
+    (("check", "--installed", "w"), ("web team",)),
     (("check", "--json", "w"), ("web team",)),
     (("show", "--j"), ("--json",)),
     (("check", "--r"), ("--root",)),

@@ -1,6 +1,7 @@
 //! A tool for sudoers policies whose promises are proved.
 #![tactic(auto)]
 
+mod access;
 mod all_errors;
 mod also_option;
 mod apply_command;
@@ -16,6 +17,7 @@ mod explaining_edits;
 mod file_trouble;
 mod files;
 mod files_within_byte_budget;
+mod installed;
 mod json_output;
 mod kept_files;
 mod list_command;
@@ -47,6 +49,7 @@ use crate::explaining::{
 use crate::explaining_edits::EditExplanation;
 use crate::file_trouble::FileTrouble;
 use crate::files::{KeptDisk, open_disk_files};
+use crate::installed::{are_installed_notes_asked, find_installed_notes};
 use crate::json_output::{
     is_json_asked, print_error_document, run_check_as_json, run_show_as_json,
 };
@@ -310,6 +313,19 @@ fn run_check_command(
     if is_json_asked(words) {
         return run_check_as_json(rt, file, words, files);
     }
+    let notes = find_installed_notes(rt, words, file, files)?;
+    let status = print_report_of_check(rt, file, words, files)?;
+    notes.print(rt, words)?;
+    Ok(status.max(notes.status_of_words(words)))
+}
+
+/// Prints the report on a policy, or all its errors if `words` ask for them. Returns the exit status.
+fn print_report_of_check(
+    rt: &HostRuntime,
+    file: &str,
+    words: &ArgMatches<'_>,
+    files: &mut KeptDisk,
+) -> Result<u8, ToolFault> {
     if print_all_errors(rt, words, file, files)? {
         return Ok(1);
     }
@@ -318,7 +334,7 @@ fn run_check_command(
     let asked = CheckWords {
         quiet: words.get_flag("quiet"),
         strict: words.get_flag("strict"),
-        skipped: words.get_flag("skipped"),
+        skipped: words.get_flag("skipped") || are_installed_notes_asked(words),
     };
     run_check(rt.alloc(), files, root, &asked, &mut writer)
 }

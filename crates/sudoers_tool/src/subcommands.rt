@@ -6,6 +6,7 @@ use crate::ask_subcommands::{make_what_subcommand, make_who_subcommand, make_why
 use crate::convert_command::make_convert_subcommand;
 use crate::edit_command::{EDIT, make_edit_subcommand};
 use crate::explaining::add_error_options;
+use crate::installed::make_installed_flag;
 use crate::json_output::make_json_flag;
 use crate::list_command::make_list_subcommand;
 use crate::place_command::make_place_subcommand;
@@ -89,6 +90,7 @@ fn make_check_subcommand<'a>(alloc: Global) -> Result<Command<'a>, AllocError> {
         .arg(quiet)?
         .arg(strict)?
         .arg(skipped)?
+        .arg(make_installed_flag(alloc)?)?
         .arg(make_all_flag(alloc))?
         .arg(make_json_flag(alloc))?
         .arg(make_root_folder_option(alloc))?
