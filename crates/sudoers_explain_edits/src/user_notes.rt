@@ -16,6 +16,9 @@ use sudoers_tree::{Line, Policy};
 /// How many notes a call prints.
 const MOST_NOTES: usize = 32;
 
+/// What is said before the name of a user, of the first denied command of a rule that this user leaves.
+const DENIED_COMMANDS: &[u8] = b"the rule denied commands to ";
+
 /// A list of which members are noted.
 #[derive(Clone, Copy)]
 enum NotedList {
@@ -210,7 +213,7 @@ impl UserNotes<'_> {
         for row in members.rows {
             let member = members.tables.member_of_row(row);
             if let Some(words) = user.words_of_member(&member.atom, list) {
-                self.append_note(line, &member, &[user.name, words])?;
+                self.append_note(line, &member, user.name, words)?;
             }
         }
         Ok(())
@@ -226,22 +229,19 @@ impl UserNotes<'_> {
         for row in groups.rows {
             let group = groups.tables.host_group_of_row(row);
             if let Some(member) = user.find_denied_command(&group) {
-                return self.append_note(
-                    line,
-                    &member,
-                    &[b"the rule denied commands to ", user.name],
-                );
+                return self.append_note(line, &member, DENIED_COMMANDS, user.name);
             }
         }
         Ok(())
     }
 
-    /// Appends a note with the words `words` about the member `member` of the line.
+    /// Appends a note about the member `member` of the line: the words `words`, and then `end`.
     fn append_note(
         &mut self,
         line: ShownLine<'_>,
         member: &Member<'_>,
-        words: &[&[u8]],
+        words: &[u8],
+        end: &[u8],
     ) -> Result<(), AllocError> {
         self.count = self.count.saturating_add(1);
         if self.count > MOST_NOTES {
@@ -252,9 +252,8 @@ impl UserNotes<'_> {
         note.extend_from_slice(b": ")?;
         line.append_bytes_between(&mut note, member.start, member.stop)?;
         note.extend_from_slice(b": ")?;
-        for word in words {
-            note.extend_from_slice(word)?;
-        }
+        note.extend_from_slice(words)?;
+        note.extend_from_slice(end)?;
         self.append_line(note.as_slice())
     }
 
