@@ -29,9 +29,9 @@ pub struct InstalledNotes {
 
 /// A disk that has a policy: that of the system, or the part of it that the words of a command name.
 #[derive(Clone, Copy)]
-struct PolicyDisk<'a> {
+struct PolicyDisk<'a, 'b, 'c> {
     rt: &'a HostRuntime,
-    words: &'a ArgMatches<'a>,
+    words: &'b ArgMatches<'c>,
 }
 
 /// Returns the flag that asks for notes about the disk.
@@ -96,7 +96,7 @@ impl InstalledNotes {
     /// standard input.
     fn append_file(
         &mut self,
-        disk: &PolicyDisk<'_>,
+        disk: &PolicyDisk<'_, '_, '_>,
         file: &NamedFile,
         has_stdin: bool,
     ) -> Result<(), AllocError> {
@@ -112,7 +112,7 @@ impl InstalledNotes {
     /// Appends the notes on the file `name`.
     fn append_notes_on_file(
         &mut self,
-        disk: &PolicyDisk<'_>,
+        disk: &PolicyDisk<'_, '_, '_>,
         name: &str,
     ) -> Result<(), AllocError> {
         let alloc = disk.alloc();
@@ -137,7 +137,7 @@ impl InstalledNotes {
     /// Appends the notes on the folders that the lines of the file `file` include. A text that has no lines includes none.
     fn append_folders_of_file(
         &mut self,
-        disk: &PolicyDisk<'_>,
+        disk: &PolicyDisk<'_, '_, '_>,
         file: &NamedFile,
     ) -> Result<(), AllocError> {
         let bytes = file.bytes.as_slice();
@@ -154,7 +154,7 @@ impl InstalledNotes {
     /// Appends the notes on the folders that the lines `lines` of the file `name` include.
     fn append_folders_of_lines(
         &mut self,
-        disk: &PolicyDisk<'_>,
+        disk: &PolicyDisk<'_, '_, '_>,
         name: &[u8],
         lines: &Lines<'_>,
     ) -> Result<(), AllocError> {
@@ -170,7 +170,11 @@ impl InstalledNotes {
 
     /// Appends the notes on the folder `dir`, unless it was looked at. The name of the folder `/` is empty. A name that is not UTF-8 counts as
     /// missing.
-    fn append_folder_once(&mut self, disk: &PolicyDisk<'_>, dir: &[u8]) -> Result<(), AllocError> {
+    fn append_folder_once(
+        &mut self,
+        disk: &PolicyDisk<'_, '_, '_>,
+        dir: &[u8],
+    ) -> Result<(), AllocError> {
         let is_new = self.folders.insert(Vec::from_slice(disk.alloc(), dir)?)?;
         if !is_new {
             return Ok(());
@@ -185,7 +189,7 @@ impl InstalledNotes {
     /// Appends the notes on the folder `name`. There is none on a folder that is missing.
     fn append_notes_on_folder(
         &mut self,
-        disk: &PolicyDisk<'_>,
+        disk: &PolicyDisk<'_, '_, '_>,
         name: &str,
     ) -> Result<(), AllocError> {
         let alloc = disk.alloc();
@@ -210,7 +214,7 @@ impl InstalledNotes {
     }
 
     /// Appends a note on the link `name`: where it leads. Appends nothing if it is no link.
-    fn append_link(&mut self, disk: &PolicyDisk<'_>, name: &str) -> Result<(), AllocError> {
+    fn append_link(&mut self, disk: &PolicyDisk<'_, '_, '_>, name: &str) -> Result<(), AllocError> {
         let alloc = disk.alloc();
         match disk.find_target_of_link(name) {
             Ok(Some(target)) => {
@@ -275,7 +279,7 @@ impl InstalledNotes {
     }
 }
 
-impl PolicyDisk<'_> {
+impl PolicyDisk<'_, '_, '_> {
     /// Returns what makes memory grow.
     fn alloc(&self) -> Global {
         self.rt.alloc()
