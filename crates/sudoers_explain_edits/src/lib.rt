@@ -23,6 +23,7 @@ mod wish_refusals;
 
 pub use edit_hints::{EditHint, words_of_edit_hint};
 pub use input_mistakes::{explain_bad_bundle, explain_missing_mark, split_edit_input};
+pub use nearest::Nearest;
 pub use refusals::explain_refused_edit;
 pub use script_faults::explain_script_fault;
 pub use shown_lines::ShownLine;

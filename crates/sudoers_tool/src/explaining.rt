@@ -5,6 +5,7 @@ use crate::files::{KeptDisk, STDIN, words_of_error_kind};
 use crate::installed::are_installed_notes_asked;
 use crate::json_output::is_json_asked;
 use crate::machine::{name_of_group_file, name_of_passwd_file};
+use crate::target_notes::are_target_notes_asked;
 use crate::terminal::open_standard_error;
 use clap::{Arg, ArgAction, ArgMatches, Command};
 use std::alloc::{AllocError, Global};
@@ -86,10 +87,13 @@ pub fn are_errors_explained(rt: &HostRuntime, words: &ArgMatches<'_>) -> bool {
         && (words.get_flag(EXPLAIN) || rt.stderr().is_terminal())
 }
 
-/// Returns whether the files of a policy are read again by the command of `words`: to explain its error, for all errors, or for the notes about
-/// the disk.
+/// Returns whether the files of a policy are read again by the command of `words`: to explain its error, for all errors, or for notes behind
+/// the report.
 pub fn are_files_read_again(rt: &HostRuntime, words: &ArgMatches<'_>) -> bool {
-    words.get_flag("all") || are_installed_notes_asked(words) || are_errors_explained(rt, words)
+    words.get_flag("all")
+        || are_installed_notes_asked(words)
+        || are_target_notes_asked(words)
+        || are_errors_explained(rt, words)
 }
 
 /// Returns the lines that explain why the command of `words` on the policy `root` ended with `outcome`; no bytes if errors are not explained,

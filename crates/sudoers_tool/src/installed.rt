@@ -2,8 +2,9 @@
 
 use crate::access::{Access, FILE_MODE, Refuser};
 use crate::files::{KeptDisk, STDIN, words_of_error_kind};
-use crate::json_output::{JSON, write_document};
+use crate::json_output::JSON;
 use crate::placed_paths::resolve_existing_name;
+use crate::report_notes::ReportNotes;
 use clap::{Arg, ArgAction, ArgMatches};
 use std::alloc::{AllocError, Global};
 use std::collections::BTreeSet;
@@ -20,9 +21,7 @@ const INSTALLED: &str = "installed";
 /// The notes about the disk that has a policy.
 #[derive(Drop)]
 pub struct InstalledNotes {
-    text: Vec<u8>,
-    /// Whether something is refused, or could not be looked at.
-    is_refused: bool,
+    pub notes: ReportNotes,
     /// The folders that were looked at.
     folders: BTreeSet<Vec<u8>>,
 }
@@ -59,8 +58,7 @@ pub fn find_installed_notes(
 ) -> Result<InstalledNotes, ToolFault> {
     let alloc = rt.alloc();
     let mut notes = InstalledNotes {
-        text: Vec::new(alloc),
-        is_refused: false,
+        notes: ReportNotes::new(alloc),
         folders: BTreeSet::new(alloc),
     };
     if !are_installed_notes_asked(words) {
@@ -75,23 +73,6 @@ pub fn find_installed_notes(
 }
 
 impl InstalledNotes {
-    /// Prints the notes, unless `words` ask for no output.
-    pub fn print(&self, rt: &HostRuntime, words: &ArgMatches<'_>) -> Result<(), ToolFault> {
-        if self.text.is_empty() || words.get_flag("quiet") {
-            return Ok(());
-        }
-        write_document(rt, self.text.as_slice())
-    }
-
-    /// Returns the exit status: 1 if `words` are strict and something is refused or could not be looked at.
-    pub fn status_of_words(&self, words: &ArgMatches<'_>) -> u8 {
-        if self.is_refused && words.get_flag("strict") {
-            1
-        } else {
-            0
-        }
-    }
-
     /// Appends the notes on the file `file`, and then those on the folders that its lines include. With `has_stdin` the file `-` is the
     /// standard input.
     fn append_file(
@@ -219,7 +200,7 @@ impl InstalledNotes {
         match disk.find_target_of_link(name) {
             Ok(Some(target)) => {
                 let note = format!(in alloc; "{name}: symbolic link to {target}\n")?;
-                self.text.extend_from_slice(note.as_bytes())
+                self.notes.text.extend_from_slice(note.as_bytes())
             }
             Ok(None) => Ok(()),
             Err(error) => self.append_not_looked_at(alloc, name, words_of_error(&error)?),
@@ -233,9 +214,9 @@ impl InstalledNotes {
         name: &str,
         reason: &str,
     ) -> Result<(), AllocError> {
-        self.is_refused = true;
+        self.notes.is_refused = true;
         let note = format!(in alloc; "{name}: not looked at: {reason}\n")?;
-        self.text.extend_from_slice(note.as_bytes())
+        self.notes.text.extend_from_slice(note.as_bytes())
     }
 
     /// Appends the note that `refuser` refuses `name` for its owner and its group.
@@ -272,10 +253,10 @@ impl InstalledNotes {
         refuser: Refuser,
         reason: &str,
     ) -> Result<(), AllocError> {
-        self.is_refused = true;
+        self.notes.is_refused = true;
         let refused = refuser.words();
         let note = format!(in alloc; "{name}: {refused}: {reason}\n")?;
-        self.text.extend_from_slice(note.as_bytes())
+        self.notes.text.extend_from_slice(note.as_bytes())
     }
 }
 

@@ -28,9 +28,11 @@ mod place_trouble;
 mod placed_files;
 mod placed_paths;
 mod plan_command;
+mod report_notes;
 mod same_folders;
 mod show_members;
 mod subcommands;
+mod target_notes;
 mod terminal;
 mod usage_errors;
 mod wish_options;
@@ -59,6 +61,7 @@ use crate::place_command::{PLACE, run_place_command};
 use crate::plan_command::{PLAN, run_plan_command};
 use crate::show_members::{are_members_asked, run_show_members};
 use crate::subcommands::make_top_level_command;
+use crate::target_notes::find_target_notes;
 use crate::terminal::{open_standard_output, print_error_line};
 use crate::usage_errors::{
     find_usage_error, print_help_or_usage_error, print_usage_error_of_command,
@@ -313,10 +316,15 @@ fn run_check_command(
     if is_json_asked(words) {
         return run_check_as_json(rt, file, words, files);
     }
-    let notes = find_installed_notes(rt, words, file, files)?;
+    let installed = find_installed_notes(rt, words, file, files)?.notes;
+    let refused = find_target_notes(rt, words, file, files)?;
     let status = print_report_of_check(rt, file, words, files)?;
-    notes.print(rt, words)?;
-    Ok(status.max(notes.status_of_words(words)))
+    installed.print(rt, words)?;
+    refused.print(rt, words)?;
+    let noted = installed
+        .status_of_words(words)
+        .max(refused.status_of_words(words));
+    Ok(status.max(noted))
 }
 
 /// Prints the report on a policy, or all its errors if `words` ask for them. Returns the exit status.

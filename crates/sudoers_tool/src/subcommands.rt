@@ -12,6 +12,7 @@ use crate::list_command::make_list_subcommand;
 use crate::place_command::make_place_subcommand;
 use crate::plan_command::{PLAN, make_plan_subcommand};
 use crate::show_members::make_members_flag;
+use crate::target_notes::make_target_option;
 use clap::{Arg, ArgAction, Command};
 use std::alloc::{AllocError, Global};
 
@@ -85,12 +86,13 @@ fn make_check_subcommand<'a>(alloc: Global) -> Result<Command<'a>, AllocError> {
         );
     Command::new(alloc, "check")
         .about(
-            "Check the syntax of a policy with the files that it includes, and report undefined, cyclic and unused aliases; names of Defaults are not checked",
+            "Check the syntax of a policy with the files that it includes, and report undefined, cyclic and unused aliases; names and values of Defaults are checked with --for alone",
         )
         .arg(quiet)?
         .arg(strict)?
         .arg(skipped)?
         .arg(make_installed_flag(alloc)?)?
+        .arg(make_target_option(alloc)?)?
         .arg(make_all_flag(alloc))?
         .arg(make_json_flag(alloc))?
         .arg(make_root_folder_option(alloc))?

@@ -1,0 +1,4 @@
+pub mod Numbers
+pub mod Values
+pub mod Parameter
+pub mod Refused

@@ -1,0 +1,98 @@
+-- Why sudo refuses a parameter of a Defaults line.
+use Rattle.std.specs.Prelude.{ℕ, ◌==◌, ◌&&◌, ◌||◌, not, Bool, true, false, List, [], ◌∷◌, codes, Option, Some, None, if◌then◌else◌}
+use Rattle.std.specs.List.{list_any}
+use Rattle.std.specs.Str.{bytes_eq}
+use Rattle.sudoers_text.specs.Unit.{is_empty}
+use Rattle.sudoers_text.specs.Word.{is_among}
+use Rattle.sudoers_grammar.specs.declared.node.Operator.{Operator}
+use Rattle.sudoers_grammar.specs.declared.node.Operator.TheVariants as operator
+use Rattle.sudoers_grammar.specs.Node.{Param, Setting}
+use Rattle.sudoers_defaults.specs.declared.parameter_group.ParameterGroup.{ParameterGroup}
+use Rattle.sudoers_defaults.specs.declared.parameter_group.ParameterType.{ParameterType}
+use Rattle.sudoers_defaults.specs.declared.parameter_group.ParameterType.TheVariants as type
+use Rattle.sudoers_defaults.specs.declared.parameter_group.UseWithoutValue.{UseWithoutValue}
+use Rattle.sudoers_defaults.specs.declared.parameter_group.UseWithoutValue.TheVariants as bare
+use Rattle.sudoers_defaults.specs.declared.parameter_fault.ParameterFault.{ParameterFault}
+use Rattle.sudoers_defaults.specs.declared.parameter_fault.ParameterFault.TheVariants as fault
+use Rattle.sudoers_defaults.specs.Values.{words_of_set, is_path, is_path_or_star, is_integer, is_unsigned, is_mode, is_minutes, is_time, is_resource_limit}
+
+abbrev pub is_name_in_group : List ℕ → ParameterGroup → Bool
+is_name_in_group name g = list_any (λ n. bytes_eq n.now name) g.names.now
+
+-- the group of the parameter with this name, the first if there are several
+abbrev pub group_of_name : List ℕ → List ParameterGroup → Option ParameterGroup
+group_of_name name [] = None
+group_of_name name (g ∷ gs) = if is_name_in_group name g then Some g else group_of_name name gs
+
+-- The parameter may stand without a value, with or without `!`.
+abbrev pub is_used_without_value : UseWithoutValue → Bool → Bool
+is_used_without_value bare.Both negated = true
+is_used_without_value bare.Negated negated = negated
+is_used_without_value bare.Never negated = false
+
+-- Outside quotes, the spelling of a value begins with `!`, or holds a `=` without a backslash.
+abbrev pub has_bare_equals : Bool → List ℕ → Bool
+has_bare_equals escaped [] = false
+has_bare_equals escaped (b ∷ rest) = (b == 61 && not escaped) || has_bare_equals (b == 92 && not escaped) rest
+
+abbrev pub needs_quotes : List ℕ → Bool
+needs_quotes [] = false
+needs_quotes (b ∷ rest) = not (b == 34) && (b == 33 || has_bare_equals false (b ∷ rest))
+
+abbrev pub is_list : ParameterType → Bool
+is_list type.List = true
+is_list t = false
+
+-- `+=` and `-=` are for lists.
+abbrev pub is_operator_for : ParameterType → Operator → Bool
+is_operator_for t operator.Set = true
+is_operator_for t o = is_list t
+
+abbrev pub fault_unless : Bool → ParameterFault → Option ParameterFault
+fault_unless true f = None
+fault_unless false f = Some f
+
+-- the locales that each machine has
+abbrev pub locales_of_each_machine : List (List ℕ)
+locales_of_each_machine = codes "C" ∷ codes "POSIX" ∷ []
+
+-- A parameter of this type takes the value, if it takes numbers or words.
+abbrev pub is_number_or_word_taken : ParameterType → List ℕ → Bool
+is_number_or_word_taken type.Integer value = is_integer value
+is_number_or_word_taken type.Unsigned value = is_unsigned value
+is_number_or_word_taken type.Mode value = is_mode value
+is_number_or_word_taken type.Minutes value = is_minutes value
+is_number_or_word_taken type.Time value = is_time value
+is_number_or_word_taken type.ResourceLimit value = is_resource_limit value
+is_number_or_word_taken (type.OneOf set) value = is_among (words_of_set set) value
+is_number_or_word_taken t value = true
+
+-- what a parameter of this type does not take as a value
+abbrev pub fault_of_value : ParameterType → List ℕ → Option ParameterFault
+fault_of_value type.Flag value = Some fault.NeedlessValue
+fault_of_value type.Text value = None
+fault_of_value type.List value = None
+fault_of_value type.Locale value = fault_unless (is_among locales_of_each_machine value) fault.NotDecided
+fault_of_value type.Path value = fault_unless (is_path value) fault.BadPath
+fault_of_value type.PathOrStar value = fault_unless (is_path_or_star value) fault.BadPath
+fault_of_value t value = fault_unless (is_number_or_word_taken t value) fault.BadValue
+
+-- what is wrong with a value: it is empty, needs quotes, has an operator that is for lists, or is not taken
+abbrev pub fault_of_setting : ParameterType → Setting → List ℕ → Option ParameterFault
+fault_of_setting t s spelling =
+    if is_empty s.value then Some fault.EmptyValue
+    else (if needs_quotes spelling then Some fault.NeedsQuotes
+    else (if not (is_operator_for t s.operator) then Some fault.Operator
+    else fault_of_value t s.value))
+
+abbrev pub fault_of_use : ParameterGroup → Bool → Option Setting → List ℕ → Option ParameterFault
+fault_of_use k negated None spelling = fault_unless (is_used_without_value k.without_value negated) fault.NoValue
+fault_of_use k negated (Some s) spelling = fault_of_setting k.takes s spelling
+
+abbrev pub fault_if_known : Option ParameterGroup → Param → List ℕ → Option ParameterFault
+fault_if_known None p spelling = Some fault.Unknown
+fault_if_known (Some k) p spelling = fault_of_use k p.negated p.setting spelling
+
+-- why a parameter is refused whose value is spelled so, where these parameters are known
+abbrev pub fault_of_parameter : List ParameterGroup → Param → List ℕ → Option ParameterFault
+fault_of_parameter known p spelling = fault_if_known (group_of_name p.name known) p spelling

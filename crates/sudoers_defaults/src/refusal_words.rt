@@ -1,0 +1,81 @@
+//! Why a parameter is refused, in words.
+
+use crate::parameter_fault::ParameterFault;
+use crate::parameter_group::{ParameterGroup, ParameterType, WordSet, find_group_of_name};
+use std::alloc::AllocError;
+
+/// Appends why the parameter `name` is refused with the fault `fault`, where these parameters are `known`.
+///
+/// # Errors
+///
+/// Memory ran out.
+pub fn append_refusal_words(
+    out: &mut Vec<u8>,
+    known: &[ParameterGroup],
+    name: &[u8],
+    fault: ParameterFault,
+) -> Result<(), AllocError> {
+    match fault {
+        ParameterFault::Unknown => out.extend_from_slice(b"unknown name"),
+        ParameterFault::NoValue => append_taken_value(out, b"needs a value: ", known, name),
+        ParameterFault::Operator => out.extend_from_slice(b"+= and -= are for lists"),
+        ParameterFault::NeedlessValue => out.extend_from_slice(b"takes no value"),
+        ParameterFault::EmptyValue => out.extend_from_slice(b"empty value"),
+        ParameterFault::NeedsQuotes => out.extend_from_slice(b"the value needs quotes"),
+        ParameterFault::BadValue | ParameterFault::BadPath => {
+            append_taken_value(out, b"takes ", known, name)
+        }
+        ParameterFault::NotDecided => out.extend_from_slice(
+            b"the machine may not have this locale",
+        ),
+    }
+}
+
+/// Appends `verb` and what the parameter `name` takes.
+fn append_taken_value(
+    out: &mut Vec<u8>,
+    verb: &[u8],
+    known: &[ParameterGroup],
+    name: &[u8],
+) -> Result<(), AllocError> {
+    out.extend_from_slice(verb)?;
+    match find_group_of_name(known, name) {
+        Some(group) => out.extend_from_slice(words_of_type(group.takes).as_bytes()),
+        None => Ok(()),
+    }
+}
+
+/// Returns what a parameter of the type `takes` takes, in words.
+fn words_of_type(takes: ParameterType) -> &'static str {
+    match takes {
+        ParameterType::Flag => "nothing",
+        ParameterType::Text => "a text",
+        ParameterType::Path => "a path that begins with /",
+        ParameterType::PathOrStar => "a path that begins with / or ~, or *",
+        ParameterType::Integer => "a number from -2147483648 to 2147483647",
+        ParameterType::Unsigned => "a number up to 4294967295",
+        ParameterType::Mode => "an octal mode up to 0777",
+        ParameterType::Minutes => "minutes, as 5 or 2.5",
+        ParameterType::Time => "a time below 2147483648 seconds, as 90 or 1h30m",
+        ParameterType::ResourceLimit => {
+            "a number, infinity, or two of them with a comma, or user or default"
+        }
+        ParameterType::OneOf(set) => words_of_set(set),
+        ParameterType::List => "words",
+        ParameterType::Locale => "a locale",
+    }
+}
+
+/// Returns the words of `set`, one after another.
+fn words_of_set(set: WordSet) -> &'static str {
+    match set {
+        WordSet::Lecture => "never, once or always",
+        WordSet::Commands => "never, any, all or always",
+        WordSet::Execution => "never, digest_only or always",
+        WordSet::Tickets => "global, ppid, tty or kernel",
+        WordSet::LogFormat => "sudo or json",
+        WordSet::Interception => "dso or trace",
+        WordSet::Facility => "authpriv, auth, daemon, user, or local0 to local7",
+        WordSet::Priority => { "alert, crit, debug, emerg, err, info, notice, warning or none" }
+    }
+}

@@ -1,0 +1,181 @@
+//! Notes about what a program that reads the policy refuses, for `check --for`.
+
+use crate::files::KeptDisk;
+use crate::json_output::JSON;
+use crate::report_notes::ReportNotes;
+use clap::{Arg, ArgMatches};
+use std::alloc::{AllocError, Global};
+use sudoers_defaults::{
+    ParameterFault, ParameterGroup, RefusedParameter, append_refusal_words,
+    list_refused_parameters, parameters_of_sudo,
+};
+use sudoers_explain_edits::Nearest;
+use sudoers_files::gather;
+use sudoers_run::{LayerFault, ToolFault};
+use sudoers_text::append_decimal_number;
+use sudoers_tree::{Line, LoadFault, Policy, Span, WalkLineSpot, column_behind, lf_count};
+
+/// The option that names the program that reads the policy.
+const TARGET: &str = "TARGET";
+
+/// The programs for which a policy can be checked.
+static TARGETS: [&str; 1] = ["sudo"];
+
+/// A line of the walk: where it stands, and its text.
+#[derive(Clone, Copy)]
+struct WalkedText<'a> {
+    spot: WalkLineSpot,
+    text: &'a [u8],
+}
+
+/// Returns the option that names the program that reads the policy.
+pub fn make_target_option<'a>(alloc: Global) -> Result<Arg<'a>, AllocError> {
+    Arg::new(alloc, TARGET)
+        .long("for")
+        .value_parser(TARGETS.as_slice())
+        .hide_possible_values(true)
+        .help(
+            "After the report, list names and values of Defaults that this program refuses: sudo, for `visudo -c` of sudo 1.9",
+        )
+        .conflicts_with(JSON)
+}
+
+/// Returns whether `words` name a program that reads the policy.
+pub fn are_target_notes_asked(words: &ArgMatches<'_>) -> bool {
+    words.get_str(TARGET).is_some()
+}
+
+/// Returns the notes about the policy `root`, if `words` ask for them. `files` are those of the policy. There are none on a policy with an
+/// error, which its report tells.
+pub fn find_target_notes(
+    rt: &HostRuntime,
+    words: &ArgMatches<'_>,
+    root: &str,
+    files: &mut KeptDisk,
+) -> Result<ReportNotes, ToolFault> {
+    let alloc = rt.alloc();
+    let mut notes = ReportNotes::new(alloc);
+    if !are_target_notes_asked(words) {
+        return Ok(notes);
+    }
+    let found = gather(alloc, root.as_bytes(), files).map_err(LayerFault::from)?;
+    match Policy::load(alloc, found.as_slice()) {
+        Ok(policy) => append_refusals(alloc, &policy, parameters_of_sudo(), &mut notes)?,
+        Err(LoadFault::NoMemory) => return Err(ToolFault::from(AllocError)),
+        Err(_) => {}
+    }
+    Ok(notes)
+}
+
+/// Appends a note for each parameter of `policy` that is refused where these parameters are `known`.
+fn append_refusals(
+    alloc: Global,
+    policy: &Policy,
+    known: &[ParameterGroup],
+    notes: &mut ReportNotes,
+) -> Result<(), AllocError> {
+    let refused = list_refused_parameters(alloc, policy, known)?;
+    for parameter in &refused {
+        if let Some(line) = find_walked_text(policy, parameter.name.line) {
+            let name = line.bytes_of_span(parameter.name);
+            let file = policy.file_name(line.spot.file);
+            line.append_place(alloc, file, parameter, &mut notes.text)?;
+            append_finding(alloc, known, name, parameter.fault, &mut notes.text)?;
+            notes.is_refused |= parameter.fault != ParameterFault::NotDecided;
+        }
+    }
+    Ok(())
+}
+
+/// Returns the line with the number `number` of the walk of `policy`.
+fn find_walked_text(policy: &Policy, number: usize) -> Option<WalkedText<'_>> {
+    let lines = policy.lines();
+    let row = lines.rows.get(number)?;
+    let spot = policy.spots_of_walk_lines().get(number)?;
+    Some(WalkedText {
+        spot: *spot,
+        text: Line::from_line_row(lines.tables, row).text,
+    })
+}
+
+impl<'a> WalkedText<'a> {
+    /// Returns the bytes of a part of the line.
+    fn bytes_of_span(&self, span: Span) -> &'a [u8] {
+        self.text.get(span.start..span.stop).unwrap_or(b"")
+    }
+
+    /// Appends where the refused part of `parameter` stands: the file, the line and the column of its value, if that is refused, else of its
+    /// name.
+    fn append_place(
+        &self,
+        alloc: Global,
+        file: &[u8],
+        parameter: &RefusedParameter,
+        out: &mut Vec<u8>,
+    ) -> Result<(), AllocError> {
+        let at = match parameter.value {
+            Some(value) if is_about_value(parameter.fault) => value.start,
+            _ => parameter.name.start,
+        };
+        let before = self.text.get(..at).unwrap_or(b"");
+        out.extend_from_slice(file)?;
+        out.extend_from_slice(b":")?;
+        append_decimal_number(alloc, out, self.spot.row.saturating_add(lf_count(before)))?;
+        out.extend_from_slice(b":")?;
+        append_decimal_number(alloc, out, column_behind(before))
+    }
+}
+
+/// Returns whether a fault is one of the value of a parameter, and not of its name or its use.
+fn is_about_value(fault: ParameterFault) -> bool {
+    !matches!(
+        fault,
+        ParameterFault::Unknown | ParameterFault::NoValue | ParameterFault::Operator
+    )
+}
+
+/// Appends what is said of the parameter `name`, whose fault is `fault`.
+fn append_finding(
+    alloc: Global,
+    known: &[ParameterGroup],
+    name: &[u8],
+    fault: ParameterFault,
+    out: &mut Vec<u8>,
+) -> Result<(), AllocError> {
+    let finding: &[u8] = match fault {
+        ParameterFault::NotDecided => b": not decided: Defaults ",
+        _ => b": refused by visudo -c: Defaults ",
+    };
+    out.extend_from_slice(finding)?;
+    out.extend_from_slice(name)?;
+    out.extend_from_slice(b": ")?;
+    append_refusal_words(out, known, name, fault)?;
+    if fault == ParameterFault::Unknown {
+        append_similar_name(alloc, known, name, out)?;
+    }
+    out.extend_from_slice(b"\n")
+}
+
+/// Appends the known name that is most like `name`, if one is like it.
+fn append_similar_name(
+    alloc: Global,
+    known: &[ParameterGroup],
+    name: &[u8],
+    out: &mut Vec<u8>,
+) -> Result<(), AllocError> {
+    let Ok(name) = str::from_utf8(name) else {
+        return Ok(());
+    };
+    let mut nearest = Nearest::new();
+    for group in known {
+        for known_name in group.names {
+            nearest = nearest.choose_nearer(alloc, name, known_name)?;
+        }
+    }
+    if nearest.name().is_empty() {
+        return Ok(());
+    }
+    out.extend_from_slice(b"; did you mean ")?;
+    out.extend_from_slice(nearest.name().as_bytes())?;
+    out.extend_from_slice(b"?")
+}
