@@ -14,7 +14,7 @@ use Rattle.sudoers_defaults.specs.declared.parameter_group.UseWithoutValue.{UseW
 use Rattle.sudoers_defaults.specs.declared.parameter_group.UseWithoutValue.TheVariants as bare
 use Rattle.sudoers_defaults.specs.declared.parameter_fault.ParameterFault.{ParameterFault}
 use Rattle.sudoers_defaults.specs.declared.parameter_fault.ParameterFault.TheVariants as fault
-use Rattle.sudoers_defaults.specs.Values.{words_of_set, is_path, is_path_or_star, is_integer, is_unsigned, is_mode, is_minutes, is_time, is_resource_limit}
+use Rattle.sudoers_defaults.specs.Values.{words_of_set, is_path, is_path_or_star, is_integer, is_unsigned, is_mode, is_minutes, is_time, is_resource_limit, is_small_number, is_plain_minutes}
 
 abbrev pub is_name_in_group : List ℕ → ParameterGroup → Bool
 is_name_in_group name g = list_any (λ n. bytes_eq n.now name) g.names.now
@@ -38,6 +38,10 @@ has_bare_equals escaped (b ∷ rest) = (b == 61 && not escaped) || has_bare_equa
 abbrev pub needs_quotes : List ℕ → Bool
 needs_quotes [] = false
 needs_quotes (b ∷ rest) = not (b == 34) && (b == 33 || has_bare_equals false (b ∷ rest))
+
+abbrev pub is_free_text : ParameterType → Bool
+is_free_text type.FreeText = true
+is_free_text t = false
 
 abbrev pub is_list : ParameterType → Bool
 is_list type.List = true
@@ -64,6 +68,8 @@ is_number_or_word_taken type.Mode value = is_mode value
 is_number_or_word_taken type.Minutes value = is_minutes value
 is_number_or_word_taken type.Time value = is_time value
 is_number_or_word_taken type.ResourceLimit value = is_resource_limit value
+is_number_or_word_taken type.SmallNumber value = is_small_number value
+is_number_or_word_taken type.PlainMinutes value = is_plain_minutes value
 is_number_or_word_taken (type.OneOf set) value = is_among (words_of_set set) value
 is_number_or_word_taken t value = true
 
@@ -71,6 +77,7 @@ is_number_or_word_taken t value = true
 abbrev pub fault_of_value : ParameterType → List ℕ → Option ParameterFault
 fault_of_value type.Flag value = Some fault.NeedlessValue
 fault_of_value type.Text value = None
+fault_of_value type.FreeText value = None
 fault_of_value type.List value = None
 fault_of_value type.Locale value = fault_unless (is_among locales_of_each_machine value) fault.NotDecided
 fault_of_value type.Path value = fault_unless (is_path value) fault.BadPath
@@ -81,7 +88,7 @@ fault_of_value t value = fault_unless (is_number_or_word_taken t value) fault.Ba
 abbrev pub fault_of_setting : ParameterType → Setting → List ℕ → Option ParameterFault
 fault_of_setting t s spelling =
     if is_empty s.value then Some fault.EmptyValue
-    else (if needs_quotes spelling then Some fault.NeedsQuotes
+    else (if not (is_free_text t) && needs_quotes spelling then Some fault.NeedsQuotes
     else (if not (is_operator_for t s.operator) then Some fault.Operator
     else fault_of_value t s.value))
 

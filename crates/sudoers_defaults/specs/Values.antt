@@ -4,7 +4,7 @@ use Rattle.std.specs.List.{list_all}
 use Rattle.std.specs.Str.{bytes_eq}
 use Rattle.sudoers_text.specs.Unit.{is_digit, is_empty}
 use Rattle.sudoers_text.specs.Word.{is_among}
-use Rattle.sudoers_grammar.specs.Number.{number_of_decimal_digits, parts_around_first_byte}
+use Rattle.sudoers_grammar.specs.Number.{is_nonempty_digit_string, number_of_decimal_digits, parts_around_first_byte}
 use Rattle.sudoers_grammar.specs.Piece.{has_first_byte}
 use Rattle.sudoers_defaults.specs.Numbers.{signed_number_up_to, number_up_to, number_extended_up_to, is_octal_number_of_digits, text_after_spaces, text_after_sign}
 use Rattle.sudoers_defaults.specs.declared.parameter_group.WordSet.{WordSet}
@@ -75,6 +75,28 @@ are_minutes parts =
 -- a sign, and minutes
 abbrev pub is_minutes : List ℕ → Bool
 is_minutes text = are_minutes (parts_around_point (text_after_sign text))
+
+-- ---- numbers of sudo-rs
+
+-- the number of bytes that a number of sudo-rs has at most
+abbrev pub small_number_size : ℕ
+small_number_size = 18
+
+-- a number up to 1,000
+abbrev pub is_small_number : List ℕ → Bool
+is_small_number text = nat_le (length text) small_number_size && is_some (number_up_to 1000 text)
+
+-- so many minutes are fewer than 2 ^ 63 seconds
+abbrev pub is_number_of_minutes : List ℕ → Bool
+is_number_of_minutes text = is_some (number_up_to 153722867280912930 text)
+
+-- minutes, and perhaps a point with digits behind it
+abbrev pub are_digits_around_point : List ℕ → Option (List ℕ × List ℕ) → Bool
+are_digits_around_point text None = is_number_of_minutes text
+are_digits_around_point text (Some parts) = is_number_of_minutes parts.0 && is_nonempty_digit_string parts.1
+
+abbrev pub is_plain_minutes : List ℕ → Bool
+is_plain_minutes text = nat_le (length text) small_number_size && are_digits_around_point text (parts_around_first_byte 46 text)
 
 -- ---- times with units
 

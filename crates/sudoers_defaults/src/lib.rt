@@ -8,6 +8,7 @@ mod path_and_word_values;
 mod refusal_words;
 mod refused;
 mod sudo_parameters;
+mod sudo_rs_parameters;
 mod time_values;
 
 pub use parameter_fault::{ParameterFault, find_fault_of_parameter};
@@ -15,3 +16,4 @@ pub use parameter_group::{ParameterGroup, ParameterType, UseWithoutValue, WordSe
 pub use refusal_words::append_refusal_words;
 pub use refused::{RefusedParameter, list_refused_parameters};
 pub use sudo_parameters::parameters_of_sudo;
+pub use sudo_rs_parameters::parameters_of_sudo_rs;

@@ -6,7 +6,7 @@ ghost use Rattle.sudoers_text.specs.Unit.{is_digit};
 ghost use Rattle.sudoers_grammar.specs.Number.{parts_around_first_byte};
 ghost use Rattle.sudoers_grammar.specs.Seen.{model_of_split_parts};
 ghost use Rattle.sudoers_defaults.specs.Numbers.{is_octal_digit, is_octal_number_of_digits, is_space, is_zero, number_extended_up_to, number_up_to, signed_number_up_to, text_after_sign, text_after_spaces};
-ghost use Rattle.sudoers_defaults.specs.Values.{are_limits, are_minutes, is_integer, is_limit, is_minutes, is_mode, is_resource_limit, is_unsigned, most_minutes, nine_digits};
+ghost use Rattle.sudoers_defaults.specs.Values.{are_digits_around_point, are_limits, are_minutes, is_integer, is_limit, is_minutes, is_mode, is_number_of_minutes, is_plain_minutes, is_resource_limit, is_small_number, is_unsigned, most_minutes, nine_digits};
 
 use sudoers_grammar::is_digit_string;
 
@@ -19,7 +19,14 @@ const MOST_UNSIGNED: u128 = 4_294_967_295;
 
 const MOST_LIMIT: u128 = 18_446_744_073_709_551_615;
 
+const MOST_WHOLE_MINUTES: u128 = 153_722_867_280_912_930;
+
 const MOST_MINUTES: u128 = 153_722_867_280_912_930_133_333_333;
+
+/// The greatest number, and the number of bytes, that sudo-rs reads as a number.
+const MOST_SMALL: u128 = 1_000;
+
+const SMALL_NUMBER_SIZE: usize = 18;
 
 /// How many digits of an octal mode may be no zeros.
 const MODE_DIGITS: usize = 3;
@@ -195,6 +202,37 @@ pub fn is_mode(value: &[u8]) -> bool
         MODE_DIGITS
     };
     is_octal_number_of_digits(most, skip_sign(signed))
+}
+
+/// Returns whether `value` is a number up to 1,000 that sudo-rs reads.
+pub fn is_small_number(value: &[u8]) -> bool
+    ensures { result ≡ is_small_number value.now }
+{
+    value.len() <= SMALL_NUMBER_SIZE && read_number_up_to(MOST_SMALL, value).is_some()
+}
+
+/// Returns whether `value` is minutes that sudo-rs reads, perhaps with a fraction.
+pub fn is_plain_minutes(value: &[u8]) -> bool
+    ensures { result ≡ is_plain_minutes value.now }
+{
+    value.len() <= SMALL_NUMBER_SIZE && are_digits_around_point(value)
+}
+
+/// Returns whether `text` is a whole number of minutes that are fewer than 2 ^ 63 seconds.
+fn is_number_of_minutes(text: &[u8]) -> bool
+    ensures { result ≡ is_number_of_minutes text.now }
+{
+    read_number_up_to(MOST_WHOLE_MINUTES, text).is_some()
+}
+
+/// Returns whether `text` is minutes, perhaps with a point and digits behind it.
+fn are_digits_around_point(text: &[u8]) -> bool
+    ensures { result ≡ are_digits_around_point text.now (parts_around_first_byte 46 text.now) }
+{
+    match split_at_byte(b'.', text) {
+        Some((whole, fraction)) => is_number_of_minutes(whole) && is_digit_string(fraction),
+        None => is_number_of_minutes(text),
+    }
 }
 
 /// Returns whether `value` is minutes, perhaps with a fraction.

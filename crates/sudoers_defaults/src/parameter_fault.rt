@@ -2,9 +2,12 @@
 
 ghost use Rattle.std.specs.Prelude.{◌≡◌, false, option_map};
 ghost use Rattle.sudoers_line_rows.specs.View.{parameter_of_view, setting_of_view};
-ghost use Rattle.sudoers_defaults.specs.Parameter.{fault_of_parameter, fault_of_setting, fault_of_use, fault_of_value, fault_unless as fault_unless_passed, has_bare_equals, is_number_or_word_taken, is_operator_for, needs_quotes};
+ghost use Rattle.sudoers_defaults.specs.Parameter.{fault_of_parameter, fault_of_setting, fault_of_use, fault_of_value, fault_unless as fault_unless_passed, has_bare_equals, is_free_text, is_number_or_word_taken, is_operator_for, needs_quotes};
 
-use crate::number_values::{is_integer, is_minutes, is_mode, is_resource_limit, is_unsigned};
+use crate::number_values::{
+    is_integer, is_minutes, is_mode, is_plain_minutes, is_resource_limit, is_small_number,
+    is_unsigned,
+};
 use crate::parameter_group::{ParameterGroup, ParameterType, find_group_of_name};
 use crate::path_and_word_values::{
     is_locale_of_each_machine, is_path, is_path_or_star, is_word_of_set,
@@ -77,7 +80,7 @@ fn find_fault_of_setting(
 {
     if setting.value.is_empty() {
         Some(ParameterFault::EmptyValue)
-    } else if needs_quotes(spelling) {
+    } else if !is_free_text(takes) && needs_quotes(spelling) {
         Some(ParameterFault::NeedsQuotes)
     } else if !is_operator_for(takes, setting.operator) {
         Some(ParameterFault::Operator)
@@ -99,7 +102,7 @@ fn find_fault_of_value(takes: ParameterType, value: &[u8]) -> Option<ParameterFa
 {
     match takes {
         ParameterType::Flag => Some(ParameterFault::NeedlessValue),
-        ParameterType::Text | ParameterType::List => None,
+        ParameterType::Text | ParameterType::FreeText | ParameterType::List => None,
         ParameterType::Locale => {
             fault_unless(is_locale_of_each_machine(value), ParameterFault::NotDecided)
         }
@@ -124,6 +127,8 @@ fn is_number_or_word_taken(takes: ParameterType, value: &[u8]) -> bool
         ParameterType::Time => is_time(value),
         ParameterType::ResourceLimit => is_resource_limit(value),
         ParameterType::OneOf(set) => is_word_of_set(set, value),
+        ParameterType::SmallNumber => is_small_number(value),
+        ParameterType::PlainMinutes => is_plain_minutes(value),
         _ => true,
     }
 }
@@ -138,6 +143,16 @@ fn is_operator_for(takes: ParameterType, operator: Operator) -> bool
             ParameterType::List => true,
             _ => false,
         },
+    }
+}
+
+/// Returns whether a parameter of the type `takes` takes any text, with or without quotes.
+fn is_free_text(takes: ParameterType) -> bool
+    ensures { result ≡ is_free_text takes }
+{
+    match takes {
+        ParameterType::FreeText => true,
+        _ => false,
     }
 }
 

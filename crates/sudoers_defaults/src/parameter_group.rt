@@ -41,6 +41,12 @@ pub enum ParameterType {
     List,
     /// The name of a locale. Only the machine knows which there are.
     Locale,
+    /// Any text, with or without quotes.
+    FreeText,
+    /// A number up to 1,000, of at most 18 digits.
+    SmallNumber,
+    /// Minutes, perhaps with a fraction, of at most 18 bytes.
+    PlainMinutes,
 }
 
 /// A set of words, of which a parameter takes one.

@@ -49,13 +49,14 @@ fn append_taken_value(
 fn words_of_type(takes: ParameterType) -> &'static str {
     match takes {
         ParameterType::Flag => "nothing",
-        ParameterType::Text => "a text",
+        ParameterType::Text | ParameterType::FreeText => "a text",
         ParameterType::Path => "a path that begins with /",
         ParameterType::PathOrStar => "a path that begins with / or ~, or *",
         ParameterType::Integer => "a number from -2147483648 to 2147483647",
         ParameterType::Unsigned => "a number up to 4294967295",
         ParameterType::Mode => "an octal mode up to 0777",
-        ParameterType::Minutes => "minutes, as 5 or 2.5",
+        ParameterType::Minutes | ParameterType::PlainMinutes => "minutes, as 5 or 2.5",
+        ParameterType::SmallNumber => "a number up to 1000",
         ParameterType::Time => "a time below 2147483648 seconds, as 90 or 1h30m",
         ParameterType::ResourceLimit => {
             "a number, infinity, or two of them with a comma, or user or default"

@@ -7,7 +7,7 @@ use clap::{Arg, ArgMatches};
 use std::alloc::{AllocError, Global};
 use sudoers_defaults::{
     ParameterFault, ParameterGroup, RefusedParameter, append_refusal_words,
-    list_refused_parameters, parameters_of_sudo,
+    list_refused_parameters, parameters_of_sudo, parameters_of_sudo_rs,
 };
 use sudoers_explain_edits::Nearest;
 use sudoers_files::gather;
@@ -19,7 +19,17 @@ use sudoers_tree::{Line, LoadFault, Policy, Span, WalkLineSpot, column_behind, l
 const TARGET: &str = "TARGET";
 
 /// The programs for which a policy can be checked.
-static TARGETS: [&str; 1] = ["sudo"];
+static TARGETS: [&str; 2] = ["sudo", SUDO_RS];
+
+/// The program that is not sudo.
+const SUDO_RS: &str = "sudo-rs";
+
+/// A program that reads a policy: what it knows, and who refuses in its name.
+#[derive(Clone, Copy)]
+struct Target {
+    known: &'static [ParameterGroup],
+    refuser: &'static str,
+}
 
 /// A line of the walk: where it stands, and its text.
 #[derive(Clone, Copy)]
@@ -35,7 +45,7 @@ pub fn make_target_option<'a>(alloc: Global) -> Result<Arg<'a>, AllocError> {
         .value_parser(TARGETS.as_slice())
         .hide_possible_values(true)
         .help(
-            "After the report, list names and values of Defaults that this program refuses: sudo, for `visudo -c` of sudo 1.9",
+            "After the report, list names and values of Defaults that this program refuses: sudo, for `visudo -c` of sudo 1.9, or sudo-rs",
         )
         .conflicts_with(JSON)
 }
@@ -55,32 +65,47 @@ pub fn find_target_notes(
 ) -> Result<ReportNotes, ToolFault> {
     let alloc = rt.alloc();
     let mut notes = ReportNotes::new(alloc);
-    if !are_target_notes_asked(words) {
+    let Some(target) = find_target(words) else {
         return Ok(notes);
-    }
+    };
     let found = gather(alloc, root.as_bytes(), files).map_err(LayerFault::from)?;
     match Policy::load(alloc, found.as_slice()) {
-        Ok(policy) => append_refusals(alloc, &policy, parameters_of_sudo(), &mut notes)?,
+        Ok(policy) => append_refusals(alloc, &policy, target, &mut notes)?,
         Err(LoadFault::NoMemory) => return Err(ToolFault::from(AllocError)),
         Err(_) => {}
     }
     Ok(notes)
 }
 
-/// Appends a note for each parameter of `policy` that is refused where these parameters are `known`.
+/// Returns the program that `words` name.
+fn find_target(words: &ArgMatches<'_>) -> Option<Target> {
+    let name = words.get_str(TARGET)?;
+    if name == SUDO_RS {
+        return Some(Target {
+            known: parameters_of_sudo_rs(),
+            refuser: "visudo-rs -c",
+        });
+    }
+    Some(Target {
+        known: parameters_of_sudo(),
+        refuser: "visudo -c",
+    })
+}
+
+/// Appends a note for each parameter of `policy` that `target` refuses.
 fn append_refusals(
     alloc: Global,
     policy: &Policy,
-    known: &[ParameterGroup],
+    target: Target,
     notes: &mut ReportNotes,
 ) -> Result<(), AllocError> {
-    let refused = list_refused_parameters(alloc, policy, known)?;
+    let refused = list_refused_parameters(alloc, policy, target.known)?;
     for parameter in &refused {
         if let Some(line) = find_walked_text(policy, parameter.name.line) {
             let name = line.bytes_of_span(parameter.name);
             let file = policy.file_name(line.spot.file);
             line.append_place(alloc, file, parameter, &mut notes.text)?;
-            append_finding(alloc, known, name, parameter.fault, &mut notes.text)?;
+            append_finding(alloc, target, name, parameter.fault, &mut notes.text)?;
             notes.is_refused |= parameter.fault != ParameterFault::NotDecided;
         }
     }
@@ -137,21 +162,23 @@ fn is_about_value(fault: ParameterFault) -> bool {
 /// Appends what is said of the parameter `name`, whose fault is `fault`.
 fn append_finding(
     alloc: Global,
-    known: &[ParameterGroup],
+    target: Target,
     name: &[u8],
     fault: ParameterFault,
     out: &mut Vec<u8>,
 ) -> Result<(), AllocError> {
-    let finding: &[u8] = match fault {
-        ParameterFault::NotDecided => b": not decided: Defaults ",
-        _ => b": refused by visudo -c: Defaults ",
-    };
-    out.extend_from_slice(finding)?;
+    if fault == ParameterFault::NotDecided {
+        out.extend_from_slice(b": not decided")?;
+    } else {
+        out.extend_from_slice(b": refused by ")?;
+        out.extend_from_slice(target.refuser.as_bytes())?;
+    }
+    out.extend_from_slice(b": Defaults ")?;
     out.extend_from_slice(name)?;
     out.extend_from_slice(b": ")?;
-    append_refusal_words(out, known, name, fault)?;
+    append_refusal_words(out, target.known, name, fault)?;
     if fault == ParameterFault::Unknown {
-        append_similar_name(alloc, known, name, out)?;
+        append_similar_name(alloc, target.known, name, out)?;
     }
     out.extend_from_slice(b"\n")
 }
