@@ -109,10 +109,10 @@ unit_of_letter b =
     else (if b == 115 || b == 83 then Some 1
     else None)))
 
--- The text behind this part, cut behind each letter of a unit: each part without its letter, and its unit. The last part may have none,
--- and counts seconds.
+-- The text behind this part, cut behind each letter of a unit: each part without its letter, and its unit. The last part may have none:
+-- its unit is 0.
 abbrev pub timed_parts : List ℕ → List ℕ → List (List ℕ × ℕ)
-timed_parts part [] = if is_empty part then [] else (part, 1) ∷ []
+timed_parts part [] = if is_empty part then [] else (part, 0) ∷ []
 timed_parts part (b ∷ rest) = timed_parts_at part b (timed_parts (part ++ b ∷ []) rest) (timed_parts [] rest) (unit_of_letter b)
   where
     timed_parts_at : List ℕ → ℕ → List (List ℕ × ℕ) → List (List ℕ × ℕ) → Option ℕ → List (List ℕ × ℕ)
@@ -127,12 +127,12 @@ abbrev pub are_timed_parts : ℕ → List (List ℕ × ℕ) → Bool
 are_timed_parts longest [] = true
 are_timed_parts longest (p ∷ ps) = is_some (number_of_part p.0) && nat_le p.1 longest && are_timed_parts p.1 ps
 
--- all parts together, in seconds
+-- all parts together, in seconds: what has no unit does not count, since sudo does not look whether the sum with it is too great
 abbrev pub seconds_of_timed_parts : List (List ℕ × ℕ) → ℕ
 seconds_of_timed_parts [] = 0
 seconds_of_timed_parts (p ∷ ps) = unwrap_or (number_of_part p.0) 0 * p.1 + seconds_of_timed_parts ps
 
--- numbers with units, as `1h30m`, of fewer than 2 ^ 31 seconds
+-- numbers with units, as `1h30m`, of fewer than 2 ^ 31 seconds, and perhaps such a number without a unit
 abbrev pub is_time : List ℕ → Bool
 is_time text = are_timed_parts 86400 (timed_parts [] text) && nat_le (seconds_of_timed_parts (timed_parts [] text)) 2147483647
 

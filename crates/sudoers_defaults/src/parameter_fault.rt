@@ -2,7 +2,7 @@
 
 ghost use Rattle.std.specs.Prelude.{◌≡◌, false, option_map};
 ghost use Rattle.sudoers_line_rows.specs.View.{parameter_of_view, setting_of_view};
-ghost use Rattle.sudoers_defaults.specs.Parameter.{fault_of_parameter, fault_of_setting, fault_of_use, fault_of_value, fault_unless as fault_unless_passed, has_bare_equals, is_free_text, is_number_or_word_taken, is_operator_for, needs_quotes};
+ghost use Rattle.sudoers_defaults.specs.Parameter.{fault_of_parameter, fault_of_setting, fault_of_use, fault_of_value, fault_unless, has_bare_equals, is_free_text, is_number_or_word_taken, is_operator_for, needs_quotes};
 
 use crate::number_values::{
     is_integer, is_minutes, is_mode, is_plain_minutes, is_resource_limit, is_small_number,
@@ -63,7 +63,7 @@ fn find_fault_of_use(
 {
     match &parameter.setting {
         Some(setting) => find_fault_of_setting(row.takes, setting, spelling),
-        None => fault_unless(
+        None => refuse_unless(
             row.without_value.is_allowed(parameter.negated),
             ParameterFault::NoValue,
         ),
@@ -80,7 +80,7 @@ fn find_fault_of_setting(
 {
     if setting.value.is_empty() {
         Some(ParameterFault::EmptyValue)
-    } else if !is_free_text(takes) && needs_quotes(spelling) {
+    } else if !is_free_text(takes) && has_to_be_quoted(spelling) {
         Some(ParameterFault::NeedsQuotes)
     } else if !is_operator_for(takes, setting.operator) {
         Some(ParameterFault::Operator)
@@ -90,8 +90,8 @@ fn find_fault_of_setting(
 }
 
 /// Returns `fault`, unless the test is passed.
-fn fault_unless(is_passed: bool, fault: ParameterFault) -> Option<ParameterFault>
-    ensures { result ≡ fault_unless_passed is_passed fault }
+fn refuse_unless(is_passed: bool, fault: ParameterFault) -> Option<ParameterFault>
+    ensures { result ≡ fault_unless is_passed fault }
 {
     if is_passed { None } else { Some(fault) }
 }
@@ -104,11 +104,11 @@ fn find_fault_of_value(takes: ParameterType, value: &[u8]) -> Option<ParameterFa
         ParameterType::Flag => Some(ParameterFault::NeedlessValue),
         ParameterType::Text | ParameterType::FreeText | ParameterType::List => None,
         ParameterType::Locale => {
-            fault_unless(is_locale_of_each_machine(value), ParameterFault::NotDecided)
+            refuse_unless(is_locale_of_each_machine(value), ParameterFault::NotDecided)
         }
-        ParameterType::Path => fault_unless(is_path(value), ParameterFault::BadPath),
-        ParameterType::PathOrStar => fault_unless(is_path_or_star(value), ParameterFault::BadPath),
-        _ => fault_unless(
+        ParameterType::Path => refuse_unless(is_path(value), ParameterFault::BadPath),
+        ParameterType::PathOrStar => refuse_unless(is_path_or_star(value), ParameterFault::BadPath),
+        _ => refuse_unless(
             is_number_or_word_taken(takes, value),
             ParameterFault::BadValue,
         ),
@@ -157,7 +157,7 @@ fn is_free_text(takes: ParameterType) -> bool
 }
 
 /// Returns whether a value that is spelled so needs quotes.
-fn needs_quotes(spelling: &[u8]) -> bool
+fn has_to_be_quoted(spelling: &[u8]) -> bool
     ensures { result ≡ needs_quotes spelling.now }
 {
     match spelling.first() {

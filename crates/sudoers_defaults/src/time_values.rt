@@ -22,7 +22,7 @@ fn unit_of_letter(letter: u8) -> Option<u128>
     }
 }
 
-/// Returns whether `value` is numbers with units, of fewer than 2 ^ 31 seconds.
+/// Returns whether `value` is numbers with units, of fewer than 2 ^ 31 seconds, and perhaps such a number without a unit.
 pub fn is_time(value: &[u8]) -> bool
     ensures { result ≡ is_time value.now }
 {
@@ -55,7 +55,7 @@ struct TimedPart<'a> {
     behind: &'a [u8],
 }
 
-/// Returns the part with which `text` begins: all before the letter of a unit. Without one it counts seconds.
+/// Returns the part with which `text` begins: all before the letter of a unit. Without one its unit is 0.
 fn split_timed_part(text: &[u8]) -> TimedPart<'_>
     requires { 0 < length text.now }
     ensures parts { timed_parts [] text.now ≡ (result.number.now, result.unit) ∷ timed_parts [] result.behind.now }
@@ -73,7 +73,7 @@ fn split_timed_part(text: &[u8]) -> TimedPart<'_>
     }
     TimedPart {
         number: text,
-        unit: 1,
+        unit: 0,
         behind: b"",
     }
 }

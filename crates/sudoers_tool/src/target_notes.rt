@@ -45,7 +45,7 @@ pub fn make_target_option<'a>(alloc: Global) -> Result<Arg<'a>, AllocError> {
         .value_parser(TARGETS.as_slice())
         .hide_possible_values(true)
         .help(
-            "After the report, list names and values of Defaults that this program refuses: sudo, for `visudo -c` of sudo 1.9, or sudo-rs",
+            "After the report, list names and values of Defaults that this program refuses: sudo, for `visudo -c` of sudo 1.9.13, or sudo-rs",
         )
         .conflicts_with(JSON)
 }
@@ -193,10 +193,11 @@ fn append_similar_name(
     let Ok(name) = str::from_utf8(name) else {
         return Ok(());
     };
+    let lower = name.to_ascii_lowercase(alloc)?;
     let mut nearest = Nearest::new();
     for group in known {
         for known_name in group.names {
-            nearest = nearest.choose_nearer(alloc, name, known_name)?;
+            nearest = nearest.choose_nearer(alloc, lower.as_str(), known_name)?;
         }
     }
     if nearest.name().is_empty() {
