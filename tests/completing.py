@@ -41,7 +41,7 @@ OPTIONS_OF_LIST = (
     *("--same", "--usr-merge"),
 )
 OPTIONS_OF_CHECK = (
-    *("-h", "--help", "-q", "-s", "--root", "--skipped", "--installed", "--all", "--json"),
+    *("-h", "--help", "-q", "-s", "--root", "--skipped", "--installed", "--for", "--all", "--json"),
     *("--error-status", "--explain", "--plain"),
 )
 OPTIONS_OF_SHOW = ("--error-status", "--explain", "-h", "--help", "--json", "--members", "--plain", "--root")
@@ -80,6 +80,12 @@ ROWS = (
     (("check", "--j"), ("--json",)),
     (("check", "--i"), ("--installed",)),
     (("check", "--installed", "w"), ("web team",)),
+    (("check", "--f"), ("--for",)),
+    (("check", "--for", ""), ("sudo",)),
+    (("check", "--for", "w"), ()),
+    (("check", "--for=s"), ("sudo",)),
+    (("check", "--for", "sudo", "w"), ("web team",)),
+    (("check", "--for=sudo", "-s", "w"), ("web team",)),
     (("check", "--json", "w"), ("web team",)),
     (("show", "--j"), ("--json",)),
     (("check", "--r"), ("--root",)),

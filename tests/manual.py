@@ -355,8 +355,8 @@ def run_advices(tally):
 
 
 def options_of_help(text):
-    """Returns the options that a help text lists."""
-    return set(re.findall(r"(?<![\w-])(--?[A-Za-z][\w-]*)", text))
+    """Returns the options that a help text lists. What stands between backquotes is of another program."""
+    return set(re.findall(r"(?<![\w-])(--?[A-Za-z][\w-]*)", re.sub(r"`[^`\n]*`", "", text)))
 
 
 def commands_of_help(text):
