@@ -149,7 +149,7 @@ complete -c sudoers_tool -n '__fish_seen_subcommand_from check' -l all -d 'Print
 complete -c sudoers_tool -n '__fish_seen_subcommand_from check show' -l json -d 'Print one JSON document, also for an error'
 complete -c sudoers_tool -n '__fish_seen_subcommand_from check' -l skipped -d 'List the folders and the files in included folders that are not read'
 complete -c sudoers_tool -n '__fish_seen_subcommand_from check' -l installed -d 'List links, and what sudo refuses for its owner or mode'
-complete -c sudoers_tool -n '__fish_seen_subcommand_from check' -l for -x -a sudo -d 'List names and values of Defaults that this program refuses'
+complete -c sudoers_tool -n '__fish_seen_subcommand_from check' -l for -x -a 'sudo sudo-rs' -d 'List names and values of Defaults that this program refuses'
 complete -c sudoers_tool -n '__fish_seen_subcommand_from show' -l members -d 'Print each member of alias definitions and of rules, with its place and number'
 complete -c sudoers_tool -n '__fish_seen_subcommand_from convert' -s e -l expand-aliases -d 'Replace aliases by their members'
 complete -c sudoers_tool -n '__fish_seen_subcommand_from convert' -s f -l form -x -a 'json sudoers' -d 'Form of the output: sudoers or json'
