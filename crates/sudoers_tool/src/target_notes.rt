@@ -11,6 +11,7 @@ use sudoers_defaults::{
 };
 use sudoers_explain_edits::Nearest;
 use sudoers_files::gather;
+use sudoers_forms::{Form, RefusedForm, list_refused_forms, words_of_form};
 use sudoers_run::{LayerFault, ToolFault};
 use sudoers_text::append_decimal_number;
 use sudoers_tree::{Line, LoadFault, Policy, Span, WalkLineSpot, column_behind, lf_count};
@@ -24,11 +25,12 @@ static TARGETS: [&str; 2] = ["sudo", SUDO_RS];
 /// The program that is not sudo.
 const SUDO_RS: &str = "sudo-rs";
 
-/// A program that reads a policy: what it knows, and who refuses in its name.
+/// A program that reads a policy: what it knows, who refuses in its name, and whether the forms that it refuses are known.
 #[derive(Clone, Copy)]
 struct Target {
     known: &'static [ParameterGroup],
     refuser: &'static str,
+    has_forms: bool,
 }
 
 /// A line of the walk: where it stands, and its text.
@@ -45,7 +47,7 @@ pub fn make_target_option<'a>(alloc: Global) -> Result<Arg<'a>, AllocError> {
         .value_parser(TARGETS.as_slice())
         .hide_possible_values(true)
         .help(
-            "After the report, list names and values of Defaults that this program refuses: sudo, for `visudo -c` of sudo 1.9.13, or sudo-rs",
+            "After the report, list names and values of Defaults and other forms that this program refuses: sudo, for `visudo -c` of sudo 1.9.13, or sudo-rs, of Defaults alone",
         )
         .conflicts_with(JSON)
 }
@@ -84,31 +86,101 @@ fn find_target(words: &ArgMatches<'_>) -> Option<Target> {
         return Some(Target {
             known: parameters_of_sudo_rs(),
             refuser: "visudo-rs -c",
+            has_forms: false,
         });
     }
     Some(Target {
         known: parameters_of_sudo(),
         refuser: "visudo -c",
+        has_forms: true,
     })
 }
 
-/// Appends a note for each parameter of `policy` that `target` refuses.
+/// Appends a note for each parameter and each form of `policy` that `target` refuses, in the order of the files.
 fn append_refusals(
     alloc: Global,
     policy: &Policy,
     target: Target,
     notes: &mut ReportNotes,
 ) -> Result<(), AllocError> {
-    let refused = list_refused_parameters(alloc, policy, target.known)?;
-    for parameter in &refused {
-        if let Some(line) = find_walked_text(policy, parameter.name.line) {
-            let name = line.bytes_of_span(parameter.name);
-            let file = policy.file_name(line.spot.file);
-            line.append_place(alloc, file, parameter, &mut notes.text)?;
-            append_finding(alloc, target, name, parameter.fault, &mut notes.text)?;
-            notes.is_refused |= parameter.fault != ParameterFault::NotDecided;
-        }
+    let parameters = list_refused_parameters(alloc, policy, target.known)?;
+    let forms = list_forms_of_target(alloc, policy, target)?;
+    let mut left = forms.as_slice();
+    for parameter in &parameters {
+        let at = place_of_parameter(parameter);
+        left = append_forms_before(alloc, policy, at, left, notes)?;
+        append_parameter(alloc, policy, target, parameter, notes)?;
     }
+    for form in left {
+        append_form(alloc, policy, form, notes)?;
+    }
+    Ok(())
+}
+
+/// Returns the forms of `policy` that `target` refuses. Those of sudo-rs are not known.
+fn list_forms_of_target(
+    alloc: Global,
+    policy: &Policy,
+    target: Target,
+) -> Result<Vec<RefusedForm>, AllocError> {
+    if target.has_forms {
+        list_refused_forms(alloc, policy)
+    } else {
+        Ok(Vec::new(alloc))
+    }
+}
+
+/// Appends the notes on the forms `forms` that stand before `at`. Returns the forms that are left.
+fn append_forms_before<'a>(
+    alloc: Global,
+    policy: &Policy,
+    at: Span,
+    forms: &'a [RefusedForm],
+    notes: &mut ReportNotes,
+) -> Result<&'a [RefusedForm], AllocError> {
+    for (place, form) in forms.iter().enumerate() {
+        if (at.line, at.start) <= (form.at.line, form.at.start) {
+            return Ok(&forms[place..]);
+        }
+        append_form(alloc, policy, form, notes)?;
+    }
+    Ok(&[])
+}
+
+/// Appends the note on the parameter `parameter`.
+fn append_parameter(
+    alloc: Global,
+    policy: &Policy,
+    target: Target,
+    parameter: &RefusedParameter,
+    notes: &mut ReportNotes,
+) -> Result<(), AllocError> {
+    let at = place_of_parameter(parameter);
+    let name = bytes_of_span(policy, parameter.name);
+    append_place(alloc, policy, at, &mut notes.text)?;
+    append_finding(alloc, target, name, parameter.fault, &mut notes.text)?;
+    notes.is_refused |= parameter.fault != ParameterFault::NotDecided;
+    Ok(())
+}
+
+/// Appends the note on the form `form`.
+fn append_form(
+    alloc: Global,
+    policy: &Policy,
+    form: &RefusedForm,
+    notes: &mut ReportNotes,
+) -> Result<(), AllocError> {
+    let finding: &[u8] = match form.form {
+        Form::NumberedLine => b": read otherwise by sudo: ",
+        _ => b": refused by visudo -c: ",
+    };
+    append_place(alloc, policy, form.at, &mut notes.text)?;
+    notes.text.extend_from_slice(finding)?;
+    notes
+        .text
+        .extend_from_slice(words_of_form(form.form).as_bytes())?;
+    notes.text.extend_from_slice(b"\n")?;
+    notes.is_refused = true;
     Ok(())
 }
 
@@ -123,31 +195,37 @@ fn find_walked_text(policy: &Policy, number: usize) -> Option<WalkedText<'_>> {
     })
 }
 
-impl<'a> WalkedText<'a> {
-    /// Returns the bytes of a part of the line.
-    fn bytes_of_span(&self, span: Span) -> &'a [u8] {
-        self.text.get(span.start..span.stop).unwrap_or(b"")
+/// Returns the bytes of a part of a line of `policy`.
+fn bytes_of_span(policy: &Policy, span: Span) -> &[u8] {
+    match find_walked_text(policy, span.line) {
+        Some(line) => line.text.get(span.start..span.stop).unwrap_or(b""),
+        None => b"",
     }
+}
 
-    /// Appends where the refused part of `parameter` stands: the file, the line and the column of its value, if that is refused, else of its
-    /// name.
-    fn append_place(
-        &self,
-        alloc: Global,
-        file: &[u8],
-        parameter: &RefusedParameter,
-        out: &mut Vec<u8>,
-    ) -> Result<(), AllocError> {
-        let at = match parameter.value {
-            Some(value) if is_about_value(parameter.fault) => value.start,
-            _ => parameter.name.start,
-        };
-        let before = self.text.get(..at).unwrap_or(b"");
-        out.extend_from_slice(file)?;
-        out.extend_from_slice(b":")?;
-        append_decimal_number(alloc, out, self.spot.row.saturating_add(lf_count(before)))?;
-        out.extend_from_slice(b":")?;
-        append_decimal_number(alloc, out, column_behind(before))
+/// Appends the file, the physical line and the column of a part of a line of `policy`.
+fn append_place(
+    alloc: Global,
+    policy: &Policy,
+    at: Span,
+    out: &mut Vec<u8>,
+) -> Result<(), AllocError> {
+    let Some(line) = find_walked_text(policy, at.line) else {
+        return Ok(());
+    };
+    let before = line.text.get(..at.start).unwrap_or(b"");
+    out.extend_from_slice(policy.file_name(line.spot.file))?;
+    out.extend_from_slice(b":")?;
+    append_decimal_number(alloc, out, line.spot.row.saturating_add(lf_count(before)))?;
+    out.extend_from_slice(b":")?;
+    append_decimal_number(alloc, out, column_behind(before))
+}
+
+/// Returns where the refused part of `parameter` stands: its value, if that is refused, else its name.
+fn place_of_parameter(parameter: &RefusedParameter) -> Span {
+    match parameter.value {
+        Some(value) if is_about_value(parameter.fault) => value,
+        _ => parameter.name,
     }
 }
 
