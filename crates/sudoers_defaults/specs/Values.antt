@@ -1,10 +1,9 @@
 -- What parameters take as a value: a language for each type.
-use Rattle.std.specs.Prelude.{ℕ, ◌+◌, ◌-◌, ◌*◌, ◌^◌, ◌==◌, ◌&&◌, ◌||◌, not, nat_le, nat_lt, Bool, true, false, List, [], ◌∷◌, ◌++◌, length, take, drop, map, codes, Option, Some, None, is_some, unwrap_or, if◌then◌else◌}
+use Rattle.std.specs.Prelude.{ℕ, ◌+◌, ◌-◌, ◌*◌, ◌==◌, ◌&&◌, ◌||◌, nat_le, nat_lt, Bool, true, List, [], ◌∷◌, ◌++◌, length, take, codes, Option, Some, None, is_some, unwrap_or, if◌then◌else◌}
 use Rattle.std.specs.List.{list_all}
 use Rattle.std.specs.Str.{bytes_eq}
 use Rattle.sudoers_text.specs.Unit.{is_digit, is_empty}
-use Rattle.sudoers_text.specs.Word.{is_among}
-use Rattle.sudoers_grammar.specs.Number.{is_nonempty_digit_string, number_of_decimal_digits, parts_around_first_byte}
+use Rattle.sudoers_grammar.specs.Number.{is_nonempty_digit_string, parts_around_first_byte}
 use Rattle.sudoers_grammar.specs.Piece.{has_first_byte}
 use Rattle.sudoers_defaults.specs.Numbers.{signed_number_up_to, number_up_to, number_extended_up_to, is_octal_number_of_digits, text_after_spaces, text_after_sign}
 use Rattle.sudoers_defaults.specs.declared.parameter_group.WordSet.{WordSet}

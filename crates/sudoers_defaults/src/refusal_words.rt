@@ -76,8 +76,9 @@ fn words_of_type(takes: ParameterType) -> &'static str {
     match takes {
         ParameterType::Flag => "nothing",
         ParameterType::Text | ParameterType::FreeText => "a text",
-        ParameterType::Path => "a path that begins with /",
-        ParameterType::PathOrStar => "a path that begins with / or ~, or *",
+        ParameterType::Path => "a path that begins with /, shorter than 4096 bytes",
+        ParameterType::PathOrStar =>
+            "a path that begins with / or ~, shorter than 4096 bytes, or *",
         ParameterType::Integer => "a number from -2147483648 to 2147483647",
         ParameterType::Unsigned => "a number up to 4294967295",
         ParameterType::Mode => "an octal mode up to 0777",

@@ -9,7 +9,6 @@ use Rattle.sudoers_text.specs.LineMode.{line_mode}
 use Rattle.sudoers_grammar.specs.Node.{Node}
 use Rattle.sudoers_grammar.specs.Node as node
 use Rattle.sudoers_grammar.specs.Piece.{TokenWithBytes, tokens_with_bytes, has_first_byte, has_last_byte}
-use Rattle.sudoers_tree.specs.declared.place.Span.{Span}
 use Rattle.sudoers_tree.specs.Line.{Line}
 use Rattle.sudoers_forms.specs.Spelling.{is_path_of_sudo, is_argument_of_sudo, is_word_of_sudo, is_numbered, is_digest_of_kind}
 use Rattle.sudoers_forms.specs.declared.form.Form.{Form}
@@ -45,6 +44,10 @@ form_of_word second_before before is_at_return text =
 abbrev pub form_of_comment : Bool → List ℕ → Option Form
 form_of_comment is_first text = if is_first then form_if (is_numbered text) form.NumberedLine else form_if (is_numbered text) form.NumberedComment
 
+-- In quotes, sudo reads a backslash and a `"` as a pair, whatever stands before them.
+abbrev pub form_of_quoted : List ℕ → Option Form
+form_of_quoted text = form_if (has_first_byte 34 text && ends_with nat_eq text (92 ∷ 34 ∷ [])) form.QuotedBackslash
+
 -- Why sudo refuses a token of this kind and text. The first of its line or not; the texts of the second and of the first token before it; no
 -- token behind it, and the line ends with CR LF, or not.
 abbrev pub form_of_token : Bool → List ℕ → List ℕ → Bool → TokenKind → List ℕ → Option Form
@@ -53,6 +56,8 @@ form_of_token is_first second_before before is_at_return kind.Path text = form_o
 form_of_token is_first second_before before is_at_return kind.Arg text = form_of_argument is_at_return text
 form_of_token is_first second_before before is_at_return kind.Word text = form_of_word second_before before is_at_return text
 form_of_token is_first second_before before is_at_return kind.Digest text = form_if (not (is_digest_of_kind second_before text)) form.DigestSize
+form_of_token is_first second_before before is_at_return kind.Quoted text = form_of_quoted text
+form_of_token is_first second_before before is_at_return kind.Value text = form_of_quoted text
 form_of_token is_first second_before before is_at_return k text = None
 
 -- ---- lines

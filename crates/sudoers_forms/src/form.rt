@@ -21,6 +21,8 @@ pub enum Form {
     WordByte,
     /// A name begins with `/`.
     SlashName,
+    /// A text in quotes ends with a backslash.
+    QuotedBackslash,
     /// CR LF follows a command.
     CommandReturn,
 }
@@ -28,17 +30,18 @@ pub enum Form {
 /// Returns what sudo makes of the form `form`, and what both programs read in its place.
 pub fn words_of_form(form: Form) -> &'static str {
     match form {
-        Form::NumberedComment => "# and a number are a user ID to sudo; write a blank behind #",
-        Form::NumberedLine => "#- and a digit are a user ID to sudo; write a blank behind #",
-        Form::PathEscape => "this escape in a path; sudo knows those of , : = # and blanks",
+        Form::NumberedComment => "# and a number are a user ID; write a blank behind #",
+        Form::NumberedLine => "#- and a digit are a user ID; write a blank behind #",
+        Form::PathEscape => "an escape in a path of another byte than , : = # and blanks",
         Form::ArgumentEscape => {
-            "this escape in arguments; sudo knows those of \\\\ , : = # * ? [ ] ! ^ and blanks"
+            "an escape in arguments of another byte than , : = # * ? [ ] ! ^, a backslash and blanks"
         }
-        Form::RootPath => "/ alone as a command",
+        Form::RootPath => "the command /",
         Form::EditorPath => "sudoedit with a path; write sudoedit alone",
-        Form::DigestSize => "digest of a wrong length",
-        Form::WordByte => "> or an escaped tab in a word; write \\\\> or a space",
-        Form::SlashName => "name that begins with /; put it in quotes",
+        Form::DigestSize => "a digest of a wrong length",
+        Form::WordByte => "> without a backslash in a word, or a tab with one",
+        Form::SlashName => "a name that begins with /; write it in quotes",
+        Form::QuotedBackslash => "a backslash before the closing quote",
         Form::CommandReturn => "CR LF directly behind a command; write LF",
     }
 }

@@ -1,7 +1,7 @@
 //! Why sudo refuses a token.
 
 ghost use Rattle.std.specs.Prelude.{◌≡◌, ◌&&◌, not};
-ghost use Rattle.sudoers_forms.specs.Forms.{form_if as some_form_if, form_of_argument, form_of_comment, form_of_path, form_of_token, form_of_word, is_folder_value};
+ghost use Rattle.sudoers_forms.specs.Forms.{form_if as some_form_if, form_of_argument, form_of_comment, form_of_path, form_of_quoted, form_of_token, form_of_word, is_folder_value};
 
 use crate::digest_size::is_digest_of_kind;
 use crate::form::Form;
@@ -29,6 +29,7 @@ impl TokenNeighbours<'_> {
             TokenKind::Path => self.find_form_of_path(token.text),
             TokenKind::Arg => self.find_form_of_argument(token.text),
             TokenKind::Word => self.find_form_of_word(token.text),
+            TokenKind::Quoted | TokenKind::Value => find_form_of_quoted(token.text),
             TokenKind::Digest => form_if(
                 !is_digest_of_kind(self.second_before, token.text),
                 Form::DigestSize,
@@ -101,6 +102,16 @@ impl TokenNeighbours<'_> {
             && (self.second_before == b"CWD".as_slice()
                 || self.second_before == b"CHROOT".as_slice())
     }
+}
+
+/// Returns why sudo refuses the text `text`, if that stands in quotes.
+fn find_form_of_quoted(text: &[u8]) -> Option<Form>
+    ensures { result ≡ form_of_quoted text.now }
+{
+    form_if(
+        begins_with_byte(b'"', text) && text.ends_with(b"\\\""),
+        Form::QuotedBackslash,
+    )
 }
 
 /// Returns `form`, if the test is passed.

@@ -33,6 +33,20 @@ struct Target {
     has_forms: bool,
 }
 
+/// How many unknown names are compared with the known ones.
+const MOST_COMPARED: usize = 32;
+
+/// Notes on what a target refuses in a policy.
+#[derive(Drop)]
+struct RefusalNotes<'a> {
+    alloc: Global,
+    policy: &'a Policy,
+    target: Target,
+    notes: ReportNotes,
+    /// How many names were compared with the known ones.
+    compared: usize,
+}
+
 /// A line of the walk: where it stands, and its text.
 #[derive(Clone, Copy)]
 struct WalkedText<'a> {
@@ -66,13 +80,13 @@ pub fn find_target_notes(
     files: &mut KeptDisk,
 ) -> Result<ReportNotes, ToolFault> {
     let alloc = rt.alloc();
-    let mut notes = ReportNotes::new(alloc);
+    let notes = ReportNotes::new(alloc);
     let Some(target) = find_target(words) else {
         return Ok(notes);
     };
     let found = gather(alloc, root.as_bytes(), files).map_err(LayerFault::from)?;
     match Policy::load(alloc, found.as_slice()) {
-        Ok(policy) => append_refusals(alloc, &policy, target, &mut notes)?,
+        Ok(policy) => return make_notes_on_policy(alloc, &policy, target),
         Err(LoadFault::NoMemory) => return Err(ToolFault::from(AllocError)),
         Err(_) => {}
     }
@@ -96,92 +110,145 @@ fn find_target(words: &ArgMatches<'_>) -> Option<Target> {
     })
 }
 
-/// Appends a note for each parameter and each form of `policy` that `target` refuses, in the order of the files.
-fn append_refusals(
+/// Returns the notes on what `target` refuses in `policy`.
+fn make_notes_on_policy(
     alloc: Global,
     policy: &Policy,
     target: Target,
-    notes: &mut ReportNotes,
-) -> Result<(), AllocError> {
-    let parameters = list_refused_parameters(alloc, policy, target.known)?;
-    let forms = list_forms_of_target(alloc, policy, target)?;
-    let mut left = forms.as_slice();
-    for parameter in &parameters {
-        let at = place_of_parameter(parameter);
-        left = append_forms_before(alloc, policy, at, left, notes)?;
-        append_parameter(alloc, policy, target, parameter, notes)?;
-    }
-    for form in left {
-        append_form(alloc, policy, form, notes)?;
-    }
-    Ok(())
-}
-
-/// Returns the forms of `policy` that `target` refuses. Those of sudo-rs are not known.
-fn list_forms_of_target(
-    alloc: Global,
-    policy: &Policy,
-    target: Target,
-) -> Result<Vec<RefusedForm>, AllocError> {
-    if target.has_forms {
-        list_refused_forms(alloc, policy)
-    } else {
-        Ok(Vec::new(alloc))
-    }
-}
-
-/// Appends the notes on the forms `forms` that stand before `at`. Returns the forms that are left.
-fn append_forms_before<'a>(
-    alloc: Global,
-    policy: &Policy,
-    at: Span,
-    forms: &'a [RefusedForm],
-    notes: &mut ReportNotes,
-) -> Result<&'a [RefusedForm], AllocError> {
-    for (place, form) in forms.iter().enumerate() {
-        if (at.line, at.start) <= (form.at.line, form.at.start) {
-            return Ok(&forms[place..]);
-        }
-        append_form(alloc, policy, form, notes)?;
-    }
-    Ok(&[])
-}
-
-/// Appends the note on the parameter `parameter`.
-fn append_parameter(
-    alloc: Global,
-    policy: &Policy,
-    target: Target,
-    parameter: &RefusedParameter,
-    notes: &mut ReportNotes,
-) -> Result<(), AllocError> {
-    let at = place_of_parameter(parameter);
-    let name = bytes_of_span(policy, parameter.name);
-    append_place(alloc, policy, at, &mut notes.text)?;
-    append_finding(alloc, target, name, parameter.fault, &mut notes.text)?;
-    notes.is_refused |= parameter.fault != ParameterFault::NotDecided;
-    Ok(())
-}
-
-/// Appends the note on the form `form`.
-fn append_form(
-    alloc: Global,
-    policy: &Policy,
-    form: &RefusedForm,
-    notes: &mut ReportNotes,
-) -> Result<(), AllocError> {
-    let finding: &[u8] = match form.form {
-        Form::NumberedLine => b": read otherwise by sudo: ",
-        _ => b": refused by visudo -c: ",
+) -> Result<ReportNotes, ToolFault> {
+    let mut refusals = RefusalNotes {
+        alloc,
+        policy,
+        target,
+        notes: ReportNotes::new(alloc),
+        compared: 0,
     };
-    append_place(alloc, policy, form.at, &mut notes.text)?;
-    notes.text.extend_from_slice(finding)?;
-    notes
-        .text
-        .extend_from_slice(words_of_form(form.form).as_bytes())?;
-    notes.text.extend_from_slice(b"\n")?;
-    notes.is_refused = true;
-    Ok(())
+    refusals.append_all()?;
+    Ok(refusals.notes)
+}
+
+impl RefusalNotes<'_> {
+    /// Appends a note for each parameter and each form that the target refuses, in the order of the lines.
+    fn append_all(&mut self) -> Result<(), AllocError> {
+        let parameters = list_refused_parameters(self.alloc, self.policy, self.target.known)?;
+        let forms = self.list_forms()?;
+        let mut left = forms.as_slice();
+        for parameter in &parameters {
+            left = self.append_forms_before(place_of_parameter(parameter), left)?;
+            self.append_parameter(parameter)?;
+        }
+        for form in left {
+            self.append_form(form)?;
+        }
+        Ok(())
+    }
+
+    /// Returns the forms that the target refuses. Those of sudo-rs are not known.
+    fn list_forms(&self) -> Result<Vec<RefusedForm>, AllocError> {
+        if self.target.has_forms {
+            list_refused_forms(self.alloc, self.policy)
+        } else {
+            Ok(Vec::new(self.alloc))
+        }
+    }
+
+    /// Appends the notes on those of the forms `forms` that stand before `at`. Returns the others.
+    fn append_forms_before<'b>(
+        &mut self,
+        at: Span,
+        forms: &'b [RefusedForm],
+    ) -> Result<&'b [RefusedForm], AllocError> {
+        for (place, form) in forms.iter().enumerate() {
+            if (at.line, at.start) <= (form.at.line, form.at.start) {
+                return Ok(&forms[place..]);
+            }
+            self.append_form(form)?;
+        }
+        Ok(&[])
+    }
+
+    /// Appends the note on the form `form`.
+    fn append_form(&mut self, form: &RefusedForm) -> Result<(), AllocError> {
+        let finding: &[u8] = match form.form {
+            Form::NumberedLine => b": read otherwise by sudo: ",
+            _ => b": refused by visudo -c: ",
+        };
+        self.append_place(form.at)?;
+        self.append(finding)?;
+        self.append(words_of_form(form.form).as_bytes())?;
+        self.append(b"\n")?;
+        self.notes.is_refused = true;
+        Ok(())
+    }
+
+    /// Appends the note on the parameter `parameter`.
+    fn append_parameter(&mut self, parameter: &RefusedParameter) -> Result<(), AllocError> {
+        let name = bytes_of_span(self.policy, parameter.name);
+        self.append_place(place_of_parameter(parameter))?;
+        if parameter.fault == ParameterFault::NotDecided {
+            self.append(b": not decided")?;
+        } else {
+            self.append(b": refused by ")?;
+            self.append(self.target.refuser.as_bytes())?;
+            self.notes.is_refused = true;
+        }
+        self.append(b": Defaults ")?;
+        self.append(name)?;
+        self.append(b": ")?;
+        append_refusal_words(
+            &mut self.notes.text,
+            self.target.known,
+            name,
+            parameter.fault,
+        )?;
+        if parameter.fault == ParameterFault::Unknown {
+            self.append_similar_name(name)?;
+        }
+        self.append(b"\n")
+    }
+
+    /// Appends the known name that is most like `name`, if one is like it. Only the first names are compared.
+    fn append_similar_name(&mut self, name: &[u8]) -> Result<(), AllocError> {
+        if self.compared >= MOST_COMPARED {
+            return Ok(());
+        }
+        self.compared += 1;
+        let Ok(name) = str::from_utf8(name) else {
+            return Ok(());
+        };
+        let lower = name.to_ascii_lowercase(self.alloc)?;
+        let mut nearest = Nearest::new();
+        for group in self.target.known {
+            for known_name in group.names {
+                nearest = nearest.choose_nearer(self.alloc, lower.as_str(), known_name)?;
+            }
+        }
+        if nearest.name().is_empty() {
+            return Ok(());
+        }
+        self.append(b"; did you mean ")?;
+        self.append(nearest.name().as_bytes())?;
+        self.append(b"?")
+    }
+
+    /// Appends the file, the physical line and the column of a part of a line.
+    fn append_place(&mut self, at: Span) -> Result<(), AllocError> {
+        let Some(line) = find_walked_text(self.policy, at.line) else {
+            return Ok(());
+        };
+        let before = line.text.get(..at.start).unwrap_or(b"");
+        let row = line.spot.row.saturating_add(lf_count(before));
+        self.append(self.policy.file_name(line.spot.file))?;
+        self.append(b":")?;
+        append_decimal_number(self.alloc, &mut self.notes.text, row)?;
+        self.append(b":")?;
+        append_decimal_number(self.alloc, &mut self.notes.text, column_behind(before))
+    }
+
+    /// Appends `bytes`.
+    fn append(&mut self, bytes: &[u8]) -> Result<(), AllocError> {
+        self.notes.text.extend_from_slice(bytes)
+    }
 }
 
 /// Returns the line with the number `number` of the walk of `policy`.
@@ -203,24 +270,6 @@ fn bytes_of_span(policy: &Policy, span: Span) -> &[u8] {
     }
 }
 
-/// Appends the file, the physical line and the column of a part of a line of `policy`.
-fn append_place(
-    alloc: Global,
-    policy: &Policy,
-    at: Span,
-    out: &mut Vec<u8>,
-) -> Result<(), AllocError> {
-    let Some(line) = find_walked_text(policy, at.line) else {
-        return Ok(());
-    };
-    let before = line.text.get(..at.start).unwrap_or(b"");
-    out.extend_from_slice(policy.file_name(line.spot.file))?;
-    out.extend_from_slice(b":")?;
-    append_decimal_number(alloc, out, line.spot.row.saturating_add(lf_count(before)))?;
-    out.extend_from_slice(b":")?;
-    append_decimal_number(alloc, out, column_behind(before))
-}
-
 /// Returns where the refused part of `parameter` stands: its value, if that is refused, else its name.
 fn place_of_parameter(parameter: &RefusedParameter) -> Span {
     match parameter.value {
@@ -235,53 +284,4 @@ fn is_about_value(fault: ParameterFault) -> bool {
         fault,
         ParameterFault::Unknown | ParameterFault::NoValue | ParameterFault::Operator
     )
-}
-
-/// Appends what is said of the parameter `name`, whose fault is `fault`.
-fn append_finding(
-    alloc: Global,
-    target: Target,
-    name: &[u8],
-    fault: ParameterFault,
-    out: &mut Vec<u8>,
-) -> Result<(), AllocError> {
-    if fault == ParameterFault::NotDecided {
-        out.extend_from_slice(b": not decided")?;
-    } else {
-        out.extend_from_slice(b": refused by ")?;
-        out.extend_from_slice(target.refuser.as_bytes())?;
-    }
-    out.extend_from_slice(b": Defaults ")?;
-    out.extend_from_slice(name)?;
-    out.extend_from_slice(b": ")?;
-    append_refusal_words(out, target.known, name, fault)?;
-    if fault == ParameterFault::Unknown {
-        append_similar_name(alloc, target.known, name, out)?;
-    }
-    out.extend_from_slice(b"\n")
-}
-
-/// Appends the known name that is most like `name`, if one is like it.
-fn append_similar_name(
-    alloc: Global,
-    known: &[ParameterGroup],
-    name: &[u8],
-    out: &mut Vec<u8>,
-) -> Result<(), AllocError> {
-    let Ok(name) = str::from_utf8(name) else {
-        return Ok(());
-    };
-    let lower = name.to_ascii_lowercase(alloc)?;
-    let mut nearest = Nearest::new();
-    for group in known {
-        for known_name in group.names {
-            nearest = nearest.choose_nearer(alloc, lower.as_str(), known_name)?;
-        }
-    }
-    if nearest.name().is_empty() {
-        return Ok(());
-    }
-    out.extend_from_slice(b"; did you mean ")?;
-    out.extend_from_slice(nearest.name().as_bytes())?;
-    out.extend_from_slice(b"?")
 }
