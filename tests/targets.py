@@ -41,11 +41,11 @@ LOCALE = "the machine may not have this locale"
 INTEGER = "a number from -2147483648 to 2147483647"
 UNSIGNED = "a number up to 4294967295"
 MODE = "an octal mode up to 0777"
-MINUTES = "minutes, as 5 or 2.5"
+MINUTES = "minutes, as 5, 2.5 or -1"
 TIME = "a time below 2147483648 seconds, as 90 or 1h30m"
 LIMIT = "a number, infinity, or two of them with a comma, or user or default"
-PATH = "a path that begins with /"
-PATH_OR_STAR = "a path that begins with / or ~, or *"
+PATH = "a path that begins with /, shorter than 4096 bytes"
+PATH_OR_STAR = "a path that begins with / or ~, shorter than 4096 bytes, or *"
 LONGEST_PATH = 4095
 
 
@@ -64,6 +64,10 @@ class Row:
     def is_refused(self):
         """Returns whether a note says that visudo refuses something."""
         return any(": refused by visudo -c: " in note for note in self.notes)
+
+    def is_decided(self):
+        """Returns whether a note counts with -s."""
+        return self.is_refused() or any(": read otherwise by sudo: " in note for note in self.notes)
 
 
 def refused(place, name, words):
@@ -190,22 +194,22 @@ FAULTS = (
     row("a short name with two wrong letters", "Defaults fgpn\n", ("1:10", "fgpn", UNKNOWN)),
     row("a name of 65 bytes", f"Defaults {'umask' * 13}\n", ("1:10", "umask" * 13, UNKNOWN)),
     row("the first of two names that are as near", "Defaults pam_rxost\n", ("1:10", "pam_rxost", f"{UNKNOWN}; did you mean pam_rhost?")),
-    row("no value for a mode", "Defaults umask\n", ("1:10", "umask", f"needs a value: {MODE}")),
-    row("no value for a text", "Defaults mailto\n", ("1:10", "mailto", "needs a value: a text")),
-    row("no value for a path", "Defaults env_file\n", ("1:10", "env_file", f"needs a value: {PATH}")),
-    row("no value for a path or star", "Defaults runcwd\n", ("1:10", "runcwd", f"needs a value: {PATH_OR_STAR}")),
-    row("no value for an integer", "Defaults closefrom\n", ("1:10", "closefrom", f"needs a value: {INTEGER}")),
-    row("no value for an unsigned number", "Defaults loglinelen\n", ("1:10", "loglinelen", f"needs a value: {UNSIGNED}")),
-    row("no value for minutes", "Defaults passwd_timeout\n", ("1:10", "passwd_timeout", f"needs a value: {MINUTES}")),
-    row("no value for a time", "Defaults command_timeout\n", ("1:10", "command_timeout", f"needs a value: {TIME}")),
-    row("no value for a limit", "Defaults rlimit_as\n", ("1:10", "rlimit_as", f"needs a value: {LIMIT}")),
-    row("no value for a list", "Defaults env_keep\n", ("1:10", "env_keep", "needs a value: words")),
-    row("no value for a locale", "Defaults sudoers_locale\n", ("1:10", "sudoers_locale", "needs a value: a locale")),
-    row("no value for a word", "Defaults log_format\n", ("1:10", "log_format", "needs a value: sudo or json")),
-    row("two ! are none", "Defaults !!umask\n", ("1:12", "umask", f"needs a value: {MODE}")),
+    row("no value for a mode", "Defaults umask\n", ("1:10", "umask", f"needs a value, or ! before it: {MODE}")),
+    row("no value for a text", "Defaults mailto\n", ("1:10", "mailto", "needs a value, or ! before it: a text")),
+    row("no value for a path", "Defaults env_file\n", ("1:10", "env_file", f"needs a value, or ! before it: {PATH}")),
+    row("no value for a path or star", "Defaults runcwd\n", ("1:10", "runcwd", f"needs a value, or ! before it: {PATH_OR_STAR}")),
+    row("no value for an integer", "Defaults closefrom\n", ("1:10", "closefrom", f"needs a value, and takes no !: {INTEGER}")),
+    row("no value for an unsigned number", "Defaults loglinelen\n", ("1:10", "loglinelen", f"needs a value, or ! before it: {UNSIGNED}")),
+    row("no value for minutes", "Defaults passwd_timeout\n", ("1:10", "passwd_timeout", f"needs a value, or ! before it: {MINUTES}")),
+    row("no value for a time", "Defaults command_timeout\n", ("1:10", "command_timeout", f"needs a value, or ! before it: {TIME}")),
+    row("no value for a limit", "Defaults rlimit_as\n", ("1:10", "rlimit_as", f"needs a value, or ! before it: {LIMIT}")),
+    row("no value for a list", "Defaults env_keep\n", ("1:10", "env_keep", "needs a value, or ! before it: one or more words")),
+    row("no value for a locale", "Defaults sudoers_locale\n", ("1:10", "sudoers_locale", "needs a value, and takes no !: a locale")),
+    row("no value for a word", "Defaults log_format\n", ("1:10", "log_format", "needs a value, or ! before it: sudo or json")),
+    row("two ! are none", "Defaults !!umask\n", ("1:12", "umask", f"needs a value, or ! before it: {MODE}")),
     row("no value where none is needed", "Defaults fqdn, !fqdn, syslog, !syslog, lecture, listpw, fdexec, !umask, !env_keep\n"),
-    row("! where it needs a value", "Defaults !passwd_tries\n", ("1:11", "passwd_tries", f"needs a value: {UNSIGNED}")),
-    row("! of a text that needs a value", "Defaults !mailsub\n", ("1:11", "mailsub", "needs a value: a text")),
+    row("! where it needs a value", "Defaults !passwd_tries\n", ("1:11", "passwd_tries", f"needs a value, and takes no !: {UNSIGNED}")),
+    row("! of a text that needs a value", "Defaults !mailsub\n", ("1:11", "mailsub", "needs a value, and takes no !: a text")),
     row("+= on a text", "Defaults mailsub += x\n", ("1:10", "mailsub", OPERATOR)),
     row("-= on a number", "Defaults loglinelen -= 5\n", ("1:10", "loglinelen", OPERATOR)),
     row("+= on a flag", "Defaults fqdn += 5\n", ("1:10", "fqdn", OPERATOR)),
@@ -229,8 +233,8 @@ FAULTS = (
         'Defaults nosuch, fqdn=1, insults, umask, !mailsub, mailto+=x, mailfrom="", role=a=b, umask=9, env_file=x\n',
         ("1:10", "nosuch", UNKNOWN),
         ("1:23", "fqdn", NEEDLESS),
-        ("1:35", "umask", f"needs a value: {MODE}"),
-        ("1:43", "mailsub", "needs a value: a text"),
+        ("1:35", "umask", f"needs a value, or ! before it: {MODE}"),
+        ("1:43", "mailsub", "needs a value, and takes no !: a text"),
         ("1:52", "mailto", OPERATOR),
         ("1:72", "mailfrom", EMPTY),
         ("1:81", "role", QUOTES),
@@ -243,10 +247,10 @@ FAULTS = (
 PLACES = (
     row("a list of users", "Defaults:bob, %adm, !eve umask=9, !nosuch\n", ("1:32", "umask", f"takes {MODE}"), ("1:36", "nosuch", UNKNOWN)),
     row("a list of hosts", "Defaults@h1, 10.0.0.0/8 fqdn=5\n", ("1:30", "fqdn", NEEDLESS)),
-    row("a list of commands", "Defaults!/bin/ls, /bin/sh umask\n", ("1:27", "umask", f"needs a value: {MODE}")),
+    row("a list of commands", "Defaults!/bin/ls, /bin/sh umask\n", ("1:27", "umask", f"needs a value, or ! before it: {MODE}")),
     row("a list of targets", "Defaults>root, #7 env_rest\n", ("1:19", "env_rest", f"{UNKNOWN}; did you mean env_reset?")),
     row("a quoted name of a user", 'Defaults:"a b, umask=9", "!c" umask=9\n', ("1:37", "umask", f"takes {MODE}")),
-    row("a user named as a parameter", "Defaults:nosuch, umask !umask, umask\n", ("1:32", "umask", f"needs a value: {MODE}")),
+    row("a user named as a parameter", "Defaults:nosuch, umask !umask, umask\n", ("1:32", "umask", f"needs a value, or ! before it: {MODE}")),
     row("a quoted host", 'Defaults@"h 1" nosuch\n', ("1:16", "nosuch", UNKNOWN)),
     row("an alias in a scope", "User_Alias OPS = bob\nDefaults:OPS nosuch\n", ("2:14", "nosuch", UNKNOWN)),
     row(
@@ -289,7 +293,7 @@ PLACES = (
 )
 
 IGNORED = (
-    row("limits without quotes", "Defaults rlimit_core=5,6\n", ("1:24", "6", UNKNOWN)),
+    row("limits without quotes", "Defaults rlimit_core=5,6\n", ("1:24", "6", f"{UNKNOWN}; a value with a comma needs quotes")),
     row(
         "unknown names that are ignored",
         "Defaults ignore_unknown_defaults, nosuch\nDefaults !nosuch\n",
@@ -306,16 +310,70 @@ IGNORED = (
     row("bad values where unknown names are ignored", "Defaults ignore_unknown_defaults\nDefaults umask=9\n", ("2:16", "umask", f"takes {MODE}")),
 )
 
-# Lines that the grammar of visudo alone refuses: it takes the last quote for an escaped one. There is no note on them.
-OTHER_GRAMMAR = (row("a backslash at the end of quotes", 'Defaults mailsub="x\\\\"\n'),)
 
-ROWS = VALUES + FAULTS + PLACES + IGNORED + OTHER_GRAMMAR
+def form(place, words, finding="refused by visudo -c"):
+    """Returns the note on a form that stands at this place of `main`."""
+    return f"main:{place}: {finding}: {words}\n"
+
+
+NUMBERED = "# and a number are a user ID; write a blank behind #"
+IN_ARGUMENT = "an escape in arguments of another byte than , : = # * ? [ ] ! ^, a backslash and blanks"
+IN_PATH = "an escape in a path of another byte than , : = # and blanks"
+DIGEST = "a digest of a wrong length"
+EDITOR = "sudoedit with a path; write sudoedit alone"
+SLASH = "a name that begins with /; write it in quotes"
+WORD = "> without a backslash in a word, or a tab with one"
+RETURN = "CR LF directly behind a command; write LF"
+ENDED = "a backslash before the closing quote"
+SIZES = (("sha224", 56, 40, 38), ("sha256", 64, 44, 43), ("sha384", 96, 64, 64), ("sha512", 128, 88, 86))
+
+
+def rows_of_digests():
+    """Rows of digests of the right sizes, and of one byte more and less."""
+    for kind, digits, padded, bare in SIZES:
+        right = ("a" * digits, "g" * (padded - 1) + "=", "g" * bare)
+        yield Row(f"{kind}, right sizes", "".join(f"bob ALL = {kind}:{digest} /bin/a\n" for digest in right))
+        for digest in (*("a" * (digits + by) for by in (-1, 1)), *("g" * (bare + by) for by in (-1, 1)), "g" * padded + "="):
+            yield Row(f"{kind}, {len(digest)} bytes, the last {digest[-1]}", f"bob ALL = {kind} : {digest} /bin/a\n", (form(f"1:{14 + len(kind)}", DIGEST),))
+
+
+FORMS = (
+    Row("a number behind a command", "bob ALL = ALL #1\n", (form("1:15", NUMBERED),)),
+    Row("a number below zero behind arguments", "bob ALL = /bin/a -l #-1\n", (form("1:21", NUMBERED),)),
+    Row("a number behind Defaults", "Defaults fqdn #1\n", (form("1:15", NUMBERED),)),
+    Row("a number behind an alias", "User_Alias A = bob #1\nA ALL = ALL\n", (form("1:20", NUMBERED),)),
+    Row("a blank behind #", "bob ALL = ALL # 1\nbob ALL = ALL #- 1\nbob ALL = ALL #x1\n# 1\n"),
+    Row("a user of a number below zero", "#-5 ALL = ALL\n", (form("1:1", "#- and a digit are a user ID; write a blank behind #", "read otherwise by sudo"),)),
+    Row("an escaped letter in arguments", "bob ALL = /bin/a \\-l\n", (form("1:18", IN_ARGUMENT),)),
+    Row("each escape of arguments", "bob ALL = /bin/a \\, \\: \\= \\# \\  \\\\ \\* \\? \\[ \\] \\! \\^ x\n"),
+    Row("an escaped wildcard in a path", "bob ALL = /bin/l\\*\n", (form("1:11", IN_PATH),)),
+    Row("each escape of a path", "bob ALL = /bin/\\,\\:\\=\\#\\ x\n"),
+    Row("the path of the root", "bob ALL = /, /bin/\n", (form("1:11", "the command /"),)),
+    Row("the editor with a path", "bob ALL = /usr/bin/sudoedit /a, /sudoeditor, sudoedit /a\n", (form("1:11", EDITOR),)),
+    Row("> in a name", "a>b ALL = ALL\na\\>b ALL = ALL\n", (form("1:1", WORD),)),
+    Row("an escaped tab in a name", "a\\\tb ALL = ALL\n", (form("1:1", WORD),)),
+    Row("a name that begins with /", '/b ALL = (/c) ALL\n"/b" ALL = ("/c") ALL\n', (form("1:1", SLASH), form("1:11", SLASH))),
+    Row("folders as values", "bob ALL = CWD=/a CHROOT = /b ALL\n"),
+    Row("a path as a role", "bob ALL = ROLE=/x ALL\n", (form("1:16", SLASH),)),
+    Row("CR LF behind a path", "bob ALL = /bin/a\r\n", (form("1:11", RETURN),)),
+    Row("CR LF behind blanks and arguments", "bob ALL = /bin/a -l \r\n", (form("1:18", RETURN),)),
+    Row("CR LF behind sudoedit", "bob ALL = sudoedit\r\n", (form("1:11", RETURN),)),
+    Row("CR LF behind a folder, ALL and a comment", "bob ALL = /bin/\r\nbob ALL = ALL\r\nbob ALL = /bin/a # x\r\n\r\n"),
+    Row("a backslash at the end of quotes", 'Defaults mailsub="x\\\\"\n', (form("1:18", ENDED),)),
+    Row("a backslash at the end of a quoted name", '"x\\\\" ALL = ALL\n', (form("1:1", ENDED),)),
+    Row("an escaped quote at the end of quotes", 'Defaults mailsub="x\\""\n'),
+    Row("forms and parameters in their order", "Defaults nosuch #1\nbob ALL = /bin/\\a \\-l\nDefaults umask=9\n", (refused("1:10", "nosuch", UNKNOWN), form("1:17", NUMBERED), form("2:11", IN_PATH), form("2:19", IN_ARGUMENT), refused("3:16", "umask", f"takes {MODE}"))),
+    *rows_of_digests(),
+)
+
+
+ROWS = VALUES + FAULTS + PLACES + IGNORED + FORMS
 
 
 def run_row(stand, one):
     """Runs a row with the options that go with the notes."""
     notes = "".join(one.notes).encode()
-    strict = 1 if one.is_refused() else 0
+    strict = 1 if one.is_decided() else 0
     with Folder(one.tree()) as folder:
         for words, text, status in (
             ("--for sudo", REPORT.encode() + notes, 0),
@@ -341,7 +399,7 @@ def run_rows_by_visudo(stand):
     for one in (one for one in ROWS if one.is_refused() or not one.notes):
         with Folder(one.tree()) as folder:
             done = run_visudo(folder, "main")
-        wanted = 1 if one.is_refused() or one in OTHER_GRAMMAR else 0
+        wanted = 1 if one.is_refused() else 0
         problems = difference("status", wanted, done.returncode)
         stand.tally.note(f"{PART}: {one.name}, visudo", problems + ([f"{done.stderr}"] if problems else []))
 
@@ -361,7 +419,7 @@ FAULTY_NOTES = "".join(
         ("2:10", "nosuch", UNKNOWN),
         ("inc:1:25", "sudoers_locale", LOCALE),
         ("inc:1:34", "fqdn", NEEDLESS),
-        ("d/a:1:11", "mailsub", "needs a value: a text"),
+        ("d/a:1:11", "mailsub", "needs a value, and takes no !: a text"),
         ("5:16", "umask", f"takes {MODE}"),
     )
 )
@@ -406,7 +464,7 @@ RUNS = (
         + refused("inc:1:25", "sudoers_locale", LOCALE)
         + refused("inc:1:34", "fqdn", NEEDLESS)
         + "d/a: parsed OK\n"
-        + refused("d/a:1:11", "mailsub", "needs a value: a text")
+        + refused("d/a:1:11", "mailsub", "needs a value, and takes no !: a text")
         + "-: parsed OK\n"
         + refused("-:1:16", "umask", f"takes {MODE}"),
         0,
@@ -458,12 +516,12 @@ NOTED = re.compile(r"^p:(\d+):(\d+): (?:refused by visudo -c|not decided): Defau
 # Words of a note, and what visudo prints of such a parameter. The first words that the note begins with count.
 REASONS = (
     (UNKNOWN, ("unknown defaults entry",)),
-    ("needs a value: ", ("no value specified for",)),
+    ("needs a value, ", ("no value specified for",)),
     (OPERATOR, ("invalid operator",)),
     (NEEDLESS, ("does not take a value",)),
     (EMPTY, ("empty string",)),
     (QUOTES, ("syntax error",)),
-    (f"takes {PATH}", ("must start with", "too long")),
+    ("takes a path ", ("must start with", "too long")),
     ("takes ", ("is invalid for option",)),
 )
 # Where visudo has another reason: the parameter's type, the words of the note, the line, and what visudo prints. A name of other bytes than
@@ -473,9 +531,9 @@ OTHER_REASONS = (
     ("", UNKNOWN, r"Defaults !*\w*[A-Z0-9].*", "syntax error"),
     ("", UNKNOWN, r"Defaults \w+=(!|[^\"\\]*=).*", "syntax error"),
     ("", UNKNOWN, r'Defaults \w+=""', "empty string"),
-    ("OneOf(WordSet::Interception)", "needs a value: ", r"Defaults (!!)?\w+", "is invalid for option"),
-    ("OneOf(WordSet::LogFormat)", "needs a value: ", r"Defaults (!!)?\w+", "is invalid for option"),
-    ("OneOf(WordSet::Tickets)", "needs a value: ", r"Defaults (!!)?\w+", "is invalid for option"),
+    ("OneOf(WordSet::Interception)", "needs a value, ", r"Defaults (!!)?\w+", "is invalid for option"),
+    ("OneOf(WordSet::LogFormat)", "needs a value, ", r"Defaults (!!)?\w+", "is invalid for option"),
+    ("OneOf(WordSet::Tickets)", "needs a value, ", r"Defaults (!!)?\w+", "is invalid for option"),
 )
 PLACED_AT_VALUE = (NEEDLESS, EMPTY, QUOTES, "takes ", LOCALE)
 OTHER_NAMES = ("nosuch", "env_rest", "Xyz2")
@@ -676,7 +734,7 @@ def run_random(stand):
 def run_refused_growths(program, tally):
     """Each growth of memory is refused: the whole output comes, or the error and no part of it."""
     several = {"main": "Defaults umask=9, fqdn=1, mailto+=x\n@include inc\nDefaults umask\n", "inc": "Defaults sudoers_locale=xx"}
-    last = f"Defaults umask: needs a value: {MODE}\n"
+    last = f"Defaults umask: needs a value, or ! before it: {MODE}\n"
     unknown = {"main": "Defaults fqdn=1, env_rest\n"}
     inputs = (
         ("--for sudo main", several, last, 0),

@@ -63,7 +63,7 @@ fn find_fault_of_use(
 {
     match &parameter.setting {
         Some(setting) => find_fault_of_setting(row.takes, setting, spelling),
-        None => refuse_unless(
+        None => choose_fault_unless(
             row.without_value.is_allowed(parameter.negated),
             ParameterFault::NoValue,
         ),
@@ -90,7 +90,7 @@ fn find_fault_of_setting(
 }
 
 /// Returns `fault`, unless the test is passed.
-fn refuse_unless(is_passed: bool, fault: ParameterFault) -> Option<ParameterFault>
+fn choose_fault_unless(is_passed: bool, fault: ParameterFault) -> Option<ParameterFault>
     ensures { result ≡ fault_unless is_passed fault }
 {
     if is_passed { None } else { Some(fault) }
@@ -104,11 +104,14 @@ fn find_fault_of_value(takes: ParameterType, value: &[u8]) -> Option<ParameterFa
         ParameterType::Flag => Some(ParameterFault::NeedlessValue),
         ParameterType::Text | ParameterType::FreeText | ParameterType::List => None,
         ParameterType::Locale => {
-            refuse_unless(is_locale_of_each_machine(value), ParameterFault::NotDecided)
+            choose_fault_unless(is_locale_of_each_machine(value), ParameterFault::NotDecided)
         }
-        ParameterType::Path => refuse_unless(is_path(value), ParameterFault::BadPath),
-        ParameterType::PathOrStar => refuse_unless(is_path_or_star(value), ParameterFault::BadPath),
-        _ => refuse_unless(
+        ParameterType::Path => choose_fault_unless(is_path(value), ParameterFault::BadPath),
+        ParameterType::PathOrStar => choose_fault_unless(
+            is_path_or_star(value),
+            ParameterFault::BadPath,
+        ),
+        _ => choose_fault_unless(
             is_number_or_word_taken(takes, value),
             ParameterFault::BadValue,
         ),

@@ -1,7 +1,7 @@
 //! Why sudo refuses a token.
 
 ghost use Rattle.std.specs.Prelude.{◌≡◌, ◌&&◌, not};
-ghost use Rattle.sudoers_forms.specs.Forms.{form_if as some_form_if, form_of_argument, form_of_comment, form_of_path, form_of_quoted, form_of_token, form_of_word, is_folder_value};
+ghost use Rattle.sudoers_forms.specs.Forms.{form_if, form_of_argument, form_of_comment, form_of_path, form_of_quoted, form_of_token, form_of_word, is_folder_value};
 
 use crate::digest_size::is_digest_of_kind;
 use crate::form::Form;
@@ -30,7 +30,7 @@ impl TokenNeighbours<'_> {
             TokenKind::Arg => self.find_form_of_argument(token.text),
             TokenKind::Word => self.find_form_of_word(token.text),
             TokenKind::Quoted | TokenKind::Value => find_form_of_quoted(token.text),
-            TokenKind::Digest => form_if(
+            TokenKind::Digest => choose_form_if(
                 !is_digest_of_kind(self.second_before, token.text),
                 Form::DigestSize,
             ),
@@ -43,9 +43,9 @@ impl TokenNeighbours<'_> {
         ensures { result ≡ form_of_comment self.now.is_first text.now }
     {
         if self.is_first {
-            form_if(is_numbered(text), Form::NumberedLine)
+            choose_form_if(is_numbered(text), Form::NumberedLine)
         } else {
-            form_if(is_numbered(text), Form::NumberedComment)
+            choose_form_if(is_numbered(text), Form::NumberedComment)
         }
     }
 
@@ -60,7 +60,7 @@ impl TokenNeighbours<'_> {
         } else if text.ends_with(b"/sudoedit") {
             Some(Form::EditorPath)
         } else {
-            form_if(
+            choose_form_if(
                 self.is_at_return && !ends_with_byte(b'/', text),
                 Form::CommandReturn,
             )
@@ -74,7 +74,7 @@ impl TokenNeighbours<'_> {
         if !is_argument_of_sudo(text) {
             Some(Form::ArgumentEscape)
         } else {
-            form_if(self.is_at_return, Form::CommandReturn)
+            choose_form_if(self.is_at_return, Form::CommandReturn)
         }
     }
 
@@ -87,7 +87,7 @@ impl TokenNeighbours<'_> {
         } else if begins_with_byte(b'/', text) && !self.is_before_folder() {
             Some(Form::SlashName)
         } else {
-            form_if(
+            choose_form_if(
                 self.is_at_return && text == b"sudoedit".as_slice(),
                 Form::CommandReturn,
             )
@@ -108,15 +108,15 @@ impl TokenNeighbours<'_> {
 fn find_form_of_quoted(text: &[u8]) -> Option<Form>
     ensures { result ≡ form_of_quoted text.now }
 {
-    form_if(
+    choose_form_if(
         begins_with_byte(b'"', text) && text.ends_with(b"\\\""),
         Form::QuotedBackslash,
     )
 }
 
 /// Returns `form`, if the test is passed.
-fn form_if(is_passed: bool, form: Form) -> Option<Form>
-    ensures { result ≡ some_form_if is_passed form }
+fn choose_form_if(is_passed: bool, form: Form) -> Option<Form>
+    ensures { result ≡ form_if is_passed form }
 {
     if is_passed { Some(form) } else { None }
 }
