@@ -318,6 +318,7 @@ def form(place, words, finding="refused by visudo -c"):
 
 NUMBERED = "# and a number are a user ID; write a blank behind #"
 IN_ARGUMENT = "an escape in arguments of another byte than , : = # * ? [ ] ! ^, a backslash and blanks"
+HASH = "# in quotes begins a comment; write a backslash before it"
 IN_PATH = "an escape in a path of another byte than , : = # and blanks"
 DIGEST = "a digest of a wrong length"
 EDITOR = "sudoedit with a path; write sudoedit alone"
@@ -346,6 +347,7 @@ FORMS = (
     Row("a user of a number below zero", "#-5 ALL = ALL\n", (form("1:1", "#- and a digit are a user ID; write a blank behind #", "read otherwise by sudo"),)),
     Row("an escaped letter in arguments", "bob ALL = /bin/a \\-l\n", (form("1:18", IN_ARGUMENT),)),
     Row("each escape of arguments", "bob ALL = /bin/a \\, \\: \\= \\# \\  \\\\ \\* \\? \\[ \\] \\! \\^ x\n"),
+    Row("# in quotes", 'bob ALL = /bin/a "x #y", /bin/b\nbob ALL = /bin/a "x \\\\#y"\n', (form("1:18", HASH, "read otherwise by sudo"),)),
     Row("an escaped wildcard in a path", "bob ALL = /bin/l\\*\n", (form("1:11", IN_PATH),)),
     Row("each escape of a path", "bob ALL = /bin/\\,\\:\\=\\#\\ x\n"),
     Row("the path of the root", "bob ALL = /, /bin/\n", (form("1:11", "the command /"),)),
@@ -353,6 +355,7 @@ FORMS = (
     Row("> in a name", "a>b ALL = ALL\na\\>b ALL = ALL\n", (form("1:1", WORD),)),
     Row("an escaped tab in a name", "a\\\tb ALL = ALL\n", (form("1:1", WORD),)),
     Row("a name that begins with /", '/b ALL = (/c) ALL\n"/b" ALL = ("/c") ALL\n', (form("1:1", SLASH), form("1:11", SLASH))),
+    Row("a name that is no path", "/ ALL = ALL\n/a\\>b ALL = ALL\n"),
     Row("folders as values", "bob ALL = CWD=/a CHROOT = /b ALL\n"),
     Row("a path as a role", "bob ALL = ROLE=/x ALL\n", (form("1:16", SLASH),)),
     Row("CR LF behind a path", "bob ALL = /bin/a\r\n", (form("1:11", RETURN),)),

@@ -10,7 +10,7 @@ use Rattle.sudoers_grammar.specs.Node.{Node}
 use Rattle.sudoers_grammar.specs.Node as node
 use Rattle.sudoers_grammar.specs.Piece.{TokenWithBytes, tokens_with_bytes, has_first_byte, has_last_byte}
 use Rattle.sudoers_tree.specs.Line.{Line}
-use Rattle.sudoers_forms.specs.Spelling.{is_path_of_sudo, is_argument_of_sudo, is_word_of_sudo, is_numbered, is_digest_of_kind}
+use Rattle.sudoers_forms.specs.Spelling.{is_path_of_sudo, is_argument_of_sudo, is_word_of_sudo, has_bare_hash, is_numbered, is_digest_of_kind}
 use Rattle.sudoers_forms.specs.declared.form.Form.{Form}
 use Rattle.sudoers_forms.specs.declared.form.Form.TheVariants as form
 use Rattle.sudoers_forms.specs.declared.refused_form.RefusedForm.{RefusedForm}
@@ -33,12 +33,19 @@ form_of_path is_at_return text =
     else form_if (is_at_return && not (has_last_byte 47 text)) form.CommandReturn))
 
 abbrev pub form_of_argument : Bool → List ℕ → Option Form
-form_of_argument is_at_return text = if not (is_argument_of_sudo text) then Some form.ArgumentEscape else form_if is_at_return form.CommandReturn
+form_of_argument is_at_return text =
+    if not (is_argument_of_sudo text) then Some form.ArgumentEscape
+    else (if has_bare_hash false text then Some form.ArgumentHash
+    else form_if is_at_return form.CommandReturn)
+
+-- A word that sudo reads as a path: `/` and more, without an escape that a path has not.
+abbrev pub is_path_in_place_of_word : List ℕ → Bool
+is_path_in_place_of_word text = has_first_byte 47 text && not (bytes_eq text (codes "/")) && is_path_of_sudo text
 
 abbrev pub form_of_word : List ℕ → List ℕ → Bool → List ℕ → Option Form
 form_of_word second_before before is_at_return text =
     if not (is_word_of_sudo text) then Some form.WordByte
-    else (if has_first_byte 47 text && not (is_folder_value second_before before) then Some form.SlashName
+    else (if is_path_in_place_of_word text && not (is_folder_value second_before before) then Some form.SlashName
     else form_if (is_at_return && bytes_eq text (codes "sudoedit")) form.CommandReturn)
 
 abbrev pub form_of_comment : Bool → List ℕ → Option Form

@@ -36,6 +36,11 @@ is_path_of_sudo text = is_spelled_by is_escaped_in_path is_any_byte false text
 abbrev pub is_argument_of_sudo : List ℕ → Bool
 is_argument_of_sudo text = is_spelled_by is_escaped_in_argument is_any_byte false text
 
+-- A `#` stands in the text without a backslash. True: a backslash stands before.
+abbrev pub has_bare_hash : Bool → List ℕ → Bool
+has_bare_hash escaped [] = false
+has_bare_hash escaped (b ∷ rest) = (b == 35 && not escaped) || has_bare_hash (b == 92 && not escaped) rest
+
 abbrev pub is_word_of_sudo : List ℕ → Bool
 is_word_of_sudo text = is_spelled_by is_escaped_in_word is_byte_of_word false text
 

@@ -11,6 +11,8 @@ pub enum Form {
     PathEscape,
     /// An argument has an escape that sudo does not know.
     ArgumentEscape,
+    /// A quoted argument has a `#` without a backslash.
+    ArgumentHash,
     /// The path `/` alone.
     RootPath,
     /// `sudoedit` with a path.
@@ -36,6 +38,7 @@ pub fn words_of_form(form: Form) -> &'static str {
         Form::ArgumentEscape => {
             "an escape in arguments of another byte than , : = # * ? [ ] ! ^, a backslash and blanks"
         }
+        Form::ArgumentHash => "# in quotes begins a comment; write a backslash before it",
         Form::RootPath => "the command /",
         Form::EditorPath => "sudoedit with a path; write sudoedit alone",
         Form::DigestSize => "a digest of a wrong length",

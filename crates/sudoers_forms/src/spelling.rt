@@ -2,7 +2,7 @@
 
 ghost use Rattle.std.specs.Prelude.{◌≡◌, false};
 ghost use Rattle.sudoers_text.specs.Unit.{begins_digit};
-ghost use Rattle.sudoers_forms.specs.Spelling.{begins_signed_digit, is_argument_of_sudo, is_byte_of_word, is_escaped_in_argument, is_escaped_in_path, is_escaped_in_word, is_numbered, is_path_of_sudo, is_word_of_sudo};
+ghost use Rattle.sudoers_forms.specs.Spelling.{begins_signed_digit, has_bare_hash, is_argument_of_sudo, is_byte_of_word, is_escaped_in_argument, is_escaped_in_path, is_escaped_in_word, is_numbered, is_path_of_sudo, is_word_of_sudo};
 
 /// Returns whether sudo knows the escape of `byte` in a path.
 fn is_escaped_in_path(byte: u8) -> bool
@@ -53,6 +53,20 @@ pub fn is_argument_of_sudo(text: &[u8]) -> bool
         is_escaped = !is_escaped && *byte == b'\\';
     }
     !is_escaped
+}
+
+/// Returns whether a `#` stands in `text` without a backslash.
+pub fn has_bare_hash(text: &[u8]) -> bool
+    ensures { result ≡ has_bare_hash false text.now }
+{
+    let mut is_escaped = false;
+    for byte in text {
+        if *byte == b'#' && !is_escaped {
+            return true;
+        }
+        is_escaped = *byte == b'\\' && !is_escaped;
+    }
+    false
 }
 
 /// Returns whether sudo reads the word `text`: no `>` stands in it without a backslash, and no tab with one.

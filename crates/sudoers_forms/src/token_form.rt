@@ -1,11 +1,13 @@
 //! Why sudo refuses a token.
 
 ghost use Rattle.std.specs.Prelude.{◌≡◌, ◌&&◌, not};
-ghost use Rattle.sudoers_forms.specs.Forms.{form_if, form_of_argument, form_of_comment, form_of_path, form_of_quoted, form_of_token, form_of_word, is_folder_value};
+ghost use Rattle.sudoers_forms.specs.Forms.{form_if, form_of_argument, form_of_comment, form_of_path, form_of_quoted, form_of_token, form_of_word, is_folder_value, is_path_in_place_of_word};
 
 use crate::digest_size::is_digest_of_kind;
 use crate::form::Form;
-use crate::spelling::{is_argument_of_sudo, is_numbered, is_path_of_sudo, is_word_of_sudo};
+use crate::spelling::{
+    has_bare_hash, is_argument_of_sudo, is_numbered, is_path_of_sudo, is_word_of_sudo,
+};
 use sudoers_grammar::{TokenWithText, begins_with_byte, ends_with_byte};
 use sudoers_text::TokenKind;
 
@@ -73,6 +75,8 @@ impl TokenNeighbours<'_> {
     {
         if !is_argument_of_sudo(text) {
             Some(Form::ArgumentEscape)
+        } else if has_bare_hash(text) {
+            Some(Form::ArgumentHash)
         } else {
             choose_form_if(self.is_at_return, Form::CommandReturn)
         }
@@ -84,7 +88,7 @@ impl TokenNeighbours<'_> {
     {
         if !is_word_of_sudo(text) {
             Some(Form::WordByte)
-        } else if begins_with_byte(b'/', text) && !self.is_before_folder() {
+        } else if is_path_in_place_of_word(text) && !self.is_before_folder() {
             Some(Form::SlashName)
         } else {
             choose_form_if(
@@ -102,6 +106,13 @@ impl TokenNeighbours<'_> {
             && (self.second_before == b"CWD".as_slice()
                 || self.second_before == b"CHROOT".as_slice())
     }
+}
+
+/// Returns whether sudo reads the word `text` as a path.
+fn is_path_in_place_of_word(text: &[u8]) -> bool
+    ensures { result ≡ is_path_in_place_of_word text.now }
+{
+    begins_with_byte(b'/', text) && text != b"/".as_slice() && is_path_of_sudo(text)
 }
 
 /// Returns why sudo refuses the text `text`, if that stands in quotes.

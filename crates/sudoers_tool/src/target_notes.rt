@@ -170,7 +170,7 @@ impl RefusalNotes<'_> {
     /// Appends the note on the form `form`.
     fn append_form(&mut self, form: &RefusedForm) -> Result<(), AllocError> {
         let finding: &[u8] = match form.form {
-            Form::NumberedLine => b": read otherwise by sudo: ",
+            Form::NumberedLine | Form::ArgumentHash => b": read otherwise by sudo: ",
             _ => b": refused by visudo -c: ",
         };
         self.append_place(form.at)?;
