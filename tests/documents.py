@@ -56,7 +56,7 @@ LIMITS = {
     "docs/ARCHITECTURE.md": 146,
     "docs/AUDIT.md": 104,
     "docs/BENCHMARK.md": 120,
-    "docs/DECISIONS.md": 462,
+    "docs/DECISIONS.md": 464,
     "docs/GATE.md": 40,
     "docs/PROOFS.md": 180,
 }
