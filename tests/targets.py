@@ -347,7 +347,7 @@ FORMS = (
     Row("a user of a number below zero", "#-5 ALL = ALL\n", (form("1:1", "#- and a digit are a user ID; write a blank behind #", "read otherwise by sudo"),)),
     Row("an escaped letter in arguments", "bob ALL = /bin/a \\-l\n", (form("1:18", IN_ARGUMENT),)),
     Row("each escape of arguments", "bob ALL = /bin/a \\, \\: \\= \\# \\  \\\\ \\* \\? \\[ \\] \\! \\^ x\n"),
-    Row("# in quotes", 'bob ALL = /bin/a "x #y", /bin/b\nbob ALL = /bin/a "x \\\\#y"\n', (form("1:18", HASH, "read otherwise by sudo"),)),
+    Row("# in quotes", 'bob ALL = /bin/a "x #y", /bin/b\nbob ALL = /bin/a "x \\#y"\n', (form("1:18", HASH, "read otherwise by sudo"),)),
     Row("an escaped wildcard in a path", "bob ALL = /bin/l\\*\n", (form("1:11", IN_PATH),)),
     Row("each escape of a path", "bob ALL = /bin/\\,\\:\\=\\#\\ x\n"),
     Row("the path of the root", "bob ALL = /, /bin/\n", (form("1:11", "the command /"),)),
