@@ -302,6 +302,12 @@ BY_PROGRAM = {
         "plan::count_equal_lines",
         "plan::read_wish",
     ),
+    "targets": (
+        "defaults::append_refusal_words",
+        "defaults::list_refused_parameters",
+        "explain_edits::Nearest::choose_nearer",
+        "forms::list_refused_forms",
+    ),
     "asking_machine": (
         "ask::explain_user_answer",
         "ask::list_rights",
