@@ -71,6 +71,22 @@ def many_groups():
     return b"other:x:99999:\n" + b"".join(b"g%05d:x:%05d:t\n" % (n, n) for n in range(1, 65_000))
 
 
+def unknown_parameters():
+    """Lines of as many unknown parameters of Defaults as there is room for."""
+    return full(filled(b"Defaults a", b",a", b"\n"), 16)
+
+
+def unknown_escapes():
+    """Lines of as many paths and arguments with an escape that sudo does not know as there is room for."""
+    return full(filled(b"u ALL=/b", b",/\\* \\-", b"\n"), 16)
+
+
+def chain_to_user():
+    """A chain of aliases of which each is defined before the one that mentions it leads on, and the last has a user."""
+    links = b"".join(b"User_Alias A%d = A%d, x\n" % (n, n + 1) for n in range(1, KIND_LIMIT))
+    return links + b"User_Alias A%d = u, x\nA1 ALL = /b\n" % KIND_LIMIT
+
+
 def one_pattern(pattern):
     """A rule whose arguments are a pattern."""
     return b"u ALL=/b *" + pattern + b"\n"
@@ -103,6 +119,20 @@ def converting(folder, name, policy, words, plain_words, plain_size):
     return ["convert", "-f", "sudoers", *words, path], ["convert", "-f", "sudoers", *plain_words, plain]
 
 
+def noting(folder, name, policy):
+    """The notes on what sudo refuses."""
+    path = file_in(folder, f"{name}-policy", policy)
+    plain = file_in(folder, f"{name}-plain", b"".join(policies.policy(len(policy))))
+    return ["check", "--for", "sudo", path], ["check", "--for", "sudo", plain]
+
+
+def planning(folder, name, policy, wish):
+    """The plan of a wish."""
+    path = file_in(folder, f"{name}-policy", policy)
+    plain = file_in(folder, f"{name}-plain", b"".join(policies.policy(len(policy))))
+    return ["plan", path, wish], ["plan", plain, wish]
+
+
 def including(folder, name, count):
     """`check` of lines that include one empty folder, and of an ordinary policy; and the size of both."""
     included = os.path.join(folder, name)
@@ -119,6 +149,7 @@ def commands(folder):
     runas, short, few = long_runas(), short_runas(), many_commands()
     closed, unclosed = one_pattern(b"[" + b"a" * 60_000 + b"]"), one_pattern(b"[" * 30_000)
     values = ",".join(f"user=x{n}" for n in range(1, 65))
+    unknown, escapes, leaver = unknown_parameters(), unknown_escapes(), chain_to_user()
     made = (
         ("`convert -e`, a chain of 4,096 and 65,400 mentions", 0, chain, converting(folder, "chain", chain, ("-e",), ("-e",), len(chain))),
         ("`convert -m`, 64 values and 16,384 aliases", 0, many, converting(folder, "values", many, ("-m", values), ("-m", "user=x1"), len(many))),
@@ -126,6 +157,9 @@ def commands(folder):
         ("`list COMMAND`, lists of 16,351 runas users", 1, runas, listing(folder, "runas", runas, b"", ("-u", "t"), ("/c",))),
         ("`list COMMAND`, 64,999 groups and 349,000 commands", 1, few, listing(folder, "groups", few, many_groups(), ("-u", "t", "-g", "other"), ("/c",))),
         ("`list COMMAND`, `*` and a set of 60,000 bytes", 1, closed, listing(folder, "closed", closed, b"", (), ("/b", "b" * 60_000))),
+        ("`check --for sudo`, 524,000 unknown parameters", 0, unknown, noting(folder, "unknown", unknown)),
+        ("`check --for sudo`, 299,000 unknown escapes", 0, escapes, noting(folder, "escapes", escapes)),
+        ("`plan 'no-user u'`, a chain of 4,096 aliases", 0, leaver, planning(folder, "leaver", leaver, "no-user u")),
         ("`list COMMAND`, `*` and 30,000 `[`", 0, unclosed, listing(folder, "unclosed", unclosed, b"", (), ("/b", "[" * 60_000))),
     )
     for name, status, policy, (words, ordinary) in made:
