@@ -137,7 +137,12 @@ impl RefusalNotes<'_> {
             left = self.append_forms_before(place_of_parameter(parameter), left)?;
             self.append_parameter(parameter)?;
         }
-        for form in left {
+        self.append_forms(left)
+    }
+
+    /// Appends the notes on the forms `forms`.
+    fn append_forms(&mut self, forms: &[RefusedForm]) -> Result<(), AllocError> {
+        for form in forms {
             self.append_form(form)?;
         }
         Ok(())
