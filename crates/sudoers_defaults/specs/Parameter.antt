@@ -30,11 +30,12 @@ is_used_without_value bare.Both negated = true
 is_used_without_value bare.Negated negated = negated
 is_used_without_value bare.Never negated = false
 
--- Outside quotes, the spelling of a value begins with `!`, or holds a `=` without a backslash.
+-- A `=` stands in the text without a backslash. Escaped: the byte before the text is a backslash that escapes.
 abbrev pub has_bare_equals : Bool → List ℕ → Bool
 has_bare_equals escaped [] = false
 has_bare_equals escaped (b ∷ rest) = (b == 61 && not escaped) || has_bare_equals (b == 92 && not escaped) rest
 
+-- The spelling of a value has no quotes, and begins with `!` or holds a `=` without a backslash.
 abbrev pub needs_quotes : List ℕ → Bool
 needs_quotes [] = false
 needs_quotes (b ∷ rest) = not (b == 34) && (b == 33 || has_bare_equals false (b ∷ rest))

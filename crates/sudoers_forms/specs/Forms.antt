@@ -38,7 +38,7 @@ form_of_argument is_at_return text =
     else (if has_bare_hash false text then Some form.ArgumentHash
     else form_if is_at_return form.CommandReturn)
 
--- A word that sudo reads as a path: `/` and more, without an escape that a path has not.
+-- A word that sudo reads as a path: `/` and more, with escapes of a path alone.
 abbrev pub is_path_in_place_of_word : List ℕ → Bool
 is_path_in_place_of_word text = has_first_byte 47 text && not (bytes_eq text (codes "/")) && is_path_of_sudo text
 

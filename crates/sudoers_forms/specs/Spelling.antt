@@ -5,7 +5,7 @@ use Rattle.std.specs.Str.{bytes_eq}
 use Rattle.sudoers_text.specs.Unit.{is_digit, is_blank, is_comma_colon_or_equals, begins_digit}
 use Rattle.sudoers_grammar.specs.Piece.{has_last_byte}
 
--- Each backslash stands before a byte that passes the first test, and each other byte passes the second. True: a backslash stands before.
+-- Each backslash stands before a byte that passes the first test, and each other byte passes the second. Escaped: the byte before the text is a backslash that escapes.
 abbrev pub is_spelled_by : (ℕ → Bool) → (ℕ → Bool) → Bool → List ℕ → Bool
 is_spelled_by may_be_escaped may_stand escaped [] = not escaped
 is_spelled_by may_be_escaped may_stand true (b ∷ rest) = may_be_escaped b && is_spelled_by may_be_escaped may_stand false rest
@@ -36,7 +36,7 @@ is_path_of_sudo text = is_spelled_by is_escaped_in_path is_any_byte false text
 abbrev pub is_argument_of_sudo : List ℕ → Bool
 is_argument_of_sudo text = is_spelled_by is_escaped_in_argument is_any_byte false text
 
--- A `#` stands in the text without a backslash. True: a backslash stands before.
+-- A `#` stands in the text without a backslash. Escaped: the byte before the text is a backslash that escapes.
 abbrev pub has_bare_hash : Bool → List ℕ → Bool
 has_bare_hash escaped [] = false
 has_bare_hash escaped (b ∷ rest) = (b == 35 && not escaped) || has_bare_hash (b == 92 && not escaped) rest

@@ -71,8 +71,8 @@ pub fn are_target_notes_asked(words: &ArgMatches<'_>) -> bool {
     words.get_str(TARGET).is_some()
 }
 
-/// Returns the notes about the policy `root`, if `words` ask for them. `files` are those of the policy. There are none on a policy with an
-/// error, which its report tells.
+/// Returns the notes about the policy `root`, if `words` ask for them. `files` are those of the policy. A policy with an
+/// error has none: its report prints the error.
 pub fn find_target_notes(
     rt: &HostRuntime,
     words: &ArgMatches<'_>,
