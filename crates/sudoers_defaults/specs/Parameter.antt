@@ -1,5 +1,5 @@
 -- Why sudo refuses a parameter of a Defaults line.
-use Rattle.std.specs.Prelude.{ℕ, ◌==◌, ◌&&◌, ◌||◌, not, Bool, true, false, List, [], ◌∷◌, codes, Option, Some, None, if◌then◌else◌}
+use Rattle.std.specs.Prelude.{ℕ, ◌-◌, ◌==◌, ◌&&◌, ◌||◌, not, Bool, true, false, List, [], ◌∷◌, length, drop, take, codes, Option, Some, None, if◌then◌else◌}
 use Rattle.std.specs.List.{list_any}
 use Rattle.std.specs.Str.{bytes_eq}
 use Rattle.sudoers_text.specs.Unit.{is_empty}
@@ -7,6 +7,8 @@ use Rattle.sudoers_text.specs.Word.{is_among}
 use Rattle.sudoers_grammar.specs.declared.node.Operator.{Operator}
 use Rattle.sudoers_grammar.specs.declared.node.Operator.TheVariants as operator
 use Rattle.sudoers_grammar.specs.Node.{Param, Setting}
+use Rattle.sudoers_grammar.specs.Number.{parts_around_first_byte}
+use Rattle.sudoers_grammar.specs.Piece.{has_first_byte, has_byte}
 use Rattle.sudoers_defaults.specs.declared.parameter_group.ParameterGroup.{ParameterGroup}
 use Rattle.sudoers_defaults.specs.declared.parameter_group.ParameterType.{ParameterType}
 use Rattle.sudoers_defaults.specs.declared.parameter_group.ParameterType.TheVariants as type
@@ -25,20 +27,45 @@ group_of_name name [] = None
 group_of_name name (g ∷ gs) = if is_name_in_group name g then Some g else group_of_name name gs
 
 -- The parameter may stand without a value, with or without `!`.
-abbrev pub is_used_without_value : UseWithoutValue → Bool → Bool
-is_used_without_value bare.Both negated = true
-is_used_without_value bare.Negated negated = negated
-is_used_without_value bare.Never negated = false
+abbrev pub may_stand_without_value : UseWithoutValue → Bool → Bool
+may_stand_without_value bare.Both negated = true
+may_stand_without_value bare.Negated negated = negated
+may_stand_without_value bare.Never negated = false
 
 -- A `=` stands in the text without a backslash. Escaped: the byte before the text is a backslash that escapes.
 abbrev pub has_bare_equals : Bool → List ℕ → Bool
 has_bare_equals escaped [] = false
 has_bare_equals escaped (b ∷ rest) = (b == 61 && not escaped) || has_bare_equals (b == 92 && not escaped) rest
 
--- The spelling of a value has no quotes, and begins with `!` or holds a `=` without a backslash.
+-- The text behind the pairs of `!` that it begins with: sudo drops them before a value.
+abbrev pub text_behind_mark_pairs : List ℕ → List ℕ
+text_behind_mark_pairs [] = []
+text_behind_mark_pairs (b ∷ []) = b ∷ []
+text_behind_mark_pairs (b ∷ c ∷ rest) = if b == 33 && c == 33 then text_behind_mark_pairs rest else b ∷ c ∷ rest
+
+-- The text is no value without quotes: it has no bytes, begins with `!` or holds a `=` without a backslash.
+abbrev pub is_no_bare_value : List ℕ → Bool
+is_no_bare_value text = is_empty text || has_first_byte 33 text || has_bare_equals false text
+
+-- The spelling of a value has no quotes, and is no value without them.
 abbrev pub needs_quotes : List ℕ → Bool
-needs_quotes [] = false
-needs_quotes (b ∷ rest) = not (b == 34) && (b == 33 || has_bare_equals false (b ∷ rest))
+needs_quotes spelling = not (has_first_byte 34 spelling) && is_no_bare_value (text_behind_mark_pairs spelling)
+
+-- the bytes before a first NUL
+abbrev pub front_to_nul : List ℕ → List ℕ
+front_to_nul text = front_of_parts text (parts_around_first_byte 0 text)
+  where
+    front_of_parts : List ℕ → Option (List ℕ × List ℕ) → List ℕ
+    front_of_parts text None = text
+    front_of_parts text (Some parts) = parts.0
+
+-- What sudo reads of a value that is spelled so. In quotes it knows the escape `\"` and continuations alone, so that other bytes between the
+-- quotes stand for themselves; no type but texts and lists takes a `"`. Without quotes pairs of `!` fall away, and a NUL ends the value.
+abbrev pub value_for_sudo : List ℕ → List ℕ → List ℕ
+value_for_sudo spelling value =
+    if not (has_first_byte 34 spelling) then front_to_nul (drop (length spelling - length (text_behind_mark_pairs spelling)) value)
+    else (if has_byte 10 spelling then value
+    else take (length spelling - 2) (drop 1 spelling))
 
 abbrev pub is_free_text : ParameterType → Bool
 is_free_text type.FreeText = true
@@ -91,10 +118,10 @@ fault_of_setting t s spelling =
     if is_empty s.value then Some fault.EmptyValue
     else (if not (is_free_text t) && needs_quotes spelling then Some fault.NeedsQuotes
     else (if not (is_operator_for t s.operator) then Some fault.Operator
-    else fault_of_value t s.value))
+    else fault_of_value t (value_for_sudo spelling s.value)))
 
 abbrev pub fault_of_use : ParameterGroup → Bool → Option Setting → List ℕ → Option ParameterFault
-fault_of_use k negated None spelling = fault_unless (is_used_without_value k.without_value negated) fault.NoValue
+fault_of_use k negated None spelling = fault_unless (may_stand_without_value k.without_value negated) fault.NoValue
 fault_of_use k negated (Some s) spelling = fault_of_setting k.takes s spelling
 
 abbrev pub fault_if_known : Option ParameterGroup → Param → List ℕ → Option ParameterFault

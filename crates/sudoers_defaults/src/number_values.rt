@@ -286,7 +286,7 @@ fn is_limit(text: &[u8]) -> bool
 }
 
 /// Returns the bytes before the first `byte`, and those behind it.
-fn split_at_byte(byte: u8, text: &[u8]) -> Option<(&[u8], &[u8])>
+pub fn split_at_byte(byte: u8, text: &[u8]) -> Option<(&[u8], &[u8])>
     ensures { model_of_split_parts result ≡ parts_around_first_byte byte text.now }
 {
     for (at, found) in text.iter().enumerate() {

@@ -1,8 +1,8 @@
 //! Why sudo refuses a parameter of a Defaults line.
 
-ghost use Rattle.std.specs.Prelude.{◌≡◌, false, option_map};
+ghost use Rattle.std.specs.Prelude.{◌≡◌, option_map};
 ghost use Rattle.sudoers_line_rows.specs.View.{parameter_of_view, setting_of_view};
-ghost use Rattle.sudoers_defaults.specs.Parameter.{fault_of_parameter, fault_of_setting, fault_of_use, fault_of_value, fault_unless, has_bare_equals, is_free_text, is_number_or_word_taken, is_operator_for, needs_quotes};
+ghost use Rattle.sudoers_defaults.specs.Parameter.{fault_of_parameter, fault_of_setting, fault_of_use, fault_of_value, fault_unless, is_free_text, is_number_or_word_taken, is_operator_for};
 
 use crate::number_values::{
     is_integer, is_minutes, is_mode, is_plain_minutes, is_resource_limit, is_small_number,
@@ -13,6 +13,7 @@ use crate::path_and_word_values::{
     is_locale_of_each_machine, is_path, is_path_or_star, is_word_of_set,
 };
 use crate::time_values::is_time;
+use crate::value_spelling::{has_to_be_quoted, read_value};
 use sudoers_grammar::Operator;
 use sudoers_line_rows::{Param, Setting};
 
@@ -29,7 +30,7 @@ pub enum ParameterFault {
     NeedlessValue,
     /// Its value has no bytes.
     EmptyValue,
-    /// Its value is not in quotes, and has a `=` without a backslash or begins with `!`.
+    /// Its value is not in quotes, and has a `=` without a backslash or begins with an odd number of `!`.
     NeedsQuotes,
     /// It takes other values.
     BadValue,
@@ -85,7 +86,7 @@ fn find_fault_of_setting(
     } else if !is_operator_for(takes, setting.operator) {
         Some(ParameterFault::Operator)
     } else {
-        find_fault_of_value(takes, setting.value)
+        find_fault_of_value(takes, read_value(spelling, setting.value))
     }
 }
 
@@ -157,29 +158,4 @@ fn is_free_text(takes: ParameterType) -> bool
         ParameterType::FreeText => true,
         _ => false,
     }
-}
-
-/// Returns whether a value that is spelled so needs quotes.
-fn has_to_be_quoted(spelling: &[u8]) -> bool
-    ensures { result ≡ needs_quotes spelling.now }
-{
-    match spelling.first() {
-        Some(b'"') | None => false,
-        Some(b'!') => true,
-        Some(_) => has_bare_equals(spelling),
-    }
-}
-
-/// Returns whether `spelling` holds a `=` without a backslash.
-fn has_bare_equals(spelling: &[u8]) -> bool
-    ensures { result ≡ has_bare_equals false spelling.now }
-{
-    let mut is_escaped = false;
-    for byte in spelling {
-        if *byte == b'=' && !is_escaped {
-            return true;
-        }
-        is_escaped = *byte == b'\\' && !is_escaped;
-    }
-    false
 }

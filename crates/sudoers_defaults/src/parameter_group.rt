@@ -2,7 +2,7 @@
 
 ghost use Rattle.std.specs.Prelude.{◌≡◌};
 ghost use Rattle.std.specs.Option.{option_copied};
-ghost use Rattle.sudoers_defaults.specs.Parameter.{is_used_without_value as may_stand_without_value, group_of_name, is_name_in_group};
+ghost use Rattle.sudoers_defaults.specs.Parameter.{group_of_name, is_name_in_group, may_stand_without_value};
 
 /// Parameters of Defaults lines that take the same (sudoers(5), SUDOERS OPTIONS).
 #[derive(Clone, Copy)]

@@ -172,7 +172,7 @@ impl TokensOfLine<'_> {
 }
 
 /// Returns the bytes of `text` from `start` up to `stop`, as far as there are any.
-fn take_bytes_between(text: &[u8], start: usize, stop: usize) -> &[u8]
+pub fn take_bytes_between(text: &[u8], start: usize, stop: usize) -> &[u8]
     ensures { result.now ≡ slice_range text.now start stop }
 {
     let behind = &text[start.min(text.len())..];

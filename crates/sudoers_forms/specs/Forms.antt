@@ -1,99 +1,257 @@
 -- The forms of a policy that sudo refuses, and where they stand.
-use Rattle.std.specs.Prelude.{ℕ, suc, ◌&&◌, ◌||◌, not, Bool, true, false, List, [], ◌∷◌, ◌++◌, length, nat_eq, codes, Option, Some, None, if◌then◌else◌}
-use Rattle.std.specs.List.{ends_with}
+use Rattle.std.specs.Prelude.{ℕ, suc, ◌==◌, ◌&&◌, ◌||◌, not, Bool, true, false, List, [], ◌∷◌, ◌++◌, length, drop, nat_eq, nat_le, nat_lt, slice_range, codes, Option, Some, None, if◌then◌else◌}
+use Rattle.std.specs.List.{ends_with, starts_with}
 use Rattle.std.specs.Str.{bytes_eq}
 use Rattle.sudoers_text.specs.declared.token.TokenKind.{TokenKind}
 use Rattle.sudoers_text.specs.declared.token.TokenKind.TheVariants as kind
 use Rattle.sudoers_text.specs.Found.{tokens_of_line}
 use Rattle.sudoers_text.specs.LineMode.{line_mode}
+use Rattle.sudoers_text.specs.Unit.{is_empty, is_blank, begins_line_end}
 use Rattle.sudoers_grammar.specs.Node.{Node}
 use Rattle.sudoers_grammar.specs.Node as node
-use Rattle.sudoers_grammar.specs.Piece.{TokenWithBytes, tokens_with_bytes, has_first_byte, has_last_byte}
+use Rattle.sudoers_grammar.specs.Piece.{TokenWithBytes, tokens_with_bytes, has_first_byte, has_last_byte, has_byte, is_word, is_comment}
 use Rattle.sudoers_tree.specs.Line.{Line}
-use Rattle.sudoers_forms.specs.Spelling.{is_path_of_sudo, is_argument_of_sudo, is_word_of_sudo, has_bare_hash, is_numbered, is_digest_of_kind}
+use Rattle.sudoers_forms.specs.Spelling.{size_as_path, size_as_word, spelled_size, is_numbered, is_broken_comment, is_digest_of_kind}
+use Rattle.sudoers_forms.specs.Names.{form_if, form_or, form_of_name, form_of_folder, form_of_plain_value, is_folder_option, path_size_limit}
+use Rattle.sudoers_forms.specs.Words.{is_first_word, is_tag_word, is_unknown_option}
+use Rattle.sudoers_forms.specs.Parts.{first_part, part_of_token, part_after_token, is_member_kind, is_scope}
+use Rattle.sudoers_forms.specs.declared.spelling.Spelling.TheVariants as spelling
+use Rattle.sudoers_forms.specs.declared.line_part.LinePart.{LinePart}
+use Rattle.sudoers_forms.specs.declared.line_part.LinePart.TheVariants as part
 use Rattle.sudoers_forms.specs.declared.form.Form.{Form}
 use Rattle.sudoers_forms.specs.declared.form.Form.TheVariants as form
 use Rattle.sudoers_forms.specs.declared.refused_form.RefusedForm.{RefusedForm}
 
--- ---- one token
+-- ---- paths
 
-abbrev pub form_if : Bool → Form → Option Form
-form_if true f = Some f
-form_if false f = None
+-- sudo reads a path and a word as far as they go, and takes the longer; of two as long the path.
+abbrev pub form_of_path_reach : ℕ → ℕ → ℕ → Option Form
+form_of_path_reach path word size =
+    if nat_lt path word then (if nat_lt path size then Some form.PathEscape else Some form.WordReturn)
+    else (if nat_lt path size then Some form.PathArguments
+    else form_if (nat_lt size path) form.PathQuote)
 
--- The token is the value of an option that takes a folder: `=` stands before it, and before that the name of the option.
-abbrev pub is_folder_value : List ℕ → List ℕ → Bool
-is_folder_value second_before before = bytes_eq before (codes "=") && (bytes_eq second_before (codes "CWD") || bytes_eq second_before (codes "CHROOT"))
+abbrev pub form_of_path_text : Bool → List ℕ → Option Form
+form_of_path_text is_at_return text =
+    if ends_with nat_eq text (codes "/sudoedit") then Some form.EditorPath
+    else (if nat_le path_size_limit (length text) then Some form.LongPath
+    else form_if (is_at_return && not (has_last_byte 47 text)) form.CommandReturn)
 
-abbrev pub form_of_path : Bool → List ℕ → Option Form
-form_of_path is_at_return text =
+abbrev pub form_of_path : Bool → List ℕ → List ℕ → Option Form
+form_of_path is_at_return rest text =
     if bytes_eq text (codes "/") then Some form.RootPath
-    else (if not (is_path_of_sudo text) then Some form.PathEscape
-    else (if ends_with nat_eq text (codes "/sudoedit") then Some form.EditorPath
-    else form_if (is_at_return && not (has_last_byte 47 text)) form.CommandReturn))
+    else form_or (form_of_path_reach (size_as_path rest) (size_as_word rest) (length text)) (form_of_path_text is_at_return text)
 
-abbrev pub form_of_argument : Bool → List ℕ → Option Form
-form_of_argument is_at_return text =
-    if not (is_argument_of_sudo text) then Some form.ArgumentEscape
-    else (if has_bare_hash false text then Some form.ArgumentHash
-    else form_if is_at_return form.CommandReturn)
+-- ---- words
 
--- A word that sudo reads as a path: `/` and more, with escapes of a path alone.
-abbrev pub is_path_in_place_of_word : List ℕ → Bool
-is_path_in_place_of_word text = has_first_byte 47 text && not (bytes_eq text (codes "/")) && is_path_of_sudo text
+-- The text is a regular expression for sudo.
+abbrev pub is_regex : List ℕ → Bool
+is_regex text = has_first_byte 94 text && has_last_byte 36 text && nat_lt 1 (length text)
 
-abbrev pub form_of_word : List ℕ → List ℕ → Bool → List ℕ → Option Form
-form_of_word second_before before is_at_return text =
-    if not (is_word_of_sudo text) then Some form.WordByte
-    else (if is_path_in_place_of_word text && not (is_folder_value second_before before) then Some form.SlashName
-    else form_if (is_at_return && bytes_eq text (codes "sudoedit")) form.CommandReturn)
+-- A backslash and CR come behind so many bytes.
+abbrev pub has_return_behind : ℕ → List ℕ → Bool
+has_return_behind size rest = starts_with nat_eq (drop size rest) (92 ∷ 13 ∷ [])
 
-abbrev pub form_of_comment : Bool → List ℕ → Option Form
-form_of_comment is_first text = if is_first then form_if (is_numbered text) form.NumberedLine else form_if (is_numbered text) form.NumberedComment
+-- A word of this size: sudo reads a path in its place, or less.
+abbrev pub form_of_word_reach : ℕ → ℕ → ℕ → Option Form
+form_of_word_reach path word size = if nat_lt 0 path && nat_le word path then Some form.SlashName else form_if (nat_lt word size) form.WordByte
+
+abbrev pub is_value_part : LinePart → Bool
+is_value_part part.OptionValue = true
+is_value_part p = false
+
+abbrev pub is_parameters : LinePart → Bool
+is_parameters part.Parameters = true
+is_parameters p = false
+
+abbrev pub is_command_part : LinePart → Bool
+is_command_part part.Commands = true
+is_command_part part.OptionName = true
+is_command_part part.TagOrDigestKind = true
+is_command_part part.CommandScope = true
+is_command_part part.Parameters = true
+is_command_part p = false
+
+-- a word or a quoted text, by the part that it stands in
+abbrev pub form_of_member : LinePart → List ℕ → Bool → TokenKind → List ℕ → Option Form
+form_of_member p option is_at_return k text =
+    if is_value_part p then form_of_plain_value option k text
+    else (if not (is_command_part p) then form_of_name p k text
+    else (if is_word k && is_unknown_option text then Some form.UnknownOption
+    else form_if (is_word k && is_at_return && bytes_eq text (codes "sudoedit")) form.CommandReturn))
+
+-- At the end of an alias the CR is a byte of the word; elsewhere the line ends too early.
+abbrev pub form_of_return : LinePart → Bool → Form
+form_of_return part.AliasUsers is_last = if is_last then form.LastWordReturn else form.WordReturn
+form_of_return part.AliasHosts is_last = if is_last then form.LastWordReturn else form.WordReturn
+form_of_return p is_last = form.WordReturn
+
+abbrev pub form_of_word : LinePart → List ℕ → Bool → Bool → List ℕ → List ℕ → Option Form
+form_of_word p option is_last is_at_return rest text =
+    if is_value_part p && is_folder_option option then form_of_folder kind.Word rest text
+    else (if has_return_behind (length text) rest then Some (form_of_return p is_last)
+    else (if is_last && bytes_eq text (92 ∷ 32 ∷ []) then Some form.BlankContinuation
+    else form_or (form_of_word_reach (size_as_path rest) (size_as_word rest) (length text))
+    (form_or (form_if (is_regex text) form.RegexName) (form_of_member p option is_at_return kind.Word text))))
 
 -- In quotes, sudo reads a backslash and a `"` as a pair, whatever stands before them.
-abbrev pub form_of_quoted : List ℕ → Option Form
-form_of_quoted text = form_if (has_first_byte 34 text && ends_with nat_eq text (92 ∷ 34 ∷ [])) form.QuotedBackslash
+abbrev pub form_of_quoted : LinePart → List ℕ → List ℕ → List ℕ → Option Form
+form_of_quoted p option rest text =
+    if ends_with nat_eq text (92 ∷ 34 ∷ []) then Some form.QuotedBackslash
+    else (if is_value_part p && is_folder_option option then form_of_folder kind.Quoted rest text
+    else form_of_member p option false kind.Quoted text)
 
--- Why sudo refuses a token of this kind and text. The first of its line or not; the texts of the second and of the first token before it; no
--- token behind it, and the line ends with CR LF, or not.
-abbrev pub form_of_token : Bool → List ℕ → List ℕ → Bool → TokenKind → List ℕ → Option Form
-form_of_token is_first second_before before is_at_return kind.Comment text = form_of_comment is_first text
-form_of_token is_first second_before before is_at_return kind.Path text = form_of_path is_at_return text
-form_of_token is_first second_before before is_at_return kind.Arg text = form_of_argument is_at_return text
-form_of_token is_first second_before before is_at_return kind.Word text = form_of_word second_before before is_at_return text
-form_of_token is_first second_before before is_at_return kind.Digest text = form_if (not (is_digest_of_kind second_before text)) form.DigestSize
-form_of_token is_first second_before before is_at_return kind.Quoted text = form_of_quoted text
-form_of_token is_first second_before before is_at_return kind.Value text = form_of_quoted text
-form_of_token is_first second_before before is_at_return k text = None
+-- ---- arguments, comments and values
+
+-- A `#` begins a comment.
+abbrev pub form_of_hash : List ℕ → Option Form
+form_of_hash rest =
+    if not (has_first_byte 35 rest) then Some form.ArgumentEscape
+    else (if is_numbered rest then Some form.NumberedComment
+    else Some form.ArgumentHash)
+
+-- A backslash with blanks alone behind it continues the line.
+abbrev pub ends_in_escaped_blank : List ℕ → Bool
+ends_in_escaped_blank text = ends_with nat_eq text (92 ∷ 32 ∷ []) || ends_with nat_eq text (92 ∷ 9 ∷ [])
+
+abbrev pub form_of_argument : Bool → Bool → List ℕ → Option Form
+form_of_argument is_last is_at_return text =
+    if not (nat_eq (spelled_size spelling.Argument false text) (length text)) then form_of_hash (drop (spelled_size spelling.Argument false text) text)
+    else (if is_last && ends_in_escaped_blank text then Some form.BlankContinuation
+    else form_if is_at_return form.CommandReturn)
+
+-- A line that begins with a number may be a rule for sudo, which has a `=`.
+abbrev pub form_of_comment : Bool → List ℕ → Option Form
+form_of_comment is_first text =
+    if is_broken_comment text then Some form.BrokenComment
+    else (if is_first && has_byte 61 text then form_if (is_numbered text) form.NumberedLine
+    else form_if (is_numbered text) form.NumberedComment)
+
+abbrev pub form_of_value : List ℕ → Option Form
+form_of_value text = form_if (has_first_byte 34 text && ends_with nat_eq text (92 ∷ 34 ∷ [])) form.QuotedBackslash
+
+-- ---- marks and gaps
+
+-- the bytes from a first LF on
+abbrev pub rest_from_lf : List ℕ → List ℕ
+rest_from_lf [] = []
+rest_from_lf (b ∷ rest) = if nat_eq b 10 then b ∷ rest else rest_from_lf rest
+
+abbrev pub has_blank : List ℕ → Bool
+has_blank text = has_byte 32 text || has_byte 9 text
+
+-- A tag and its `:` are one word for sudo: no continuation may stand between, and among names neither stands.
+abbrev pub is_behind_tag : LinePart → Bool
+is_behind_tag part.TagOrDigestKind = true
+is_behind_tag p = false
+
+abbrev pub form_of_tag : LinePart → List ℕ → Option Form
+form_of_tag p gap =
+    if has_byte 10 gap then form_if (is_behind_tag p) form.TagContinuation
+    else form_if (not (is_command_part p)) form.TagName
+
+-- a blank, a line end, or the backslash of a continuation
+abbrev pub is_gap_byte : ℕ → List ℕ → Bool
+is_gap_byte b rest = is_blank b || b == 13 || b == 10 || (b == 92 && begins_line_end rest)
+
+-- sudo drops each even run of `!`, and takes one other run. These begin the bytes, with blanks and continuations between. Found: an odd run
+-- came before. Odd: so many `!` stand directly before.
+abbrev pub has_second_odd_run : Bool → Bool → List ℕ → Bool
+has_second_odd_run found odd [] = found && odd
+has_second_odd_run found odd (b ∷ rest) =
+    if b == 33 then has_second_odd_run found (not odd) rest
+    else (if is_gap_byte b rest && not (found && odd) then has_second_odd_run (found || odd) false rest
+    else found && odd)
+
+abbrev pub form_of_mark : LinePart → List ℕ → List ℕ → List ℕ → List ℕ → Option Form
+form_of_mark p before gap rest text =
+    if bytes_eq text (codes "!") then form_if (not (is_scope p) && not (bytes_eq before (codes "!")) && has_second_odd_run false false rest) form.SplitMarks
+    else (if bytes_eq text (codes ":") && is_tag_word before then form_of_tag p gap
+    else None)
+
+-- The sign of a scope stands directly before.
+abbrev pub is_behind_sign : List ℕ → List ℕ → Bool
+is_behind_sign second_before before = bytes_eq second_before (codes "Defaults") && not (bytes_eq before (codes ","))
+
+-- Behind the sign of a scope a continuation ends it; one with CR LF, if a blank comes behind it.
+abbrev pub is_split_first_member : List ℕ → Bool
+is_split_first_member gap = has_byte 10 gap && (not (has_byte 13 gap) || has_blank (rest_from_lf gap))
+
+-- Further on nothing may stand behind `!`, no blank behind a continuation, and none before one that a `,` follows.
+abbrev pub is_split_further_member : List ℕ → List ℕ → List ℕ → Bool
+is_split_further_member before gap text =
+    (bytes_eq before (codes "!") && not (is_empty gap))
+    || (bytes_eq before (codes ",") && has_blank (rest_from_lf gap))
+    || (bytes_eq text (codes ",") && has_byte 10 gap && not (has_first_byte 92 gap))
+
+abbrev pub is_split_scope : List ℕ → List ℕ → List ℕ → List ℕ → Bool
+is_split_scope second_before before gap text =
+    if is_behind_sign second_before before then is_split_first_member gap else is_split_further_member before gap text
+
+-- What stands before a token: the part of the token, the text of the second token before it, the kind and the text of the first one, and the
+-- bytes between.
+abbrev pub form_of_gap : LinePart → List ℕ → TokenKind → List ℕ → List ℕ → TokenKind → List ℕ → Option Form
+form_of_gap p second_before before_kind before gap k text =
+    if is_empty before then form_if (has_byte 10 gap && is_first_word text) form.FirstContinuation
+    else (if is_scope p then form_if (not (is_empty second_before) && is_split_scope second_before before gap text) form.SplitScope
+    else form_if (is_parameters p && is_member_kind before_kind && not (is_comment k || has_blank gap)) form.ScopeEnd)
+
+-- ---- tokens
+
+-- A token of this kind and text, by the part that it stands in, what stands before it, and the rest of the line from it on. The last of its
+-- line or not, and before CR LF or not.
+abbrev pub form_of_text : LinePart → List ℕ → List ℕ → List ℕ → List ℕ → Bool → Bool → TokenKind → List ℕ → Option Form
+form_of_text p second_before before gap rest is_last is_at_return kind.Comment text = form_of_comment (is_empty before) text
+form_of_text p second_before before gap rest is_last is_at_return kind.Path text = form_of_path is_at_return rest text
+form_of_text p second_before before gap rest is_last is_at_return kind.Arg text = form_of_argument is_last is_at_return text
+form_of_text p second_before before gap rest is_last is_at_return kind.Word text = form_of_word p second_before is_last is_at_return rest text
+form_of_text p second_before before gap rest is_last is_at_return kind.Quoted text = form_of_quoted p second_before rest text
+form_of_text p second_before before gap rest is_last is_at_return kind.Id text = form_of_name p kind.Id text
+form_of_text p second_before before gap rest is_last is_at_return kind.Digest text = form_if (not (is_digest_of_kind second_before text)) form.DigestSize
+form_of_text p second_before before gap rest is_last is_at_return kind.Value text = form_of_value text
+form_of_text p second_before before gap rest is_last is_at_return kind.Punct text = form_of_mark p before gap rest text
+form_of_text p second_before before gap rest is_last is_at_return k text = None
 
 -- ---- lines
 
 abbrev pub ends_in_return : List ℕ → Bool
 ends_in_return text = ends_with nat_eq text (13 ∷ 10 ∷ [])
 
+-- the form of a token of this line, behind which so many tokens stand: that of what stands before it, or its own
+abbrev pub form_of_token : List ℕ → LinePart → List ℕ → TokenKind → List ℕ → ℕ → TokenWithBytes → Bool → Option Form
+form_of_token line p second_before before_kind before stop t is_last =
+    form_or (form_of_gap p second_before before_kind before (slice_range line stop t.start) t.kind t.text)
+    (form_of_text p second_before before (slice_range line stop t.start) (drop t.start line) is_last (is_last && ends_in_return line) t.kind t.text)
+
 abbrev pub refused_if : ℕ → TokenWithBytes → Option Form → List RefusedForm
 refused_if number t None = []
 refused_if number t (Some f) = record { at = record { line = number; start = t.start; stop = t.stop }; form = f } ∷ []
 
--- the tokens of the line with this number, which ends with CR LF or not, from one of them on
-abbrev pub forms_of_tokens : ℕ → Bool → Bool → List ℕ → List ℕ → List TokenWithBytes → List RefusedForm
-forms_of_tokens number crlf is_first second_before before [] = []
-forms_of_tokens number crlf is_first second_before before (t ∷ ts) =
-    refused_if number t (form_of_token is_first second_before before (crlf && nat_eq (length ts) 0) t.kind t.text)
-    ++ forms_of_tokens number crlf false before t.text ts
+-- What follows is in a comment for sudo.
+abbrev pub is_begin_of_comment : Option Form → Bool
+is_begin_of_comment (Some form.ArgumentHash) = true
+is_begin_of_comment (Some form.NumberedComment) = true
+is_begin_of_comment f = false
 
-abbrev pub forms_of_line : ℕ → List ℕ → List RefusedForm
-forms_of_line number text = forms_of_tokens number (ends_in_return text) true [] [] (tokens_with_bytes text (tokens_of_line (line_mode text) text))
+-- The tokens of the line with this number, from one of them on, by the part and the two tokens before: the second one's text, and the first
+-- one's kind, text and end.
+abbrev pub forms_of_tokens : ℕ → List ℕ → LinePart → List ℕ → TokenKind → List ℕ → ℕ → List TokenWithBytes → List RefusedForm
+forms_of_tokens number line p second_before before_kind before stop [] = []
+forms_of_tokens number line p second_before before_kind before stop (t ∷ ts) =
+    forms_of_token_and_others number t (form_of_token line (part_of_token p second_before before_kind t.text) second_before before_kind before stop t (nat_eq (length ts) 0))
+    (forms_of_tokens number line (part_after_token (part_of_token p second_before before_kind t.text) t.kind t.text) before t.kind t.text t.stop ts)
+  where
+    forms_of_token_and_others : ℕ → TokenWithBytes → Option Form → List RefusedForm → List RefusedForm
+    forms_of_token_and_others number t f others = refused_if number t f ++ (if is_begin_of_comment f then [] else others)
+
+abbrev pub forms_of_line : ℕ → LinePart → List ℕ → List RefusedForm
+forms_of_line number p text = forms_of_tokens number text p [] kind.Punct [] 0 (tokens_with_bytes text (tokens_of_line (line_mode text) text))
 
 -- Include lines are not looked at.
 abbrev pub forms_of_node : ℕ → List ℕ → Node → List RefusedForm
 forms_of_node number text (node.Include dir path) = []
 forms_of_node number text node.Blank = []
-forms_of_node number text node.Comment = forms_of_line number text
-forms_of_node number text (node.Defaults scope params) = forms_of_line number text
-forms_of_node number text (node.Alias k defs) = forms_of_line number text
-forms_of_node number text (node.Spec users groups) = forms_of_line number text
+forms_of_node number text n = forms_of_line number (first_part n) text
 
 -- the refused forms of lines of which the first has this number on the walk, in their order
 abbrev pub forms_of_lines : ℕ → List Line → List RefusedForm

@@ -1,22 +1,15 @@
--- How sudo spells words, paths, arguments and digests.
-use Rattle.std.specs.Prelude.{ℕ, ◌==◌, ◌&&◌, ◌||◌, not, nat_le, Bool, true, false, List, [], ◌∷◌, length, codes, if◌then◌else◌}
-use Rattle.std.specs.List.{list_all}
+-- How far sudo reads paths, words and arguments.
+use Rattle.std.specs.Prelude.{ℕ, suc, ◌+◌, ◌==◌, ◌&&◌, ◌||◌, not, nat_le, nat_lt, Bool, true, false, List, [], ◌∷◌, length, drop, codes, if◌then◌else◌}
+use Rattle.std.specs.List.{list_all, starts_with}
+use Rattle.std.specs.Prelude.{nat_eq}
 use Rattle.std.specs.Str.{bytes_eq}
 use Rattle.sudoers_text.specs.Unit.{is_digit, is_blank, is_comma_colon_or_equals, begins_digit}
-use Rattle.sudoers_grammar.specs.Piece.{has_last_byte}
+use Rattle.sudoers_grammar.specs.Piece.{has_first_byte, has_last_byte}
+use Rattle.sudoers_forms.specs.declared.spelling.Spelling.{Spelling}
+use Rattle.sudoers_forms.specs.declared.spelling.Spelling.TheVariants as spelling
 
--- Each backslash stands before a byte that passes the first test, and each other byte passes the second. Escaped: the byte before the text is a backslash that escapes.
-abbrev pub is_spelled_by : (ℕ → Bool) → (ℕ → Bool) → Bool → List ℕ → Bool
-is_spelled_by may_be_escaped may_stand escaped [] = not escaped
-is_spelled_by may_be_escaped may_stand true (b ∷ rest) = may_be_escaped b && is_spelled_by may_be_escaped may_stand false rest
-is_spelled_by may_be_escaped may_stand false (b ∷ rest) =
-    if b == 92 then is_spelled_by may_be_escaped may_stand true rest else may_stand b && is_spelled_by may_be_escaped may_stand false rest
-
-abbrev pub is_any_byte : ℕ → Bool
-is_any_byte b = true
-
--- What may stand behind a backslash in a path: `,`, `:`, `=`, a blank or `#`; in an argument `\`, `*`, `?`, `[`, `]`, `!`, `^` and a line
--- end too; in a word all but a tab.
+-- What may stand behind a backslash in a path: `,`, `:`, `=`, a blank or `#`; in arguments `\`, `*`, `?`, `[`, `]`, `!`, `^` and a line
+-- end too; in a word all but a tab and LF.
 abbrev pub is_escaped_in_path : ℕ → Bool
 is_escaped_in_path b = is_comma_colon_or_equals b || is_blank b || b == 35
 
@@ -24,25 +17,46 @@ abbrev pub is_escaped_in_argument : ℕ → Bool
 is_escaped_in_argument b = is_escaped_in_path b || b == 92 || b == 42 || b == 63 || b == 91 || b == 93 || b == 33 || b == 94 || b == 10 || b == 13
 
 abbrev pub is_escaped_in_word : ℕ → Bool
-is_escaped_in_word b = not (b == 9)
+is_escaped_in_word b = not (b == 9 || b == 10)
 
--- A word has no `>` without a backslash.
+abbrev pub may_be_escaped_in : Spelling → ℕ → Bool
+may_be_escaped_in spelling.Path b = is_escaped_in_path b
+may_be_escaped_in spelling.Word b = is_escaped_in_word b
+may_be_escaped_in spelling.Argument b = is_escaped_in_argument b
+
+-- What may stand without one: in a path all but `,`, `:`, `=`, a blank, CR, LF and `#`; in a word none of these, and none of `>`, `!`,
+-- `(`, `)` and `"`; in an argument, whose end is known, all but `#`, which begins a comment.
+abbrev pub is_byte_of_path : ℕ → Bool
+is_byte_of_path b = not (is_comma_colon_or_equals b || is_blank b || b == 13 || b == 10 || b == 35)
+
 abbrev pub is_byte_of_word : ℕ → Bool
-is_byte_of_word b = not (b == 62)
+is_byte_of_word b = is_byte_of_path b && not (b == 62 || b == 33 || b == 40 || b == 41 || b == 34)
 
-abbrev pub is_path_of_sudo : List ℕ → Bool
-is_path_of_sudo text = is_spelled_by is_escaped_in_path is_any_byte false text
+abbrev pub may_stand_in : Spelling → ℕ → Bool
+may_stand_in spelling.Path b = is_byte_of_path b
+may_stand_in spelling.Word b = is_byte_of_word b
+may_stand_in spelling.Argument b = not (b == 35)
 
-abbrev pub is_argument_of_sudo : List ℕ → Bool
-is_argument_of_sudo text = is_spelled_by is_escaped_in_argument is_any_byte false text
+-- How many bytes are spelled so, from the first on. Escaped: the byte before the text is a backslash that escapes, and counts with its pair.
+abbrev pub spelled_size : Spelling → Bool → List ℕ → ℕ
+spelled_size s escaped [] = 0
+spelled_size s true (b ∷ rest) = if may_be_escaped_in s b then suc (suc (spelled_size s false rest)) else 0
+spelled_size s false (b ∷ rest) =
+    if b == 92 then spelled_size s true rest
+    else (if may_stand_in s b then suc (spelled_size s false rest)
+    else 0)
 
--- A `#` stands in the text without a backslash. Escaped: the byte before the text is a backslash that escapes.
-abbrev pub has_bare_hash : Bool → List ℕ → Bool
-has_bare_hash escaped [] = false
-has_bare_hash escaped (b ∷ rest) = (b == 35 && not escaped) || has_bare_hash (b == 92 && not escaped) rest
+-- The path with which the bytes begin, or none: `/` and more.
+abbrev pub size_as_path : List ℕ → ℕ
+size_as_path bytes = if has_first_byte 47 bytes && nat_lt 1 (spelled_size spelling.Path false bytes) then spelled_size spelling.Path false bytes else 0
 
-abbrev pub is_word_of_sudo : List ℕ → Bool
-is_word_of_sudo text = is_spelled_by is_escaped_in_word is_byte_of_word false text
+-- The word with which the bytes begin; `%:` may stand before it.
+abbrev pub size_as_word : List ℕ → ℕ
+size_as_word bytes =
+    if starts_with nat_eq bytes (codes "%:") then 2 + spelled_size spelling.Word false (drop 2 bytes)
+    else spelled_size spelling.Word false bytes
+
+-- ---- comments
 
 -- `#` and a digit, perhaps with a `-` between them
 abbrev pub begins_signed_digit : List ℕ → Bool
@@ -52,6 +66,21 @@ begins_signed_digit (b ∷ rest) = is_digit b || (b == 45 && begins_digit rest)
 abbrev pub is_numbered : List ℕ → Bool
 is_numbered [] = false
 is_numbered (b ∷ rest) = b == 35 && begins_signed_digit rest
+
+-- No comment for sudo: CR follows the `#`, or `-` with nothing or CR behind it.
+abbrev pub begins_cr : List ℕ → Bool
+begins_cr text = has_first_byte 13 text
+
+abbrev pub is_empty_or_cr : List ℕ → Bool
+is_empty_or_cr [] = true
+is_empty_or_cr (b ∷ rest) = b == 13
+
+abbrev pub is_broken_comment : List ℕ → Bool
+is_broken_comment [] = false
+is_broken_comment (b ∷ []) = false
+is_broken_comment (b ∷ c ∷ rest) = c == 13 || (c == 45 && is_empty_or_cr rest)
+
+-- ---- digests
 
 -- a digit, or a letter from a to f
 abbrev pub is_hex_digit : ℕ → Bool

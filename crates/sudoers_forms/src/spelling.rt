@@ -1,8 +1,19 @@
-//! How sudo spells words, paths and arguments.
+//! How far sudo reads paths, words and arguments.
 
-ghost use Rattle.std.specs.Prelude.{◌≡◌, false};
+ghost use Rattle.std.specs.Prelude.{◌≡◌, ◌≤◌, false, length};
 ghost use Rattle.sudoers_text.specs.Unit.{begins_digit};
-ghost use Rattle.sudoers_forms.specs.Spelling.{begins_signed_digit, has_bare_hash, is_argument_of_sudo, is_byte_of_word, is_escaped_in_argument, is_escaped_in_path, is_escaped_in_word, is_numbered, is_path_of_sudo, is_word_of_sudo};
+ghost use Rattle.sudoers_grammar.specs.Piece.{has_byte};
+ghost use Rattle.sudoers_forms.specs.Spelling.{begins_signed_digit, is_broken_comment, is_byte_of_path, is_byte_of_word, is_escaped_in_argument, is_escaped_in_path, is_numbered, may_be_escaped_in, may_stand_in, size_as_path, size_as_word, spelled_size};
+
+use sudoers_grammar::begins_with_byte;
+
+/// What is spelled: the path of a command, a word, or an argument.
+#[derive(Clone, Copy)]
+pub enum Spelling {
+    Path,
+    Word,
+    Argument,
+}
 
 /// Returns whether sudo knows the escape of `byte` in a path.
 fn is_escaped_in_path(byte: u8) -> bool
@@ -27,63 +38,104 @@ fn is_escaped_in_argument(byte: u8) -> bool
         || byte == b'\r'
 }
 
-/// Returns whether sudo reads the path `text`: it knows all its escapes.
-pub fn is_path_of_sudo(text: &[u8]) -> bool
-    ensures { result ≡ is_path_of_sudo text.now }
+/// Returns whether `byte` stands for itself in a path.
+fn is_byte_of_path(byte: u8) -> bool
+    ensures { result ≡ is_byte_of_path byte }
 {
-    let mut is_escaped = false;
-    for byte in text {
-        if is_escaped && !is_escaped_in_path(*byte) {
-            return false;
-        }
-        is_escaped = !is_escaped && *byte == b'\\';
-    }
-    !is_escaped
+    !(byte == b','
+        || byte == b':'
+        || byte == b'='
+        || byte == b' '
+        || byte == b'\t'
+        || byte == b'\r'
+        || byte == b'\n'
+        || byte == b'#')
 }
 
-/// Returns whether sudo reads the argument `text`: it knows all its escapes.
-pub fn is_argument_of_sudo(text: &[u8]) -> bool
-    ensures { result ≡ is_argument_of_sudo text.now }
+/// Returns whether `byte` stands for itself in a word.
+fn is_byte_of_word(byte: u8) -> bool
+    ensures { result ≡ is_byte_of_word byte }
 {
-    let mut is_escaped = false;
-    for byte in text {
-        if is_escaped && !is_escaped_in_argument(*byte) {
-            return false;
-        }
-        is_escaped = !is_escaped && *byte == b'\\';
-    }
-    !is_escaped
+    is_byte_of_path(byte)
+        && !(byte == b'>' || byte == b'!' || byte == b'(' || byte == b')' || byte == b'"')
 }
 
-/// Returns whether a `#` stands in `text` without a backslash.
-pub fn has_bare_hash(text: &[u8]) -> bool
-    ensures { result ≡ has_bare_hash false text.now }
-{
-    let mut is_escaped = false;
-    for byte in text {
-        if *byte == b'#' && !is_escaped {
-            return true;
+impl Spelling {
+    /// Returns whether `byte` may stand behind a backslash.
+    fn may_be_escaped(self, byte: u8) -> bool
+        ensures { result ≡ may_be_escaped_in self byte }
+    {
+        match self {
+            Spelling::Path => is_escaped_in_path(byte),
+            Spelling::Word => !(byte == b'\t' || byte == b'\n'),
+            Spelling::Argument => is_escaped_in_argument(byte),
         }
-        is_escaped = *byte == b'\\' && !is_escaped;
     }
-    false
+
+    /// Returns whether `byte` may stand without a backslash.
+    fn may_stand(self, byte: u8) -> bool
+        ensures { result ≡ may_stand_in self byte }
+    {
+        match self {
+            Spelling::Path => is_byte_of_path(byte),
+            Spelling::Word => is_byte_of_word(byte),
+            Spelling::Argument => byte != b'#',
+        }
+    }
+
+    /// Returns how many bytes of `bytes` are spelled so, from the first on.
+    pub fn size_of(self, bytes: &[u8]) -> usize
+        ensures same { result ≡ spelled_size self false bytes.now }
+        ensures within { result ≤ length bytes.now }
+    {
+        let mut size = 0;
+        let mut is_escaped = false;
+        for byte in bytes {
+            if is_escaped {
+                if !self.may_be_escaped(*byte) {
+                    return size;
+                }
+                size += 2;
+                is_escaped = false;
+            } else if *byte == b'\\' {
+                is_escaped = true;
+            } else if self.may_stand(*byte) {
+                size += 1;
+            } else {
+                return size;
+            }
+        }
+        size
+    }
 }
 
-/// Returns whether sudo reads the word `text`: no `>` stands in it without a backslash, and no tab with one.
-pub fn is_word_of_sudo(text: &[u8]) -> bool
-    ensures { result ≡ is_word_of_sudo text.now }
+/// Returns whether `byte` stands in `text`.
+pub fn has_byte(byte: u8, text: &[u8]) -> bool
+    ensures { result ≡ has_byte byte text.now }
 {
-    let mut is_escaped = false;
-    for byte in text {
-        if is_escaped && *byte == b'\t' {
-            return false;
-        }
-        if !is_escaped && *byte == b'>' {
-            return false;
-        }
-        is_escaped = !is_escaped && *byte == b'\\';
+    text.iter().any(|one| *one == byte)
+}
+
+/// Returns the size of the path with which `bytes` begin; 0 if none does.
+pub fn size_of_path(bytes: &[u8]) -> usize
+    ensures { result ≡ size_as_path bytes.now }
+{
+    if !begins_with_byte(b'/', bytes) {
+        return 0;
     }
-    !is_escaped
+    let size = Spelling::Path.size_of(bytes);
+    if size > 1 { size } else { 0 }
+}
+
+/// Returns the size of the word with which `bytes` begin.
+pub fn size_of_word(bytes: &[u8]) -> usize
+    ensures { result ≡ size_as_word bytes.now }
+{
+    if bytes.starts_with(b"%:") {
+        2 + Spelling::Word.size_of(&bytes[2..])
+    } else {
+        Spelling::Word.size_of(bytes)
+    }
 }
 
 /// Returns whether the comment `text` begins with `#` and a number.
@@ -113,5 +165,15 @@ fn begins_digit(text: &[u8]) -> bool
     match text.first() {
         Some(byte) => byte.is_ascii_digit(),
         None => false,
+    }
+}
+
+/// Returns whether the comment `text` is none for sudo: `#` with CR behind it, or with `-` and nothing or CR.
+pub fn is_broken_comment(text: &[u8]) -> bool
+    ensures { result ≡ is_broken_comment text.now }
+{
+    match text {
+        [_, b'\r', ..] | [_, b'-'] | [_, b'-', b'\r', ..] => true,
+        _ => false,
     }
 }

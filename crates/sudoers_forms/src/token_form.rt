@@ -1,133 +1,241 @@
-//! Why sudo refuses a token.
+//! Why sudo refuses a token, by what stands before it.
 
-ghost use Rattle.std.specs.Prelude.{◌≡◌, ◌&&◌, not};
-ghost use Rattle.sudoers_forms.specs.Forms.{form_if, form_of_argument, form_of_comment, form_of_path, form_of_quoted, form_of_token, form_of_word, is_folder_value, is_path_in_place_of_word};
+ghost use Rattle.std.specs.Prelude.{◌≡◌, false};
+ghost use Rattle.sudoers_text.specs.Unit.{is_empty};
+ghost use Rattle.sudoers_forms.specs.Names.{form_or};
+ghost use Rattle.sudoers_forms.specs.Forms.{form_of_gap, form_of_mark, form_of_tag, form_of_text, form_of_word, has_blank, has_second_odd_run, is_behind_sign, is_gap_byte, is_split_first_member, is_split_further_member, is_split_scope, rest_from_lf};
 
 use crate::digest_size::is_digest_of_kind;
 use crate::form::Form;
-use crate::spelling::{
-    has_bare_hash, is_argument_of_sudo, is_numbered, is_path_of_sudo, is_word_of_sudo,
+use crate::line_part::{LinePart, is_member_kind};
+use crate::member_form::{find_form_of_quoted, find_form_of_word};
+use crate::names::{choose_first_form, choose_form_if};
+use crate::spelling::has_byte;
+use crate::text_form::{
+    find_form_of_argument, find_form_of_comment, find_form_of_path, find_form_of_value,
 };
-use sudoers_grammar::{TokenWithText, begins_with_byte, ends_with_byte};
-use sudoers_text::TokenKind;
+use crate::words::{is_first_word, is_tag_word};
+use sudoers_grammar::begins_with_byte;
+use sudoers_text::{TokenKind, begins_line_end};
 
-/// What stands around a token: whether it is the first of its line, the texts of the second and of the first token before it, and whether
-/// nothing is behind it but CR LF.
+/// A token, and what stands around it.
 #[derive(Clone, Copy)]
-pub struct TokenNeighbours<'a> {
-    pub is_first: bool,
+pub struct TokenInLine<'a> {
+    /// The part of the line in which it stands.
+    pub part: LinePart,
+    /// The text of the second token before it.
     pub second_before: &'a [u8],
+    pub kind_before: TokenKind,
+    /// The text of the token before it.
     pub before: &'a [u8],
+    /// The bytes between both.
+    pub gap: &'a [u8],
+    /// The line, from the token on.
+    pub rest: &'a [u8],
+    pub is_last: bool,
+    /// Nothing follows but CR LF.
     pub is_at_return: bool,
+    pub kind: TokenKind,
+    pub text: &'a [u8],
 }
 
-impl TokenNeighbours<'_> {
-    /// Returns why sudo refuses the token `token`.
-    pub fn find_form_of_token(&self, token: &TokenWithText<'_>) -> Option<Form>
-        ensures { result ≡ form_of_token self.now.is_first self.now.second_before.now self.now.before.now self.now.is_at_return token.now.kind token.now.text.now }
+impl TokenInLine<'_> {
+    /// Returns why sudo refuses the token, or what stands before it.
+    pub fn find_form(&self) -> Option<Form>
+        ensures { result ≡ form_or (form_of_gap self.now.part self.now.second_before.now self.now.kind_before self.now.before.now self.now.gap.now self.now.kind self.now.text.now)
+            (form_of_text self.now.part self.now.second_before.now self.now.before.now self.now.gap.now self.now.rest.now self.now.is_last self.now.is_at_return self.now.kind self.now.text.now) }
     {
-        match token.kind {
-            TokenKind::Comment => self.find_form_of_comment(token.text),
-            TokenKind::Path => self.find_form_of_path(token.text),
-            TokenKind::Arg => self.find_form_of_argument(token.text),
-            TokenKind::Word => self.find_form_of_word(token.text),
-            TokenKind::Quoted | TokenKind::Value => find_form_of_quoted(token.text),
+        choose_first_form(self.find_form_of_gap(), self.find_form_of_text())
+    }
+
+    /// Returns why sudo refuses what stands before the token.
+    fn find_form_of_gap(&self) -> Option<Form>
+        ensures { result ≡ form_of_gap self.now.part self.now.second_before.now self.now.kind_before self.now.before.now self.now.gap.now self.now.kind self.now.text.now }
+    {
+        if self.before.is_empty() {
+            choose_form_if(
+                has_byte(b'\n', self.gap) && is_first_word(self.text),
+                Form::FirstContinuation,
+            )
+        } else if self.part.is_scope() {
+            choose_form_if(
+                !self.second_before.is_empty() && self.is_split_scope(),
+                Form::SplitScope,
+            )
+        } else {
+            choose_form_if(
+                self.part == LinePart::Parameters
+                    && is_member_kind(self.kind_before)
+                    && !(self.kind == TokenKind::Comment || has_blank(self.gap)),
+                Form::ScopeEnd,
+            )
+        }
+    }
+
+    /// Returns whether the sign of a scope stands directly before the token.
+    fn is_behind_sign(&self) -> bool
+        ensures { result ≡ is_behind_sign self.now.second_before.now self.now.before.now }
+    {
+        self.second_before == b"Defaults".as_slice() && self.before != b",".as_slice()
+    }
+
+    /// Returns whether what stands before a token of a scope ends the scope for sudo.
+    fn is_split_scope(&self) -> bool
+        ensures { result ≡ is_split_scope self.now.second_before.now self.now.before.now self.now.gap.now self.now.text.now }
+    {
+        if self.is_behind_sign() {
+            is_split_first_member(self.gap)
+        } else {
+            self.is_split_further_member()
+        }
+    }
+
+    /// Returns whether what stands before a token that is not the first of a scope ends the scope for sudo.
+    fn is_split_further_member(&self) -> bool
+        ensures { result ≡ is_split_further_member self.now.before.now self.now.gap.now self.now.text.now }
+    {
+        (self.before == b"!".as_slice() && !self.gap.is_empty())
+            || (self.before == b",".as_slice() && has_blank(skip_to_lf(self.gap)))
+            || (self.text == b",".as_slice()
+                && has_byte(b'\n', self.gap)
+                && !begins_with_byte(b'\\', self.gap))
+    }
+
+    /// Returns why sudo refuses the token.
+    fn find_form_of_text(&self) -> Option<Form>
+        ensures { result ≡ form_of_text self.now.part self.now.second_before.now self.now.before.now self.now.gap.now self.now.rest.now self.now.is_last self.now.is_at_return self.now.kind self.now.text.now }
+    {
+        let option = self.second_before;
+        match self.kind {
+            TokenKind::Comment => find_form_of_comment(is_empty(self.before), self.text),
+            TokenKind::Path => find_form_of_path(self.is_at_return, self.rest, self.text),
+            TokenKind::Arg => find_form_of_argument(self.is_last, self.is_at_return, self.text),
+            TokenKind::Word => self.find_form_of_word(),
+            TokenKind::Quoted => find_form_of_quoted(self.part, option, self.rest, self.text),
+            TokenKind::Id => self.part.find_form_of_name(self.kind, self.text),
             TokenKind::Digest => choose_form_if(
-                !is_digest_of_kind(self.second_before, token.text),
+                !is_digest_of_kind(self.second_before, self.text),
                 Form::DigestSize,
             ),
+            TokenKind::Value => find_form_of_value(self.text),
+            TokenKind::Punct => self.find_form_of_mark(),
             _ => None,
         }
     }
 
-    /// Returns why sudo refuses the comment `text`.
-    fn find_form_of_comment(&self, text: &[u8]) -> Option<Form>
-        ensures { result ≡ form_of_comment self.now.is_first text.now }
+    /// Returns why sudo refuses the word.
+    fn find_form_of_word(&self) -> Option<Form>
+        ensures { result ≡ form_of_word self.now.part self.now.second_before.now self.now.is_last self.now.is_at_return self.now.rest.now self.now.text.now }
     {
-        if self.is_first {
-            choose_form_if(is_numbered(text), Form::NumberedLine)
-        } else {
-            choose_form_if(is_numbered(text), Form::NumberedComment)
-        }
+        find_form_of_word(
+            self.part,
+            self.second_before,
+            self.is_last,
+            self.is_at_return,
+            self.rest,
+            self.text,
+        )
     }
 
-    /// Returns why sudo refuses the path `text`.
-    fn find_form_of_path(&self, text: &[u8]) -> Option<Form>
-        ensures { result ≡ form_of_path self.now.is_at_return text.now }
+    /// Returns why sudo refuses the mark.
+    fn find_form_of_mark(&self) -> Option<Form>
+        ensures { result ≡ form_of_mark self.now.part self.now.before.now self.now.gap.now self.now.rest.now self.now.text.now }
     {
-        if text == b"/".as_slice() {
-            Some(Form::RootPath)
-        } else if !is_path_of_sudo(text) {
-            Some(Form::PathEscape)
-        } else if text.ends_with(b"/sudoedit") {
-            Some(Form::EditorPath)
-        } else {
+        if self.text == b"!".as_slice() {
             choose_form_if(
-                self.is_at_return && !ends_with_byte(b'/', text),
-                Form::CommandReturn,
+                !self.part.is_scope()
+                    && self.before != b"!".as_slice()
+                    && has_second_odd_run(self.rest),
+                Form::SplitMarks,
             )
+        } else if self.text == b":".as_slice() && is_tag_word(self.before) {
+            self.find_form_of_tag()
+        } else {
+            None
         }
     }
 
-    /// Returns why sudo refuses the argument `text`.
-    fn find_form_of_argument(&self, text: &[u8]) -> Option<Form>
-        ensures { result ≡ form_of_argument self.now.is_at_return text.now }
+    /// Returns why sudo refuses the `:` behind a tag.
+    fn find_form_of_tag(&self) -> Option<Form>
+        ensures { result ≡ form_of_tag self.now.part self.now.gap.now }
     {
-        if !is_argument_of_sudo(text) {
-            Some(Form::ArgumentEscape)
-        } else if has_bare_hash(text) {
-            Some(Form::ArgumentHash)
-        } else {
-            choose_form_if(self.is_at_return, Form::CommandReturn)
-        }
-    }
-
-    /// Returns why sudo refuses the word `text`.
-    fn find_form_of_word(&self, text: &[u8]) -> Option<Form>
-        ensures { result ≡ form_of_word self.now.second_before.now self.now.before.now self.now.is_at_return text.now }
-    {
-        if !is_word_of_sudo(text) {
-            Some(Form::WordByte)
-        } else if is_path_in_place_of_word(text) && !self.is_before_folder() {
-            Some(Form::SlashName)
-        } else {
+        if has_byte(b'\n', self.gap) {
             choose_form_if(
-                self.is_at_return && text == b"sudoedit".as_slice(),
-                Form::CommandReturn,
+                self.part == LinePart::TagOrDigestKind,
+                Form::TagContinuation,
             )
+        } else {
+            choose_form_if(!self.part.has_commands(), Form::TagName)
         }
     }
+}
 
-    /// Returns whether the token is the value of an option that takes a folder.
-    fn is_before_folder(&self) -> bool
-        ensures { result ≡ is_folder_value self.now.second_before.now self.now.before.now }
-    {
-        self.before == b"=".as_slice()
-            && (self.second_before == b"CWD".as_slice()
-                || self.second_before == b"CHROOT".as_slice())
+/// Returns whether `gap`, behind the sign of a scope, ends the scope for sudo.
+fn is_split_first_member(gap: &[u8]) -> bool
+    ensures { result ≡ is_split_first_member gap.now }
+{
+    has_byte(b'\n', gap) && (!has_byte(b'\r', gap) || has_blank(skip_to_lf(gap)))
+}
+
+/// Returns whether `text` has no bytes.
+fn is_empty(text: &[u8]) -> bool
+    ensures { result ≡ is_empty text.now }
+{
+    match text {
+        [] => true,
+        _ => false,
     }
 }
 
-/// Returns whether sudo reads the word `text` as a path.
-fn is_path_in_place_of_word(text: &[u8]) -> bool
-    ensures { result ≡ is_path_in_place_of_word text.now }
+/// Returns whether `gap` has a blank.
+fn has_blank(gap: &[u8]) -> bool
+    ensures { result ≡ has_blank gap.now }
 {
-    begins_with_byte(b'/', text) && text != b"/".as_slice() && is_path_of_sudo(text)
+    has_byte(b' ', gap) || has_byte(b'\t', gap)
 }
 
-/// Returns why sudo refuses the text `text`, if that stands in quotes.
-fn find_form_of_quoted(text: &[u8]) -> Option<Form>
-    ensures { result ≡ form_of_quoted text.now }
+/// Returns the bytes of `gap` from its first LF on.
+fn skip_to_lf(gap: &[u8]) -> &[u8]
+    ensures { result.now ≡ rest_from_lf gap.now }
 {
-    choose_form_if(
-        begins_with_byte(b'"', text) && text.ends_with(b"\\\""),
-        Form::QuotedBackslash,
-    )
+    let mut rest = gap;
+    while let Some((first, behind)) = rest.split_first() {
+        if *first == b'\n' {
+            break;
+        }
+        rest = behind;
+    }
+    rest
 }
 
-/// Returns `form`, if the test is passed.
-fn choose_form_if(is_passed: bool, form: Form) -> Option<Form>
-    ensures { result ≡ form_if is_passed form }
+/// Returns whether the byte `first` with this behind it is a blank or in a continuation.
+fn is_gap_byte(first: u8, behind: &[u8]) -> bool
+    ensures { result ≡ is_gap_byte first behind.now }
 {
-    if is_passed { Some(form) } else { None }
+    first == b' '
+        || first == b'\t'
+        || first == b'\r'
+        || first == b'\n'
+        || (first == b'\\' && begins_line_end(behind))
+}
+
+/// Returns whether `bytes` begin with two runs of an odd number of `!`, with blanks and continuations between.
+fn has_second_odd_run(bytes: &[u8]) -> bool
+    ensures { result ≡ has_second_odd_run false false bytes.now }
+{
+    let mut rest = bytes;
+    let mut is_found = false;
+    let mut is_odd = false;
+    while let Some((first, behind)) = rest.split_first() {
+        if *first == b'!' {
+            is_odd = !is_odd;
+        } else if is_gap_byte(*first, behind) && !(is_found && is_odd) {
+            is_found = is_found || is_odd;
+            is_odd = false;
+        } else {
+            return is_found && is_odd;
+        }
+        rest = behind;
+    }
+    is_found && is_odd
 }

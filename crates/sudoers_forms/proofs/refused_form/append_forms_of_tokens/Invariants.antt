@@ -1,9 +1,11 @@
-use Rattle.std.proofs.Common.{◌≡◌, ◌++◌, [], true, drop, map}
+use Rattle.std.proofs.Common.{◌≡◌, ◌++◌, [], drop, map}
+use Rattle.sudoers_text.specs.declared.token.TokenKind.TheVariants as kind
 use Rattle.sudoers_grammar.specs.Piece.{token_with_bytes}
-use Rattle.sudoers_forms.specs.Forms.{ends_in_return, forms_of_tokens}
+use Rattle.sudoers_forms.specs.Forms.{forms_of_tokens}
 use Rattle.sudoers_forms.proofs.refused_form.append_forms_of_tokens.Given as goal
 
-abbrev pub invariant-loop-place : goal.invariant-loop-place
-invariant-loop-place l =
-    l.refused.items ++ forms_of_tokens l.number (ends_in_return l.text) l.is_first l.second_before l.before (map (token_with_bytes l.text) (drop l.place l.tokens))
-    ≡ l.initial.refused.items ++ forms_of_tokens l.number (ends_in_return l.text) true [] [] (map (token_with_bytes l.text) l.tokens)
+abbrev pub invariant-loop-at : goal.invariant-loop-at
+invariant-loop-at l =
+    l.refused.items ++ forms_of_tokens l.number l.text l.place.part l.place.second_before.now l.place.kind_before l.place.before.now l.place.start
+    (map (token_with_bytes l.text) (drop l.at l.tokens))
+    ≡ l.initial.refused.items ++ forms_of_tokens l.number l.text l.fn.part [] kind.Punct [] 0 (map (token_with_bytes l.text) l.tokens)
