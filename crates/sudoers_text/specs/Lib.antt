@@ -15,4 +15,5 @@ pub mod Found
 pub mod Value
 pub mod Whole
 pub mod Renamed
+pub mod Adapted
 pub mod internal

@@ -18,6 +18,7 @@ ghost use Rattle.sudoers_text.specs.Token.{IsTokenOfKindAndSize, IsLongestPieceO
 ghost use Rattle.sudoers_text.specs.Ascend.{AreOrderedTokens};
 ghost use Rattle.sudoers_text.specs.Found.{tokens_of_line};
 ghost use Rattle.sudoers_text.specs.LineMode.{line_mode};
+ghost use Rattle.sudoers_text.specs.Adapted.{IsRespelledLine, respelled_line};
 ghost use Rattle.sudoers_text.specs.Renamed.{IsDefinableName, token_of_name_after, tokens_after_replacement};
 
 /// A text has a list of logical lines.
@@ -131,6 +132,16 @@ pub fn tokens_are()
 pub fn one_token_list()
     ensures { (mode : ModeOf) (line : List ℕ) (tokens others : List TokenOf) → HasTokens mode line tokens
         → HasTokens mode line others → tokens ≡ others }
+{}
+
+/// A line is respelled to a line: the one that is computed.
+pub fn respelled_line_is()
+    ensures { (line : List ℕ) → IsRespelledLine line (respelled_line line) }
+{}
+
+/// A line is respelled to one line only.
+pub fn one_respelled_line()
+    ensures { (line respelled other : List ℕ) → IsRespelledLine line respelled → IsRespelledLine line other → respelled ≡ other }
 {}
 
 /// A token that is not Bad is a piece of its kind, of a form that may stand there, and no piece of that form with which the bytes begin is

@@ -1,6 +1,7 @@
 //! The text of a sudoers policy: its logical lines, and the tokens of each.
 #![tactic(auto)]
 
+mod adapting;
 mod context;
 mod cutting;
 mod fault;
@@ -19,6 +20,7 @@ mod tokenizing;
 mod word;
 mod word_value;
 
+pub use adapting::adapt_line;
 pub use cutting::{LINE_LIMIT, TEXT_LIMIT};
 pub use fault::TextFault;
 pub use line::{Lines, cut};

@@ -38,7 +38,7 @@ fn is_at_line_end(bytes: &[u8]) -> bool
 
 /// Returns where the next token begins. None does where only blanks, continuations and the line end are left.
 #[inline(always)]
-fn find_next_token_start(line: &[u8], at: usize) -> Option<usize>
+pub fn find_next_token_start(line: &[u8], at: usize) -> Option<usize>
     requires { at ≤ length line.now }
     ensures some { IfSome result (λ start. (start ≡ next_token_start line.now at) × (is_line_end_or_empty (drop start line.now) ≡ false)) }
     ensures none { IfNone result (is_line_end_or_empty (drop (next_token_start line.now at) line.now) ≡ true) }
@@ -110,14 +110,14 @@ fn begins_hash_or_percent(bytes: &[u8]) -> bool
 
 /// What stands left of a place of a line, behind no backslash and no CR: what stands left of a later place goes on from there.
 #[derive(Clone, Copy)]
-struct LeftContextAtOffset {
+pub struct LeftContextAtOffset {
     left: LeftContext,
     at: usize,
 }
 
 impl LeftContextAtOffset {
     /// Returns the state at a line's beginning, left of which nothing stands.
-    fn start_of_line() -> Self
+    pub fn start_of_line() -> Self
         ensures place { result.at ≡ 0 }
         ensures knows { (line : List ℕ) → DescribesLeftAtOffset line result }
     {
@@ -145,7 +145,7 @@ impl LeftContextAtOffset {
     /// Returns the context left of the token at `start`, twice: to continue the scan from, and to choose the token's form.
     /// Only a token that begins with `#` or `%` depends on it; for other tokens the scan stays where it is.
     #[inline(always)]
-    fn advance_to_token(self, line: &[u8], start: usize) -> (Self, LeftContext)
+    pub fn advance_to_token(self, line: &[u8], start: usize) -> (Self, LeftContext)
         requires below { self.at ≤ start }
         requires inside { start ≤ length line.now }
         requires knows { DescribesLeftAtOffset line.now self }

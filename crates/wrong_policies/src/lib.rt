@@ -13,4 +13,4 @@ pub use leads::{lead_of_line, lead_of_node, may_lead_somewhere};
 pub use lines::reading_of_line;
 pub use loads::{change_files, file_text, insert_line, load_files, load_text, walk_spots};
 pub use names::{definition_of, may_stand, mentions_of};
-pub use texts::{line_tokens, word_value};
+pub use texts::{line_in_dialect_of_sudo, line_tokens, word_value};

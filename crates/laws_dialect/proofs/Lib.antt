@@ -1,0 +1,10 @@
+pub mod LineParts
+pub mod KeptTokens
+pub mod KeptRules
+pub mod KeptLines
+pub mod SameTokens
+pub mod ReadLines
+pub mod AdaptedLines
+pub mod AdaptedTexts
+pub mod Slashes
+pub mod SlashedRows

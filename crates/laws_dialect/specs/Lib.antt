@@ -1,0 +1,2 @@
+pub mod Slashed
+pub mod ReadLines
