@@ -1,0 +1,7 @@
+//! Printed rules, spelled so that sudo reads them where another spelling says the same.
+#![tactic(auto)]
+
+mod bare_quotes;
+mod spelling;
+
+pub use spelling::spell_for_sudo;
