@@ -81,6 +81,16 @@ def unknown_escapes():
     return full(filled(b"u ALL=/b", b",/\\* \\-", b"\n"), 16)
 
 
+def plain_equals():
+    """Lines of as many `=` of arguments that only sudo reads as there is room for. Each gets a backslash, so lines are shorter."""
+    return full(b"u ALL=/b " + b"x=" * 21_000 + b"\n", 15)
+
+
+def quoted_arguments():
+    """Lines of as many quoted arguments as there is room for. Each is printed with two backslashes first, so lines are shorter."""
+    return full(b"u ALL = /b" + b' "x"' * 10_500 + b"\n", 15)
+
+
 def chain_to_user():
     """A chain of aliases of which each is defined before the one that mentions it leads on, and the last has a user."""
     links = b"".join(b"User_Alias A%d = A%d, x\n" % (n, n + 1) for n in range(1, KIND_LIMIT))
@@ -126,6 +136,13 @@ def noting(folder, name, policy):
     return ["check", "--for", "sudo", path], ["check", "--for", "sudo", plain]
 
 
+def running(folder, name, policy, *words):
+    """These words with the policy behind them."""
+    path = file_in(folder, f"{name}-policy", policy)
+    plain = file_in(folder, f"{name}-plain", b"".join(policies.policy(len(policy))))
+    return [*words, path], [*words, plain]
+
+
 def planning(folder, name, policy, wish):
     """The plan of a wish."""
     path = file_in(folder, f"{name}-policy", policy)
@@ -150,6 +167,7 @@ def commands(folder):
     closed, unclosed = one_pattern(b"[" + b"a" * 60_000 + b"]"), one_pattern(b"[" * 30_000)
     values = ",".join(f"user=x{n}" for n in range(1, 65))
     unknown, escapes, leaver = unknown_parameters(), unknown_escapes(), chain_to_user()
+    equals, quotes = plain_equals(), quoted_arguments()
     made = (
         ("`convert -e`, a chain of 4,096 and 65,400 mentions", 0, chain, converting(folder, "chain", chain, ("-e",), ("-e",), len(chain))),
         ("`convert -m`, 64 values and 16,384 aliases", 0, many, converting(folder, "values", many, ("-m", values), ("-m", "user=x1"), len(many))),
@@ -159,6 +177,9 @@ def commands(folder):
         ("`list COMMAND`, `*` and a set of 60,000 bytes", 1, closed, listing(folder, "closed", closed, b"", (), ("/b", "b" * 60_000))),
         ("`check --for sudo`, 524,000 unknown parameters", 0, unknown, noting(folder, "unknown", unknown)),
         ("`check --for sudo`, 299,000 unknown escapes", 0, escapes, noting(folder, "escapes", escapes)),
+        ("`adapt`, 315,000 `=` of arguments", 0, equals, running(folder, "adapted", equals, "adapt")),
+        ("`check --dialect sudo`, 315,000 `=` of arguments", 0, equals, running(folder, "dialect", equals, "check", "--dialect", "sudo")),
+        ("`convert --for sudo`, 157,000 quoted arguments", 0, quotes, running(folder, "quotes", quotes, "convert", "-f", "sudoers", "--for", "sudo")),
         ("`plan 'no-user u'`, a chain of 4,096 aliases", 0, leaver, planning(folder, "leaver", leaver, "no-user u")),
         ("`list COMMAND`, `*` and 30,000 `[`", 0, unclosed, listing(folder, "unclosed", unclosed, b"", (), ("/b", "[" * 60_000))),
     )

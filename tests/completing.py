@@ -25,8 +25,9 @@ SECONDS = 60
 
 FILES = ("policy", "web team", "a file with blanks")
 FOLDER = "sub"
-COMMANDS = ("apply", "check", "convert", "edit", "help", "list", "place", "plan", "show", "what", "who", "why")
+COMMANDS = ("adapt", "apply", "check", "convert", "edit", "help", "list", "place", "plan", "show", "what", "who", "why")
 WITH_OPTIONS = tuple(name for name in COMMANDS if name != "help")
+OPTIONS_OF_ADAPT = ("--error-status", "--explain", "-h", "--help", "--plain", "--root")
 OPTIONS_OF_APPLY = (
     *("--after", "--allow-undefined", "--also", "--before", "--dry-run", "--even-denials", "--even-includes", "--explain", "-h", "--help"),
     *("--plain", "--root", "--undo-file", "--wish"),
@@ -38,15 +39,15 @@ OPTIONS_OF_PLAN = (
 OPTIONS_OF_LIST = (
     *("-U", "--other-user", "-u", "--user", "-g", "--group", "--passwd", "--group-file"),
     *("--host", "--moment", "--interfaces", "--root", "--why", "-h", "--help", "--error-status", "--explain", "--plain"),
-    *("--same", "--usr-merge"),
+    *("--dialect", "--same", "--usr-merge"),
 )
 OPTIONS_OF_CHECK = (
-    *("-h", "--help", "-q", "-s", "--root", "--skipped", "--installed", "--for", "--all", "--json"),
+    *("-h", "--help", "-q", "-s", "--root", "--skipped", "--installed", "--dialect", "--for", "--all", "--json"),
     *("--error-status", "--explain", "--plain"),
 )
-OPTIONS_OF_SHOW = ("--error-status", "--explain", "-h", "--help", "--json", "--members", "--plain", "--root")
+OPTIONS_OF_SHOW = ("--dialect", "--error-status", "--explain", "-h", "--help", "--json", "--members", "--plain", "--root")
 OPTIONS_OF_MACHINE = (
-    *("--policy", "--passwd", "--group-file", "--host", "--moment", "--interfaces", "--json"),
+    *("--dialect", "--policy", "--passwd", "--group-file", "--host", "--moment", "--interfaces", "--json"),
     *("--root", "--explain", "--plain", "-h", "--help"),
 )
 OPTIONS_OF_TARGET = ("-u", "--user", "-g", "--group")
@@ -58,7 +59,15 @@ WISHES = ("has ", "has-line ", "lacks ", "lacks-line ", "no-user ")
 
 ROWS = (
     (("",), COMMANDS),
-    (("a",), ("apply",)),
+    (("a",), ("adapt", "apply")),
+    (("ad",), ("adapt",)),
+    (("adapt", ""), ALL_FILES),
+    (("adapt", "w"), ("web team",)),
+    (("adapt", "-"), OPTIONS_OF_ADAPT),
+    (("adapt", "--root", ""), (FOLDER,)),
+    (("adapt", "--root=sub", "p"), ("policy",)),
+    (("adapt", "--error-status", "p"), ()),
+    (("adapt", "policy", "w"), ()),
     (("c",), ("check", "convert")),
     (("ch",), ("check",)),
     (("sho",), ("show",)),
@@ -86,6 +95,16 @@ ROWS = (
     (("check", "--for=s"), ("sudo", "sudo-rs")),
     (("check", "--for", "sudo", "w"), ("web team",)),
     (("check", "--for=sudo", "-s", "w"), ("web team",)),
+    (("check", "--d"), ("--dialect",)),
+    (("check", "--dialect", ""), ("sudo",)),
+    (("check", "--dialect=s"), ("sudo",)),
+    (("check", "--dialect", "w"), ()),
+    (("check", "--dialect", "sudo", "w"), ("web team",)),
+    (("show", "--dialect", "sudo", "w"), ("web team",)),
+    (("convert", "--dialect", "sudo", "w"), ("web team",)),
+    (("list", "--dialect", "sudo", "w"), ("web team",)),
+    (("why", "--dialect", ""), ("sudo",)),
+    (("who", "--dialect", "sudo", "w"), ("web team",)),
     (("check", "--json", "w"), ("web team",)),
     (("show", "--j"), ("--json",)),
     (("check", "--r"), ("--root",)),
@@ -102,12 +121,15 @@ ROWS = (
         ("convert", "-"),
         (
             *("-e", "--expand-aliases", "-f", "--form", "-h", "--help", "-m", "--match", "-p", "--prune-matches", "--root"),
-            *("--error-status", "--explain", "--plain"),
+            *("--for", "--dialect", "--error-status", "--explain", "--plain"),
         ),
     ),
     (("convert", "--ex"), ("--expand-aliases", "--explain")),
     (("convert", "--error-status", "p"), ()),
-    (("convert", "--f"), ("--form",)),
+    (("convert", "--f"), ("--for", "--form")),
+    (("convert", "--for", ""), ("sudo",)),
+    (("convert", "--for=s"), ("sudo",)),
+    (("convert", "--for", "sudo", "w"), ("web team",)),
     (("convert", "--m"), ("--match",)),
     (("convert", "--root", "s"), (FOLDER,)),
     (("convert", "-f", "json", "--root", "sub", ""), ALL_FILES),
@@ -306,7 +328,7 @@ ROWS = (
     (("who",), ("who",)),
     (("who", ""), ALL_FILES),
     (("who", "-"), (*OPTIONS_OF_MACHINE, *OPTIONS_OF_TARGET, *OPTIONS_OF_FOLDERS, "--denied")),
-    (("who", "--d"), ("--denied",)),
+    (("who", "--d"), ("--denied", "--dialect")),
     (("who", "--j"), ("--json",)),
     (("what", "--json", "--j"), ("--json",)),
     (("who", "--p"), ("--passwd", "--plain", "--policy")),
@@ -352,7 +374,7 @@ ROWS = (
     (("why", "root", "/bin/ls", "p"), ("policy",)),
     (("why", "root", "/bin/ls", "-"), ()),
     (("help", ""), WITH_OPTIONS),
-    (("help", "a"), ("apply",)),
+    (("help", "a"), ("adapt", "apply")),
     (("help", "wh"), ("what", "who", "why")),
     (("help", "p"), ("place", "plan")),
     (("help", "s"), ("show",)),
@@ -362,8 +384,8 @@ ROWS = (
 # zsh offers the options if there is nothing else to offer, and no option a second time.
 ZSH_ROWS = {
     ("convert", "-f", "sudoers", "policy", ""): (
-        *("-e", "--expand-aliases", "-h", "--help"),
-        *("-m", "--match", "-p", "--prune-matches", "--root", "--error-status", "--explain", "--plain"),
+        *("-e", "--expand-aliases", "--for", "-h", "--help"),
+        *("-m", "--match", "-p", "--prune-matches", "--root", "--dialect", "--error-status", "--explain", "--plain"),
     ),
     ("what", "--json", "--j"): (),
 }

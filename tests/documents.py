@@ -53,10 +53,10 @@ LIMITS = {
     "README.md": 160,
     "CONTRIBUTING.md": 90,
     "SECURITY.md": 60,
-    "docs/ARCHITECTURE.md": 146,
+    "docs/ARCHITECTURE.md": 152,
     "docs/AUDIT.md": 104,
     "docs/BENCHMARK.md": 120,
-    "docs/DECISIONS.md": 464,
+    "docs/DECISIONS.md": 480,
     "docs/GATE.md": 40,
     "docs/PROOFS.md": 180,
 }

@@ -302,6 +302,13 @@ BY_PROGRAM = {
         "plan::count_equal_lines",
         "plan::read_wish",
     ),
+    "dialect": (
+        "dialect::Dialect::adapt_front",
+        "dialect::adapt_text",
+        "dialect::make_adapted_output",
+        "text::adapt_line",
+    ),
+    "spelled": ("cvt_sudo::spell_for_sudo",),
     "targets": (
         "defaults::append_refusal_words",
         "defaults::list_refused_parameters",

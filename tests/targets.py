@@ -25,56 +25,25 @@ from preload import with_library
 from program import SECONDS, Wanted, fault
 from stand import EMPTY_FOLDER, Closed, Folder, Stand
 from tally import difference
+from target_rows import ARGUMENT_ESCAPE, FORMS, LOCALE, NUMBERED, PATH_ESCAPE, REPORT, SLASHES, TIME, Row, form, refused
 
 PART = "targets"
 SEED = 20_261_129
 TOP = os.path.dirname(os.path.dirname(os.path.abspath(__file__)))
 TABLE = os.path.join(TOP, "crates/sudoers_defaults/src/sudo_parameters.rt")
 PARAMETER_COUNT = 161
-REPORT = "main: parsed OK\n"
 
 UNKNOWN, OPERATOR, NEEDLESS = "unknown name", "+= and -= are for lists", "takes no value"
 EMPTY, QUOTES = "empty value", "the value needs quotes"
-LOCALE = "the machine may not have this locale"
 
 # What a parameter of each type takes, in words.
 INTEGER = "a number from -2147483648 to 2147483647"
 UNSIGNED = "a number up to 4294967295"
 MODE = "an octal mode up to 0777"
 MINUTES = "minutes, as 5, 2.5 or -1"
-TIME = "a time below 2147483648 seconds, as 90 or 1h30m"
 LIMIT = "a number, infinity, or two of them with a comma, or user or default"
 PATH = "a path that begins with /, shorter than 4096 bytes"
 PATH_OR_STAR = "a path that begins with / or ~, shorter than 4096 bytes, or *"
-LONGEST_PATH = 4095
-
-
-@dataclass(frozen=True)
-class Row:
-    """The file `main` or several files, and the notes that are wanted."""
-
-    name: str
-    files: object
-    notes: tuple = ()
-
-    def tree(self):
-        """Returns the files by their names."""
-        return self.files if isinstance(self.files, dict) else {"main": self.files}
-
-    def is_refused(self):
-        """Returns whether a note says that visudo refuses something."""
-        return any(": refused by visudo -c: " in note for note in self.notes)
-
-    def is_decided(self):
-        """Returns whether a note counts with -s."""
-        return self.is_refused() or any(": read otherwise by sudo: " in note for note in self.notes)
-
-
-def refused(place, name, words):
-    """Returns the note on a parameter that stands at this place, in `main` if it names no other file."""
-    file = "" if place.count(":") == 2 else "main:"
-    finding = "not decided" if words == LOCALE else "refused by visudo -c"
-    return f"{file}{place}: {finding}: Defaults {name}: {words}\n"
 
 
 def row(name, files, *notes):
@@ -96,7 +65,6 @@ def rows_of_words(what, name, words):
     return rows_of_values(what, name, takes, words, (words[0].upper(), words[0][:-1], f"{words[0]}s", "5", f'"{words[0]} "'))
 
 
-SLASHES = "/" + "a" * (LONGEST_PATH - 1)
 FACILITIES = ("authpriv", "auth", "daemon", "user", *(f"local{number}" for number in range(8)))
 PRIORITIES = ("alert", "crit", "debug", "emerg", "err", "info", "notice", "warning", "none")
 
@@ -262,7 +230,7 @@ PLACES = (
     ),
     row("a value on the next line", "Defaults umask =\\\n 9 # why\n", ("2:2", "umask", f"takes {MODE}")),
     row("a value at the start of the next line", "Defaults umask=\\\n9", ("2:1", "umask", f"takes {MODE}")),
-    row("members on the lines before", "Defaults:bob, \\\n eve \\\n nosuch\n", ("3:2", "nosuch", UNKNOWN)),
+    row("members on the lines before", "Defaults:bob, \\\neve \\\n nosuch\n", ("3:2", "nosuch", UNKNOWN)),
     row("tabs and blanks", "\t Defaults\t \tnosuch\t= 5\n", ("1:14", "nosuch", UNKNOWN)),
     row("a comment at the end of the line", "Defaults nosuch # umask\n", ("1:10", "nosuch", UNKNOWN)),
     row("letters of several bytes", 'Defaults mailsub="\xe4\u20ac", nosuch\n', ("1:27", "nosuch", UNKNOWN)),
@@ -311,66 +279,20 @@ IGNORED = (
 )
 
 
-def form(place, words, finding="refused by visudo -c"):
-    """Returns the note on a form that stands at this place of `main`."""
-    return f"main:{place}: {finding}: {words}\n"
-
-
-NUMBERED = "# and a number are a user ID; write a blank behind #"
-IN_ARGUMENT = "an escape in arguments of another byte than , : = # * ? [ ] ! ^, a backslash and blanks"
-HASH = "# in quotes begins a comment; write a backslash before it"
-IN_PATH = "an escape in a path of another byte than , : = # and blanks"
-DIGEST = "a digest of a wrong length"
-EDITOR = "sudoedit with a path; write sudoedit alone"
-SLASH = "a name that begins with /; write it in quotes"
-WORD = "> without a backslash in a word, or a tab with one"
-RETURN = "CR LF directly behind a command; write LF"
-ENDED = "a backslash before the closing quote"
-SIZES = (("sha224", 56, 40, 38), ("sha256", 64, 44, 43), ("sha384", 96, 64, 64), ("sha512", 128, 88, 86))
-
-
-def rows_of_digests():
-    """Rows of digests of the right sizes, and of one byte more and less."""
-    for kind, digits, padded, bare in SIZES:
-        right = ("a" * digits, "g" * (padded - 1) + "=", "g" * bare)
-        yield Row(f"{kind}, right sizes", "".join(f"bob ALL = {kind}:{digest} /bin/a\n" for digest in right))
-        for digest in (*("a" * (digits + by) for by in (-1, 1)), *("g" * (bare + by) for by in (-1, 1)), "g" * padded + "="):
-            yield Row(f"{kind}, {len(digest)} bytes, the last {digest[-1]}", f"bob ALL = {kind} : {digest} /bin/a\n", (form(f"1:{14 + len(kind)}", DIGEST),))
-
-
-FORMS = (
-    Row("a number behind a command", "bob ALL = ALL #1\n", (form("1:15", NUMBERED),)),
-    Row("a number below zero behind arguments", "bob ALL = /bin/a -l #-1\n", (form("1:21", NUMBERED),)),
-    Row("a number behind Defaults", "Defaults fqdn #1\n", (form("1:15", NUMBERED),)),
-    Row("a number behind an alias", "User_Alias A = bob #1\nA ALL = ALL\n", (form("1:20", NUMBERED),)),
-    Row("a blank behind #", "bob ALL = ALL # 1\nbob ALL = ALL #- 1\nbob ALL = ALL #x1\n# 1\n"),
-    Row("a user of a number below zero", "#-5 ALL = ALL\n", (form("1:1", "#- and a digit are a user ID; write a blank behind #", "read otherwise by sudo"),)),
-    Row("an escaped letter in arguments", "bob ALL = /bin/a \\-l\n", (form("1:18", IN_ARGUMENT),)),
-    Row("each escape of arguments", "bob ALL = /bin/a \\, \\: \\= \\# \\  \\\\ \\* \\? \\[ \\] \\! \\^ x\n"),
-    Row("# in quotes", 'bob ALL = /bin/a "x #y", /bin/b\nbob ALL = /bin/a "x \\#y"\n', (form("1:18", HASH, "read otherwise by sudo"),)),
-    Row("an escaped wildcard in a path", "bob ALL = /bin/l\\*\n", (form("1:11", IN_PATH),)),
-    Row("each escape of a path", "bob ALL = /bin/\\,\\:\\=\\#\\ x\n"),
-    Row("the path of the root", "bob ALL = /, /bin/\n", (form("1:11", "the command /"),)),
-    Row("the editor with a path", "bob ALL = /usr/bin/sudoedit /a, /sudoeditor, sudoedit /a\n", (form("1:11", EDITOR),)),
-    Row("> in a name", "a>b ALL = ALL\na\\>b ALL = ALL\n", (form("1:1", WORD),)),
-    Row("an escaped tab in a name", "a\\\tb ALL = ALL\n", (form("1:1", WORD),)),
-    Row("a name that begins with /", '/b ALL = (/c) ALL\n"/b" ALL = ("/c") ALL\n', (form("1:1", SLASH), form("1:11", SLASH))),
-    Row("a name that is no path", "/ ALL = ALL\n/a\\>b ALL = ALL\n"),
-    Row("folders as values", "bob ALL = CWD=/a CHROOT = /b ALL\n"),
-    Row("a path as a role", "bob ALL = ROLE=/x ALL\n", (form("1:16", SLASH),)),
-    Row("CR LF behind a path", "bob ALL = /bin/a\r\n", (form("1:11", RETURN),)),
-    Row("CR LF behind blanks and arguments", "bob ALL = /bin/a -l \r\n", (form("1:18", RETURN),)),
-    Row("CR LF behind sudoedit", "bob ALL = sudoedit\r\n", (form("1:11", RETURN),)),
-    Row("CR LF behind a folder, ALL and a comment", "bob ALL = /bin/\r\nbob ALL = ALL\r\nbob ALL = /bin/a # x\r\n\r\n"),
-    Row("a backslash at the end of quotes", 'Defaults mailsub="x\\\\"\n', (form("1:18", ENDED),)),
-    Row("a backslash at the end of a quoted name", '"x\\\\" ALL = ALL\n', (form("1:1", ENDED),)),
-    Row("an escaped quote at the end of quotes", 'Defaults mailsub="x\\""\n'),
-    Row("forms and parameters in their order", "Defaults nosuch #1\nbob ALL = /bin/\\a \\-l\nDefaults umask=9\n", (refused("1:10", "nosuch", UNKNOWN), form("1:17", NUMBERED), form("2:11", IN_PATH), form("2:19", IN_ARGUMENT), refused("3:16", "umask", f"takes {MODE}"))),
-    *rows_of_digests(),
+SPELLED_VALUES = (
+    Row("forms and parameters in their order", "Defaults nosuch #1\nbob ALL = /bin/\\a \\-l\nDefaults umask=9\n", (refused("1:10", "nosuch", UNKNOWN), form("1:17", NUMBERED), form("2:11", PATH_ESCAPE), form("2:19", ARGUMENT_ESCAPE), refused("3:16", "umask", f"takes {MODE}"))),
+    row("an escape in quotes", 'Defaults passwd_tries="\\x33"\n', ("1:23", "passwd_tries", f"takes {UNSIGNED}")),
+    row("an escape without quotes", "Defaults passwd_tries=\\x33, lecture=\\never\n"),
+    row("a continuation in quotes", 'Defaults passwd_tries="3\\\n  4"\n'),
+    row("a value behind pairs of !", "Defaults passwd_tries=!!3, mailsub=!!!!x\n"),
+    row("a bad value behind pairs of !", "Defaults passwd_tries=!!x\n", ("1:23", "passwd_tries", f"takes {UNSIGNED}")),
+    row("a value behind three !", "Defaults mailsub=!!!x, mailfrom=!!\n", ("1:18", "mailsub", QUOTES), ("1:33", "mailfrom", QUOTES)),
+    row("a value before a NUL", "Defaults passwd_tries=3\\x00x\n"),
+    row("a bad value before a NUL", "Defaults passwd_tries=x\\x003\n", ("1:23", "passwd_tries", f"takes {UNSIGNED}")),
 )
 
+ROWS = VALUES + FAULTS + PLACES + IGNORED + SPELLED_VALUES + FORMS
 
-ROWS = VALUES + FAULTS + PLACES + IGNORED + FORMS
 
 
 def run_row(stand, one):
@@ -379,12 +301,12 @@ def run_row(stand, one):
     strict = 1 if one.is_decided() else 0
     with Folder(one.tree()) as folder:
         for words, text, status in (
-            ("--for sudo", REPORT.encode() + notes, 0),
-            ("-s --for sudo", REPORT.encode() + notes, strict),
+            ("--for sudo", one.report(False).encode() + notes, 0),
+            ("-s --for sudo", one.report(True).encode() + notes, strict),
             ("-q -s --for sudo", b"", strict),
             ("-q --for=sudo", b"", 0),
-            ("--all --for sudo", REPORT.encode() + notes, 0),
-            ("-s", REPORT.encode(), 0),
+            ("--all --for sudo", one.report(False).encode() + notes, 0),
+            ("-s", one.report(True).encode(), 1 if one.undefined else 0),
         ):
             stand.note(one.name, f"check {words} main", Wanted(text, status=status), folder)
 

@@ -14,8 +14,9 @@ function __sudoers_tool_plain_words
             set no_options yes
         else if test -z "$no_options"; and string match --quiet -- '-?*' $word
             # These options take the next word.
-            contains -- "$plain[1]" apply check convert edit list place plan show what who why; and contains -- $word --root --error-status; and set option $word
-            contains -- "$plain[1]" check; and contains -- $word --for; and set option $word
+            contains -- "$plain[1]" adapt apply check convert edit list place plan show what who why; and contains -- $word --root --error-status; and set option $word
+            contains -- "$plain[1]" check convert; and contains -- $word --for; and set option $word
+            contains -- "$plain[1]" check convert list show what who why; and contains -- $word --dialect; and set option $word
             contains -- "$plain[1]" apply plan; and contains -- $word --also --after --before; and set option $word
             contains -- "$plain[1]" apply; and contains -- $word --undo-file --wish; and set option $word
             contains -- convert $plain; and contains -- $word -f --form -m --match; and set option $word
@@ -122,6 +123,7 @@ end
 complete -c sudoers_tool -f
 complete -c sudoers_tool -n __sudoers_tool_help -s h -l help -d 'Print help'
 complete -c sudoers_tool -n __fish_use_subcommand -s V -l version -d 'Print the version'
+complete -c sudoers_tool -n __fish_use_subcommand -a adapt -d 'Print a policy that only sudo reads, spelled so that both programs read it'
 complete -c sudoers_tool -n __fish_use_subcommand -a apply -d 'Apply an edit script to a policy, and put the edited files in place, all or none'
 complete -c sudoers_tool -n __fish_use_subcommand -a check -d 'Check a policy with the files that it includes'
 complete -c sudoers_tool -n __fish_use_subcommand -a convert -d 'Print the rules of a policy and of the files that it includes anew, as one policy or as JSON'
@@ -150,9 +152,13 @@ complete -c sudoers_tool -n '__fish_seen_subcommand_from check show' -l json -d 
 complete -c sudoers_tool -n '__fish_seen_subcommand_from check' -l skipped -d 'List the folders and the files in included folders that are not read'
 complete -c sudoers_tool -n '__fish_seen_subcommand_from check' -l installed -d 'List links, and what sudo refuses for its owner or mode'
 complete -c sudoers_tool -n '__fish_seen_subcommand_from check' -l for -x -a 'sudo sudo-rs' -d 'List names and values of Defaults that this program refuses'
+complete -c sudoers_tool -n '__fish_seen_subcommand_from check convert show' -l dialect -x -a sudo -d 'Read the policy in this dialect'
+complete -c sudoers_tool -n __sudoers_tool_option_of_list -l dialect -x -a sudo -d 'Read the policy in this dialect'
+complete -c sudoers_tool -n '__sudoers_tool_option_of what who why' -l dialect -x -a sudo -d 'Read the policy in this dialect'
 complete -c sudoers_tool -n '__fish_seen_subcommand_from show' -l members -d 'Print each member of alias definitions and of rules, with its place and number'
 complete -c sudoers_tool -n '__fish_seen_subcommand_from convert' -s e -l expand-aliases -d 'Replace aliases by their members'
 complete -c sudoers_tool -n '__fish_seen_subcommand_from convert' -s f -l form -x -a 'json sudoers' -d 'Form of the output: sudoers or json'
+complete -c sudoers_tool -n '__fish_seen_subcommand_from convert' -l for -x -a sudo -d 'With -f sudoers, spell the output for this program'
 complete -c sudoers_tool -n '__fish_seen_subcommand_from convert' -s m -l match -x -a '(__sudoers_tool_filter)' -d 'Print only rules for some users, groups and hosts'
 complete -c sudoers_tool -n '__fish_seen_subcommand_from convert' -s p -l prune-matches -d 'With -m, drop other users and hosts from the lists'
 complete -c sudoers_tool -n '__fish_seen_subcommand_from edit' -l files -r -F -d 'Script for a policy and the files that it includes'
@@ -172,15 +178,15 @@ complete -c sudoers_tool -n __sudoers_tool_option_of_list -l interfaces -x -d 'A
 complete -c sudoers_tool -n __sudoers_tool_option_of_list -l same -x -d 'Two folders that are one, as /bin=/usr/bin'
 complete -c sudoers_tool -n __sudoers_tool_option_of_list -l usr-merge -d 'The folders of /usr are those of the root'
 complete -c sudoers_tool -n __sudoers_tool_option_of_list -l why -d 'Print the rule that decides'
-complete -c sudoers_tool -n '__fish_seen_subcommand_from apply check convert edit plan show' -l root -x -a '(__fish_complete_directories)' -d 'Folder that is the root for the policy and the files that it includes'
+complete -c sudoers_tool -n '__fish_seen_subcommand_from adapt apply check convert edit plan show' -l root -x -a '(__fish_complete_directories)' -d 'Folder that is the root for the policy and the files that it includes'
 complete -c sudoers_tool -n __sudoers_tool_option_of_list -l root -x -a '(__fish_complete_directories)' -d 'Folder that is the root for the policy and the files that it includes'
-complete -c sudoers_tool -n '__fish_seen_subcommand_from check convert edit show' -l error-status -x -d 'Exit status of an error'
+complete -c sudoers_tool -n '__fish_seen_subcommand_from adapt check convert edit show' -l error-status -x -d 'Exit status of an error'
 complete -c sudoers_tool -n __sudoers_tool_option_of_list -l error-status -x -d 'Exit status of an error'
-complete -c sudoers_tool -n '__fish_seen_subcommand_from apply check convert edit place plan show' -l explain -d 'Explain an error, also where standard error is no terminal'
+complete -c sudoers_tool -n '__fish_seen_subcommand_from adapt apply check convert edit place plan show' -l explain -d 'Explain an error, also where standard error is no terminal'
 complete -c sudoers_tool -n __sudoers_tool_option_of_list -l explain -d 'Explain an error, also where standard error is no terminal'
-complete -c sudoers_tool -n '__fish_seen_subcommand_from apply check convert edit place plan show' -l plain -d 'Print an error alone, also on a terminal'
+complete -c sudoers_tool -n '__fish_seen_subcommand_from adapt apply check convert edit place plan show' -l plain -d 'Print an error alone, also on a terminal'
 complete -c sudoers_tool -n __sudoers_tool_option_of_list -l plain -d 'Print an error alone, also on a terminal'
-complete -c sudoers_tool -n '__sudoers_tool_argument_of apply check convert edit list place plan show' -F
+complete -c sudoers_tool -n '__sudoers_tool_argument_of adapt apply check convert edit list place plan show' -F
 complete -c sudoers_tool -n __sudoers_tool_wish_of_plan -a '(__sudoers_tool_wishes)'
 complete -c sudoers_tool -n '__sudoers_tool_option_of who why' -s u -l user -x -a '(__fish_complete_users)' -d 'User as whom it would run'
 complete -c sudoers_tool -n '__sudoers_tool_option_of who why' -s g -l group -x -a '(__fish_complete_groups)' -d 'Group as which it would run'
@@ -202,4 +208,4 @@ complete -c sudoers_tool -n '__sudoers_tool_option_of what who why' -l plain -d 
 complete -c sudoers_tool -n __sudoers_tool_word_of_list -F
 complete -c sudoers_tool -n __sudoers_tool_word_of_question -F
 complete -c sudoers_tool -n '__sudoers_tool_argument_of what why' -a '(__fish_complete_users)'
-complete -c sudoers_tool -n '__sudoers_tool_argument_of help' -a 'apply check convert edit list place plan show what who why'
+complete -c sudoers_tool -n '__sudoers_tool_argument_of help' -a 'adapt apply check convert edit list place plan show what who why'

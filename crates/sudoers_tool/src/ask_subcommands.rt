@@ -1,5 +1,6 @@
 //! The command lines of `who`, `what` and `why`, which ask the policy of this machine unless another is named.
 
+use crate::dialect_option::make_dialect_option;
 use crate::explaining::add_explaining_options;
 use crate::json_output::make_json_flag;
 use crate::list_command::{make_group_option, make_interfaces_option, make_target_option};
@@ -137,6 +138,7 @@ fn add_machine_options<'a>(
             "Moment in UTC, as 20300131120000Z; without it now",
         ))?
         .arg(make_interfaces_option(alloc))?
+        .arg(make_dialect_option(alloc))?
         .arg(make_json_flag(alloc))?
         .arg(top)?;
     add_explaining_options(alloc, command)

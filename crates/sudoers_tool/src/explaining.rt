@@ -141,7 +141,12 @@ fn explain_policy(
     let found = match gather(alloc, root.as_bytes(), files) {
         Ok(found) => found,
         Err(fault) => {
-            return Ok(explain_gather_fault(rt, words, files.files().last_requested_name(), fault)?);
+            return Ok(explain_gather_fault(
+                rt,
+                words,
+                files.files().files().last_requested_name(),
+                fault,
+            )?);
         }
     };
     match Policy::load(alloc, found.as_slice()) {

@@ -1,10 +1,12 @@
 //! Files that the command line names.
 
+use crate::dialect_option::dialect_of_words;
 use crate::kept_files::KeptFiles;
 use clap::ArgMatches;
 use std::alloc::{AllocError, Global};
 use std::io::Stdin;
 use std::{fs, io};
+use sudoers_dialect::DialectFiles;
 use sudoers_files::FilesOnDisk;
 use sudoers_grammar::Items;
 use sudoers_run::ToolFault;
@@ -18,8 +20,8 @@ pub const STDIN_NUMBER: i32 = 0;
 /// The files of the disk and the standard input.
 pub type Disk = FilesOnDisk<HostRuntime, Stdin>;
 
-/// The files of the disk and the standard input, each of which is read once.
-pub type KeptDisk = KeptFiles<Disk>;
+/// The files of the disk and the standard input, each of which is read once, in a dialect.
+pub type KeptDisk = DialectFiles<KeptFiles<Disk>>;
 
 /// Returns the files of the disk for the policy `root`: those below the folder that `words` name, if they name one.
 pub fn open_disk_files(
@@ -33,6 +35,18 @@ pub fn open_disk_files(
     };
     let root = file_name_of_text(rt.alloc(), root)?;
     Ok(FilesOnDisk::new(rt.alloc(), rt.clone()?, top, root, rt.stdin()))
+}
+
+/// Returns the files of the disk for the policy `root`, in the dialect that `words` name. Each is kept when it is read, if `is_kept`.
+pub fn open_kept_files(
+    rt: &HostRuntime,
+    words: &ArgMatches<'_>,
+    root: &str,
+    is_kept: bool,
+) -> Result<KeptDisk, ToolFault> {
+    let disk = open_disk_files(rt, words, root)?;
+    let kept = KeptFiles::new(rt.alloc(), disk, is_kept);
+    Ok(DialectFiles::new(kept, dialect_of_words(words)))
 }
 
 /// Returns `name` as the name of a file.

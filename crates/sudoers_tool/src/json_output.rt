@@ -233,7 +233,7 @@ pub fn make_list_of_gather_fault(
 ) -> Result<JsonList, AllocError> {
     let alloc = rt.alloc();
     let text = fault_text(alloc, fault)?;
-    let file = files.files().last_requested_name();
+    let file = files.files().files().last_requested_name();
     let is_of_file = is_fault_of_file(fault);
     let reason = if is_of_file {
         Some(find_reason_of_file(rt, words, file)?.as_bytes())

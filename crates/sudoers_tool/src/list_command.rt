@@ -1,5 +1,6 @@
 //! The subcommand `list`: its command line, and its run.
 
+use crate::dialect_option::make_dialect_option;
 use crate::files::{KeptDisk, STDIN, STDIN_NUMBER, open_named_file};
 use crate::same_folders::{make_same_option, make_usr_merge_flag};
 use crate::terminal::open_standard_output;
@@ -49,6 +50,7 @@ fn add_moment_runas_and_command_arguments<'a>(
             "Moment in UTC, as 20300131120000Z; now is $(date -u +%Y%m%d%H%M%SZ)",
         ))?
         .arg(make_interfaces_option(alloc))?
+        .arg(make_dialect_option(alloc))?
         .arg(make_target_option(alloc))?
         .arg(make_group_option(alloc))?
         .arg(make_same_option(alloc))?

@@ -2,6 +2,7 @@
 #![tactic(auto)]
 
 mod access;
+mod adapt_command;
 mod all_errors;
 mod also_option;
 mod apply_command;
@@ -11,6 +12,7 @@ mod ask_subcommands;
 mod ask_values;
 mod changed_lines;
 mod convert_command;
+mod dialect_option;
 mod edit_command;
 mod explaining;
 mod explaining_edits;
@@ -37,6 +39,7 @@ mod terminal;
 mod usage_errors;
 mod wish_options;
 
+use crate::adapt_command::{ADAPT, run_adapt_command};
 use crate::all_errors::print_all_errors;
 use crate::apply_command::{APPLY, run_apply_command};
 use crate::ask_command::{is_list_with_same_folders, run_ask_command, run_list_with_same_folders};
@@ -50,12 +53,11 @@ use crate::explaining::{
 };
 use crate::explaining_edits::EditExplanation;
 use crate::file_trouble::FileTrouble;
-use crate::files::{KeptDisk, open_disk_files};
+use crate::files::{KeptDisk, open_kept_files};
 use crate::installed::{are_installed_notes_asked, find_installed_notes};
 use crate::json_output::{
     is_json_asked, print_error_document, run_check_as_json, run_show_as_json,
 };
-use crate::kept_files::KeptFiles;
 use crate::list_command::run_list_command;
 use crate::place_command::{PLACE, run_place_command};
 use crate::plan_command::{PLAN, run_plan_command};
@@ -182,8 +184,9 @@ fn run_named_command_and_print_error(
     error_status: u8,
     words: &ArgMatches<'_>,
 ) -> u8 {
-    let mut files = match open_disk_files(rt, words, file) {
-        Ok(disk) => KeptFiles::new(rt.alloc(), disk, are_files_read_again(rt, words)),
+    let is_kept = name == ADAPT || are_files_read_again(rt, words);
+    let mut files = match open_kept_files(rt, words, file, is_kept) {
+        Ok(files) => files,
         Err(fault) => return report_fault(rt, &FileTrouble::from(fault), error_status, &[]),
     };
     let outcome = if is_ask_command(name) && is_json_asked(words) {
@@ -251,6 +254,7 @@ fn run_named_command_on_file(
     files: &mut KeptDisk,
 ) -> Result<u8, ToolFault> {
     match name {
+        ADAPT => run_adapt_command(rt, file, files),
         "check" => run_check_command(rt, file, words, files),
         "convert" => run_convert_command(rt, file, words, files),
         "list" => run_list_command(rt, file, words, files),

@@ -1,9 +1,11 @@
 //! The command line that the program understands.
 
+use crate::adapt_command::make_adapt_subcommand;
 use crate::all_errors::make_all_flag;
 use crate::apply_command::{APPLY, make_apply_subcommand};
 use crate::ask_subcommands::{make_what_subcommand, make_who_subcommand, make_why_subcommand};
 use crate::convert_command::make_convert_subcommand;
+use crate::dialect_option::make_dialect_option;
 use crate::edit_command::{EDIT, make_edit_subcommand};
 use crate::explaining::add_error_options;
 use crate::installed::make_installed_flag;
@@ -29,6 +31,7 @@ fn make_show_subcommand<'a>(alloc: Global) -> Result<Command<'a>, AllocError> {
         .about("Print the logical lines of a policy and its alias definitions, with their numbers")
         .arg(make_json_flag(alloc))?
         .arg(make_members_flag(alloc)?)?
+        .arg(make_dialect_option(alloc))?
         .arg(make_root_folder_option(alloc))?
         .arg(make_policy_file_or_stdin_argument(alloc))
 }
@@ -38,9 +41,17 @@ pub fn make_top_level_command<'a>(alloc: Global) -> Result<Command<'a>, AllocErr
     Command::new(alloc, "sudoers_tool")
         .version(VERSION)
         .about(
-            "Check, show, edit, plan, apply, place, convert and list sudoers policies. Without a command, do what `edit` does",
+            "Check, show, edit, plan, apply, place, adapt, convert and list sudoers policies. Without a command, do what `edit` does",
         )
         .after_help(EXIT_STATUS)
+        .subcommand(add_error_options(
+            alloc,
+            make_adapt_subcommand(
+                alloc,
+                make_root_folder_option(alloc),
+                make_policy_file_or_stdin_argument(alloc),
+            )?,
+        )?)?
         .subcommand(make_apply_subcommand(alloc, make_root_folder_option(alloc))?)?
         .subcommand(add_error_options(alloc, make_check_subcommand(alloc)?)?)?
         .subcommand(add_error_options(
@@ -93,6 +104,7 @@ fn make_check_subcommand<'a>(alloc: Global) -> Result<Command<'a>, AllocError> {
         .arg(skipped)?
         .arg(make_installed_flag(alloc)?)?
         .arg(make_target_option(alloc)?)?
+        .arg(make_dialect_option(alloc))?
         .arg(make_all_flag(alloc))?
         .arg(make_json_flag(alloc))?
         .arg(make_root_folder_option(alloc))?

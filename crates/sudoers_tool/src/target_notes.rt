@@ -11,7 +11,7 @@ use sudoers_defaults::{
 };
 use sudoers_explain_edits::Nearest;
 use sudoers_files::gather;
-use sudoers_forms::{Form, RefusedForm, list_refused_forms, words_of_form};
+use sudoers_forms::{RefusedForm, list_refused_forms, words_of_form};
 use sudoers_run::{LayerFault, ToolFault};
 use sudoers_text::append_decimal_number;
 use sudoers_tree::{Line, LoadFault, Policy, Span, WalkLineSpot, column_behind, lf_count};
@@ -91,6 +91,52 @@ pub fn find_target_notes(
         Err(_) => {}
     }
     Ok(notes)
+}
+
+/// Returns the line and the column, with a colon between them, of the first word that sudo refuses in the policy with the text `text`, the
+/// only file.
+pub fn find_refused_place(alloc: Global, text: &[u8]) -> Result<Option<Vec<u8>>, ToolFault> {
+    let policy = Policy::read(alloc, text).map_err(LayerFault::from)?;
+    let parameters = list_refused_parameters(alloc, &policy, parameters_of_sudo())?;
+    let forms = list_refused_forms(alloc, &policy)?;
+    let mut first = None;
+    for parameter in &parameters {
+        if parameter.fault != ParameterFault::NotDecided {
+            first = Some(choose_first_place(first, place_of_parameter(parameter)));
+        }
+    }
+    for form in &forms {
+        first = Some(choose_first_place(first, form.at));
+    }
+    match first {
+        Some(at) => Ok(Some(text_of_place(alloc, &policy, at)?)),
+        None => Ok(None),
+    }
+}
+
+/// Returns the first of `place` and `other`.
+fn choose_first_place(place: Option<Span>, other: Span) -> Span {
+    let Some(first) = place else {
+        return other;
+    };
+    if (first.line, first.start) <= (other.line, other.start) {
+        first
+    } else {
+        other
+    }
+}
+
+/// Returns the physical line and the column of a part of a line of `policy`, with a colon between them.
+fn text_of_place(alloc: Global, policy: &Policy, at: Span) -> Result<Vec<u8>, AllocError> {
+    let mut text = Vec::new(alloc);
+    if let Some(line) = find_walked_text(policy, at.line) {
+        let before = line.text.get(..at.start).unwrap_or(b"");
+        let row = line.spot.row.saturating_add(lf_count(before));
+        append_decimal_number(alloc, &mut text, row)?;
+        text.extend_from_slice(b":")?;
+        append_decimal_number(alloc, &mut text, column_behind(before))?;
+    }
+    Ok(text)
 }
 
 /// Returns the program that `words` name.
@@ -174,9 +220,10 @@ impl RefusalNotes<'_> {
 
     /// Appends the note on the form `form`.
     fn append_form(&mut self, form: &RefusedForm) -> Result<(), AllocError> {
-        let finding: &[u8] = match form.form {
-            Form::NumberedLine | Form::ArgumentHash => b": read otherwise by sudo: ",
-            _ => b": refused by visudo -c: ",
+        let finding: &[u8] = if form.form.is_read_otherwise() {
+            b": read otherwise by sudo: "
+        } else {
+            b": refused by visudo -c: "
         };
         self.append_place(form.at)?;
         self.append(finding)?;
@@ -241,13 +288,10 @@ impl RefusalNotes<'_> {
         let Some(line) = find_walked_text(self.policy, at.line) else {
             return Ok(());
         };
-        let before = line.text.get(..at.start).unwrap_or(b"");
-        let row = line.spot.row.saturating_add(lf_count(before));
+        let place = text_of_place(self.alloc, self.policy, at)?;
         self.append(self.policy.file_name(line.spot.file))?;
         self.append(b":")?;
-        append_decimal_number(self.alloc, &mut self.notes.text, row)?;
-        self.append(b":")?;
-        append_decimal_number(self.alloc, &mut self.notes.text, column_behind(before))
+        self.append(place.as_slice())
     }
 
     /// Appends `bytes`.

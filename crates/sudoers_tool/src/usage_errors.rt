@@ -1,6 +1,7 @@
 //! Wrong command lines.
 
 use crate::apply_command::APPLY;
+use crate::convert_command::is_json_spelled_for_reader;
 use crate::edit_command::{EDIT, find_edit_usage_error};
 use crate::files::{STDIN, find_trouble_with_folder};
 use crate::plan_command::PLAN;
@@ -44,6 +45,9 @@ pub fn find_usage_error(
 fn find_usage_error_of_files(words: &ArgMatches<'_>) -> Option<&'static str> {
     if let Some(mistake) = find_mistake_in_same_folders(words) {
         return Some(mistake);
+    }
+    if is_json_spelled_for_reader(words) {
+        return Some("'--for' goes with '-f sudoers' alone");
     }
     let files = words.get_strs("FILE")?;
     if files.iter().filter(|file| **file == STDIN).count() > 1 {
