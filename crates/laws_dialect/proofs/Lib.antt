@@ -6,5 +6,6 @@ pub mod SameTokens
 pub mod ReadLines
 pub mod AdaptedLines
 pub mod AdaptedTexts
+pub mod AdaptedPolicies
 pub mod Slashes
 pub mod SlashedRows

@@ -2,4 +2,5 @@ pub mod Sound
 pub mod ReadAs
 pub mod Expanded
 pub mod Converted
+pub mod SameText
 pub mod WayBack

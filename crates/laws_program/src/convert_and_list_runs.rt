@@ -7,6 +7,7 @@ ghost use Rattle.sudoers_tree.specs.declared.named_files.NamedFile.{NamedFile as
 ghost use Rattle.sudoers_run.specs.Convert.{convert_output};
 ghost use Rattle.sudoers_run.specs.List.{IsListOutcome, ListCommandOutcome};
 ghost use Rattle.laws_program.specs.Converted.{IsConvertedTextWithSameAnswers, IsExpandedTextWithSameAnswers, IsFaithfulFilteredText, convert_words_with_expand, convert_words_with_filter, convert_words_without_changes};
+ghost use Rattle.laws_program.specs.SameText.{HaveSameAnswers};
 
 use crate::answers::printed_rules_answer;
 use crate::printing::{printed_rules_are_read, second_printing_is_same};
@@ -51,6 +52,16 @@ pub fn expanded_policy_is_printed()
     second_printing_of_expansion_is_same();
     text_loads();
     text_is_gathered();
+}
+
+/// Two policies of which `convert -f sudoers -e` prints the same text answer each request the same, numbers aside. Each user has the same
+/// runas_default, and rules at the same places. No reachable alias is cyclic in either.
+pub fn same_expansions_answer_same()
+    ensures { (prune other_prune : Bool) (root : List ℕ) (known : List NamedFileOf) (other_root : List ℕ) (other_known : List NamedFileOf) (out : List ℕ)
+        → convert_output (convert_words_with_expand prune) root known ≡ Ok out → convert_output (convert_words_with_expand other_prune) other_root other_known ≡ Ok out
+        → HaveSameAnswers root known other_root other_known }
+{
+    expanded_policy_is_printed();
 }
 
 /// What `convert -f sudoers -m` prints, with or without `-p` and `-e`, is a policy. Its lines say what the rules say that the filter

@@ -4,6 +4,7 @@
 
 mod answers;
 mod convert_and_list_runs;
+mod dialect_runs;
 mod gathered_files_on_walk;
 mod printing;
 mod rewriting;
@@ -13,8 +14,9 @@ mod way_back;
 pub use answers::{printed_rules_answer, read_member_matches_same};
 pub use convert_and_list_runs::{
     converted_policy_answers, expanded_policy_is_printed, filtered_policy_is_printed,
-    one_list_outcome,
+    one_list_outcome, same_expansions_answer_same,
 };
+pub use dialect_runs::{policy_in_dialect_is_converted, policy_in_dialect_is_expanded};
 pub use gathered_files_on_walk::gathered_files_are_walked;
 pub use printing::{printed_rules_are_read, rules_can_be_written, second_printing_is_same};
 pub use rewriting::{
