@@ -1,0 +1,2 @@
+mod FlatCommands
+mod FlatLines
