@@ -1,2 +1,2 @@
 mod FlatCommands
-mod FlatLines
+mod PlacedRows

@@ -9,8 +9,8 @@ ghost use Rattle.sudoers_line_rows.specs.Tables.{commands_of_range_in_tables, ho
 ghost use Rattle.sudoers_match.specs.Heads.{AccumulatedCommandSettings as HeadOf, commands_with_settings, empty_command_settings};
 ghost use Rattle.sudoers_match.specs.IsHead.{HoldsCommandSettings};
 ghost use Rattle.sudoers_match.specs.Specs.{user_spec_of_users_and_groups};
-ghost use Rattle.laws_compare.specs.Computed.{content_of_lines, flat_list_of_members, flat_rows_of_command, flat_rows_of_host_group, flat_rows_of_user_spec, flat_runas_spec_of, optional_flat_list_of_members};
-ghost use Rattle.sudoers_compare.specs.FlatSpecs.{flat_runas_spec_in_tables, optional_signed_atoms_in_tables, rows_of_flat_command, rows_of_flat_host_group, rows_of_flat_spec, rows_of_flat_specs, rows_of_node, signed_atoms_in_tables};
+ghost use Rattle.laws_compare.specs.Computed.{flat_list_of_members, flat_rows_of_command, flat_runas_spec_of, optional_flat_list_of_members};
+ghost use Rattle.sudoers_compare.specs.FlatSpecs.{flat_runas_spec_in_tables, optional_signed_atoms_in_tables, placed_rows_of_command, placed_rows_of_flat_command, placed_rows_of_flat_host_group, placed_rows_of_flat_specs, placed_rows_of_host_group, placed_rows_of_node, placed_rows_of_policy, rows_of_flat_command};
 
 use crate::flat_specs::{FlatCommand, FlatHostGroup, FlatRunas, FlatSpec};
 use std::alloc::Global;
@@ -60,7 +60,8 @@ fn flatten_command<'a>(
     runas: Option<RunasRow>,
     member: &'a MemberRow,
 ) -> Result<FlatCommand<'a>, FlattenSizeFault>
-    ensures { IfOk result (λ command. (head : HeadOf) → HoldsCommandSettings settings.now head → option_map (runas_in_tables source.now.lines.tables.now) runas ≡ head.runas
+    ensures start { IfOk result (λ command. command.start ≡ member.now.start) }
+    ensures rows { IfOk result (λ command. (head : HeadOf) → HoldsCommandSettings settings.now head → option_map (runas_in_tables source.now.lines.tables.now) runas ≡ head.runas
         → (users hosts : List MemberOf) → rows_of_flat_command source.now.lines.tables.now (flat_list_of_members OfUsers source.now.policy.now users) (flat_list_of_members OfHosts source.now.policy.now hosts) command
         ≡ flat_rows_of_command source.now.policy.now users hosts (head, member_in_tables source.now.lines.tables.now member.now)) }
 {
@@ -86,9 +87,9 @@ fn flatten_commands<'a>(
     source: &ExpansionSource<'a, '_>,
     range: RowRange,
 ) -> Result<Vec<FlatCommand<'a>>, FlattenSizeFault>
-    ensures { IfOk result (λ commands. (users hosts : List MemberOf) → flat_map (rows_of_flat_command source.now.lines.tables.now
+    ensures { IfOk result (λ commands. (number : ℕ) (users hosts : List MemberOf) → flat_map (placed_rows_of_flat_command source.now.lines.tables.now number
         (flat_list_of_members OfUsers source.now.policy.now users) (flat_list_of_members OfHosts source.now.policy.now hosts)) commands.items
-        ≡ flat_map (flat_rows_of_command source.now.policy.now users hosts) (commands_with_settings empty_command_settings (commands_of_range_in_tables source.now.lines.tables.now range))) }
+        ≡ flat_map (placed_rows_of_command source.now.policy.now number users hosts) (commands_with_settings empty_command_settings (commands_of_range_in_tables source.now.lines.tables.now range))) }
 {
     let tables = source.lines.tables;
     let mut commands = Vec::new(alloc);
@@ -110,8 +111,8 @@ fn flatten_host_group<'a>(
     source: &ExpansionSource<'a, '_>,
     row: &HostGroupRow,
 ) -> Result<FlatHostGroup<'a>, FlattenSizeFault>
-    ensures { IfOk result (λ group. (users : List MemberOf) → rows_of_flat_host_group source.now.lines.tables.now (flat_list_of_members OfUsers source.now.policy.now users) group
-        ≡ flat_rows_of_host_group source.now.policy.now users (host_group_in_tables source.now.lines.tables.now row.now)) }
+    ensures { IfOk result (λ group. (number : ℕ) (users : List MemberOf) → placed_rows_of_flat_host_group source.now.lines.tables.now number (flat_list_of_members OfUsers source.now.policy.now users) group
+        ≡ placed_rows_of_host_group source.now.policy.now number users (host_group_in_tables source.now.lines.tables.now row.now)) }
 {
     let hosts = rows_in(source.lines.tables.members.as_slice(), row.hosts);
     let hosts = flatten_member_list(alloc, source, Kind::Host, hosts)?;
@@ -127,9 +128,9 @@ fn append_flat_host_group<'a>(
     row: &HostGroupRow,
     groups: &mut Vec<FlatHostGroup<'a>>,
 ) -> Result<(), FlattenSizeFault>
-    ensures { OnOk result ((users : List MemberOf) → flat_map (rows_of_flat_host_group source.now.lines.tables.now (flat_list_of_members OfUsers source.now.policy.now users)) groups.new.items
-        ≡ flat_map (rows_of_flat_host_group source.now.lines.tables.now (flat_list_of_members OfUsers source.now.policy.now users)) groups.old.items
-        ++ flat_rows_of_host_group source.now.policy.now users (host_group_in_tables source.now.lines.tables.now row.now)) }
+    ensures { OnOk result ((number : ℕ) (users : List MemberOf) → flat_map (placed_rows_of_flat_host_group source.now.lines.tables.now number (flat_list_of_members OfUsers source.now.policy.now users)) groups.new.items
+        ≡ flat_map (placed_rows_of_flat_host_group source.now.lines.tables.now number (flat_list_of_members OfUsers source.now.policy.now users)) groups.old.items
+        ++ placed_rows_of_host_group source.now.policy.now number users (host_group_in_tables source.now.lines.tables.now row.now)) }
 {
     groups.push(flatten_host_group(alloc, source, row)?)?;
     Ok(())
@@ -141,8 +142,8 @@ fn flatten_host_groups<'a>(
     source: &ExpansionSource<'a, '_>,
     rows: &[HostGroupRow],
 ) -> Result<Vec<FlatHostGroup<'a>>, FlattenSizeFault>
-    ensures { IfOk result (λ groups. (users : List MemberOf) → flat_map (rows_of_flat_host_group source.now.lines.tables.now (flat_list_of_members OfUsers source.now.policy.now users)) groups.items
-        ≡ flat_map (flat_rows_of_host_group source.now.policy.now users) (map (host_group_in_tables source.now.lines.tables.now) rows.now)) }
+    ensures { IfOk result (λ groups. (number : ℕ) (users : List MemberOf) → flat_map (placed_rows_of_flat_host_group source.now.lines.tables.now number (flat_list_of_members OfUsers source.now.policy.now users)) groups.items
+        ≡ flat_map (placed_rows_of_host_group source.now.policy.now number users) (map (host_group_in_tables source.now.lines.tables.now) rows.now)) }
 {
     let mut groups = Vec::new(alloc);
     for row in rows {
@@ -160,7 +161,7 @@ pub fn flatten_specs<'a>(
     alloc: Global,
     source: &ExpansionSource<'a, '_>,
 ) -> Result<Vec<FlatSpec<'a>>, FlattenSizeFault>
-    ensures { IfOk result (λ specs. rows_of_flat_specs source.now.lines.tables.now specs.items ≡ (content_of_lines source.now.policy.now).rows) }
+    ensures { IfOk result (λ specs. placed_rows_of_flat_specs source.now.lines.tables.now specs.items ≡ placed_rows_of_policy source.now.policy.now) }
 {
     let mut specs = Vec::new(alloc);
     for (line, row) in source.lines.rows.iter().enumerate() {
@@ -178,8 +179,8 @@ fn append_flat_spec<'a>(
     row: &NodeRow,
     specs: &mut Vec<FlatSpec<'a>>,
 ) -> Result<(), FlattenSizeFault>
-    ensures { OnOk result (rows_of_flat_specs source.now.lines.tables.now specs.new.items ≡ rows_of_flat_specs source.now.lines.tables.now specs.old.items
-        ++ rows_of_node source.now.policy.now (node_in_tables source.now.lines.tables.now row.now)) }
+    ensures { OnOk result (placed_rows_of_flat_specs source.now.lines.tables.now specs.new.items ≡ placed_rows_of_flat_specs source.now.lines.tables.now specs.old.items
+        ++ placed_rows_of_node source.now.policy.now line (node_in_tables source.now.lines.tables.now row.now)) }
 {
     let NodeRow::Spec { users, groups } = row else {
         return Ok(());

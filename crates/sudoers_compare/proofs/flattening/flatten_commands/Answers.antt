@@ -17,7 +17,7 @@ loop-row-preserved c =
     c.loop-row.runas c.or-runas.result c.loop-row.left.now c.in-Some.behind.now c.in-Some.row.now c.in_ok-flatten_command.field-0 c.loop-row.invariant
     c.in-Some.ensures.cases.0
     (λ before held. subst (λ (command : CmdSpec). HoldsCommandSettings c.apply_settings_of_command.new.self (settings_after_command before command)) c.command_of_row.ensures (c.apply_settings_of_command.ensures before held))
-    c.or-runas.ensures c.in_ok-flatten_command.ensures c.in_ok-push.ensures.items
+    c.or-runas.ensures c.in_ok-flatten_command.ensures.rows c.in_ok-flatten_command.ensures.start c.in_ok-push.ensures.items
 
 pub returns : goal.returns
 returns c =
