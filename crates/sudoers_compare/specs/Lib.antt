@@ -1,0 +1,2 @@
+pub mod AllInForce
+pub mod FlatRow
