@@ -100,10 +100,7 @@ fn has_each_unnegated_member(
 }
 
 /// Returns whether the flat list `wide` allows all that `narrow` allows.
-pub fn is_list_wider(
-    wide: &RowsOfTable<'_, MemberRow>,
-    narrow: &RowsOfTable<'_, MemberRow>,
-) -> bool
+pub fn is_list_wider(wide: &RowsOfTable<'_, MemberRow>, narrow: &RowsOfTable<'_, MemberRow>) -> bool
     ensures { result ≡ is_list_wider (signed_atoms_of_view wide.now) (signed_atoms_of_view narrow.now) }
 {
     is_same_flat_list(wide, narrow)
