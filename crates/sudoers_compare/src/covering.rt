@@ -10,7 +10,7 @@ use crate::flat_lists::is_list_wider;
 use crate::flat_row::FlatRow;
 use crate::runas_specs::is_runas_spec_wider;
 
-/// Returns whether there is no bound `wide`, or it is the bound `narrow`.
+/// Returns whether there is no bound `wide`, or it is the same as `narrow`.
 fn is_time_bound_wider(wide: Option<&[u8]>, narrow: Option<&[u8]>) -> bool
     ensures { result ≡ is_time_bound_wider (option_value_of_view wide.entry) (option_value_of_view narrow.entry) }
 {
@@ -21,7 +21,7 @@ fn is_time_bound_wider(wide: Option<&[u8]>, narrow: Option<&[u8]>) -> bool
     }
 }
 
-/// Returns whether the row `wide` covers `narrow` for each user of both on each host of both.
+/// Returns whether the row `wide` covers `narrow` for each user of both on each host of both. Users and hosts do not count.
 pub fn covers_grant(wide: &FlatRow<'_>, narrow: &FlatRow<'_>) -> bool
     ensures { result ≡ is_covering_grant (grant_of_view wide.now) (grant_of_view narrow.now) }
 {
@@ -32,7 +32,7 @@ pub fn covers_grant(wide: &FlatRow<'_>, narrow: &FlatRow<'_>) -> bool
         && is_command_atom_wider(&wide.member.atom, &narrow.member.atom)
 }
 
-/// Returns whether the row `wide` covers `narrow`: it fits each request that `narrow` fits.
+/// Returns whether the row `wide` covers `narrow`. If it does, it fits each request that `narrow` fits.
 pub fn covers_row(wide: &FlatRow<'_>, narrow: &FlatRow<'_>) -> bool
     ensures { result ≡ is_covering_row (flat_row_of_view wide.now) (flat_row_of_view narrow.now) }
 {

@@ -29,7 +29,8 @@ fn has_present_list_all_in_force(members: &Option<RowsOfTable<'_, MemberRow>>) -
     }
 }
 
-/// Returns whether the lists of `wide` are there where those of `narrow` are, and wider. `wide` may have groups besides.
+/// Returns whether the lists of `wide` are there where those of `narrow` are, and wider. Beside users, `wide` may have more groups, none of
+/// them negated.
 fn are_runas_lists_wider(wide: &FlatRunasView<'_>, narrow: &FlatRunasView<'_>) -> bool
     ensures { result ≡ are_runas_lists_wider (optional_signed_atoms_of_view wide.now.users) (optional_signed_atoms_of_view wide.now.groups)
         (optional_signed_atoms_of_view narrow.now.users) (optional_signed_atoms_of_view narrow.now.groups) }
