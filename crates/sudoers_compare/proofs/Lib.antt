@@ -1,2 +1,3 @@
 mod FlatCommands
 mod PlacedRows
+mod SameMembers

@@ -14,6 +14,8 @@ use Rattle.sudoers_tree.specs.Line.{Line}
 use Rattle.sudoers_match.specs.Heads.{AccumulatedCommandSettings, commands_with_settings, empty_command_settings}
 use Rattle.laws_compare.specs.Computed.{flat_rows_of_command}
 use Rattle.laws_compare.specs.Content.{FlatRunasSpec, FlatPrivilegeRow}
+use Rattle.sudoers_compare.specs.declared.flat_rows.PlacedFlatRow.{PlacedFlatRow}
+use Rattle.sudoers_compare.specs.FlatRow.{flat_row_of_view}
 use Rattle.sudoers_compare.specs.declared.flat_specs.FlatRunas.{FlatRunas}
 use Rattle.sudoers_compare.specs.declared.flat_specs.FlatCommand.{FlatCommand}
 use Rattle.sudoers_compare.specs.declared.flat_specs.FlatHostGroup.{FlatHostGroup}
@@ -91,3 +93,7 @@ placed_rows_from_line all number (line ∷ lines) = placed_rows_of_node all numb
 -- The rows of a policy, in file order.
 abbrev pub placed_rows_of_policy : List Line → List PlacedRow
 placed_rows_of_policy lines = placed_rows_from_line lines 0 lines
+
+-- a row that the code holds
+abbrev pub placed_row_of_view : PlacedFlatRow → PlacedRow
+placed_row_of_view placed = row_at_place placed.line placed.start (flat_row_of_view placed.row)

@@ -1,1 +1,3 @@
 pub mod FlatSpecs
+pub mod AllInForce
+pub mod FlatRow
