@@ -1,9 +1,9 @@
 -- The commands of a host group, flat so far.
-use Rattle.std.proofs.Common.{◌≡◌, ℕ, List, [], ◌∷◌, ◌++◌, length, map, slice_range, Option, Some, None, refl, sym, ap, subst, ◌∙◌, arith}
+use Rattle.std.proofs.Common.{◌≡◌, ℕ, List, [], ◌∷◌, ◌++◌, length, map, slice_range, Option, Some, None, refl, sym, ap, ◌∙◌, arith}
 use Rattle.std.proofs.lemmas.List.{append_assoc, append-nil}
 use Rattle.std.specs.List.{flat_map}
 use Rattle.std.specs.Option.{option_map, option_or}
-use Rattle.sudoers_grammar.specs.Node.{Member, CmdSpec, RunasSpec}
+use Rattle.sudoers_grammar.specs.Node.{Member, RunasSpec}
 use Rattle.sudoers_grammar.specs.declared.node.Kind.TheVariants.{User, Host}
 use Rattle.sudoers_line_rows.specs.declared.rows.CommandRow.{CommandRow}
 use Rattle.sudoers_line_rows.specs.declared.rows.RowRange.{RowRange}

@@ -56,7 +56,7 @@ fn append_rows_of_command<'f>(
     out: &mut Vec<PlacedFlatRow<'f>>,
 ) -> Result<(), AllocError>
     ensures { OnOk result (map placed_row_of_view out.new.items ≡ map placed_row_of_view out.old.items
-        ++ placed_rows_of_flat_command users.tables.now line (signed_atoms_of_view users) (signed_atoms_of_view hosts) command.now) }
+        ++ placed_rows_of_flat_command users.entry.tables.now line (signed_atoms_of_view users.entry) (signed_atoms_of_view hosts.entry) command.now) }
 {
     let tables = users.tables;
     let runas = view_of_flat_runas(tables, &command.runas);
@@ -85,7 +85,7 @@ fn append_rows_of_host_group<'f>(
     out: &mut Vec<PlacedFlatRow<'f>>,
 ) -> Result<(), AllocError>
     ensures { OnOk result (map placed_row_of_view out.new.items ≡ map placed_row_of_view out.old.items
-        ++ placed_rows_of_flat_host_group users.tables.now line (signed_atoms_of_view users) group.now) }
+        ++ placed_rows_of_flat_host_group users.entry.tables.now line (signed_atoms_of_view users.entry) group.now) }
 {
     let hosts = RowsOfTable {
         tables: users.tables,

@@ -9,6 +9,7 @@ mod flat_rows;
 mod flat_specs;
 mod flattening;
 pub mod laws;
+mod overruled;
 mod runas_specs;
 
 pub use covering::{covers_grant, covers_row};
@@ -16,3 +17,4 @@ pub use flat_row::{FlatRow, FlatRunasView};
 pub use flat_rows::{PlacedFlatRow, list_flat_rows};
 pub use flat_specs::{FlatCommand, FlatHostGroup, FlatRunas, FlatSpec};
 pub use flattening::flatten_specs;
+pub use overruled::Overruling;

@@ -1,4 +1,4 @@
-use Rattle.std.proofs.Common.{◌≡◌, length}
+use Rattle.std.proofs.Common.{length}
 use Rattle.sudoers_compare.proofs.FlatCommands.{AreCommandsFlatSoFar}
 use Rattle.sudoers_compare.proofs.flattening.flatten_commands.Given as goal
 

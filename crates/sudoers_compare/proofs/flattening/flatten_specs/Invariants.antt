@@ -1,6 +1,5 @@
 use Rattle.std.proofs.Common.{◌≡◌, ◌++◌, drop}
-use Rattle.std.specs.List.{flat_map}
-use Rattle.sudoers_tree.specs.Line.{Line, line_of_row}
+use Rattle.sudoers_tree.specs.Line.{line_of_row}
 use Rattle.std.specs.Prelude.{map}
 use Rattle.sudoers_compare.specs.FlatSpecs.{placed_rows_of_flat_specs, placed_rows_from_line, placed_rows_of_policy}
 use Rattle.sudoers_compare.proofs.flattening.flatten_specs.Given as goal
