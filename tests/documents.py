@@ -53,7 +53,7 @@ LIMITS = {
     "README.md": 160,
     "CONTRIBUTING.md": 90,
     "SECURITY.md": 60,
-    "docs/ARCHITECTURE.md": 152,
+    "docs/ARCHITECTURE.md": 154,
     "docs/AUDIT.md": 104,
     "docs/BENCHMARK.md": 120,
     "docs/DECISIONS.md": 480,

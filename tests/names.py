@@ -46,8 +46,8 @@ VERBS = tuple(
 )
 SAYING = tuple(
     """
-    allows applies begins belongs brings comes continues ends fits follows has hits includes keeps leads leaves loses matches
-    names owns permits reads says sets speaks suits takes
+    allows applies begins belongs brings comes continues covers ends fits follows has hits includes keeps leads leaves loses
+    matches names owns permits reads says sets speaks suits takes
     """.split()
 )
 WHOLE = ("new", "of", "from", "into", "len", "main")

@@ -1,0 +1,11 @@
+mod SameContents
+mod ListVerdicts
+mod FittingRows
+mod ListsWithoutSome
+mod OverruledRows
+mod SameEffects
+mod SameGrants
+mod ComputedContents
+mod SameAtoms
+mod DecidedCovers
+mod ComputedEffects

@@ -1,0 +1,3 @@
+mod FlatCommands
+mod PlacedRows
+mod SameMembers

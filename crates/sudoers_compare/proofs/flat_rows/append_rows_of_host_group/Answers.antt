@@ -1,0 +1,20 @@
+use Rattle.std.proofs.Common.{◌++◌, ◌+◌, ◌∙◌, ◌∷◌, List, append_assoc, ap, drop, map, sym}
+use Rattle.std.specs.List.{flat_map}
+use Rattle.std.proofs.lemmas.List.{drop_more}
+use Rattle.sudoers_compare.specs.declared.flat_specs.FlatCommand.{FlatCommand}
+use Rattle.sudoers_compare.specs.FlatRow.{signed_atoms_of_view}
+use Rattle.sudoers_compare.specs.FlatSpecs.{PlacedRow, placed_row_of_view, placed_rows_of_flat_command}
+use Rattle.sudoers_compare.proofs.flat_rows.append_rows_of_host_group.Goals as goal
+
+pub loop-command-preserved : goal.loop-command-preserved
+loop-command-preserved c =
+    let users = c.args.users in
+    let flat : FlatCommand → List PlacedRow = placed_rows_of_flat_command users.tables.now c.args.line (signed_atoms_of_view users) (signed_atoms_of_view (record { tables = users.tables; rows = c.as_slice.result })) in
+    let commands = c.as_slice-command-items.result.now in
+    let number = c.loop-command.command-index in
+    let so_far = map placed_row_of_view c.loop-command.out.items in
+    let rest = flat_map flat (drop (number + 1) commands) in
+    ap (λ (rows : List PlacedRow). rows ++ rest) c.in_ok-append_rows_of_command.ensures
+    ∙ append_assoc so_far (flat c.command-item.result) rest
+    ∙ ap (λ (left : List FlatCommand). so_far ++ flat_map flat left) (sym (drop_more commands number c.command-item.result c.loop-command-test.true ∙ ap (λ (command : FlatCommand). command ∷ drop (number + 1) commands) (sym c.command-item.is)))
+    ∙ c.loop-command.invariant

@@ -1,0 +1,4 @@
+pub mod FlatSpecs
+pub mod AllInForce
+pub mod FlatRow
+pub mod Overruled

@@ -1,0 +1,20 @@
+//! Policies as rows with their lists flat, and which rows cover others.
+#![tactic(auto)]
+
+mod command_atoms;
+mod covering;
+mod flat_lists;
+mod flat_row;
+mod flat_rows;
+mod flat_specs;
+mod flattening;
+pub mod laws;
+mod overruled;
+mod runas_specs;
+
+pub use covering::{covers_grant, covers_row};
+pub use flat_row::{FlatRow, FlatRunasView};
+pub use flat_rows::{PlacedFlatRow, list_flat_rows};
+pub use flat_specs::{FlatCommand, FlatHostGroup, FlatRunas, FlatSpec};
+pub use flattening::flatten_specs;
+pub use overruled::Overruling;
