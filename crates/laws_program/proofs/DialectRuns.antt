@@ -15,11 +15,12 @@ use Rattle.laws_program.specs.ReadAs.{IsTextReadAsNodes}
 abbrev pub PolicyFilesAreAdapted : Type 0
 PolicyFilesAreAdapted = (files : List NamedFile) (policy : LoadedPolicy) → policy_or_load_fault files ≡ Ok policy → map adapted_file files ≡ files
 
-bytes_of_first_file : List NamedFile → List ℕ
+abbrev bytes_of_first_file : List NamedFile → List ℕ
 bytes_of_first_file [] = []
 bytes_of_first_file (file ∷ files) = file.bytes
 
 pub read_text_is_its_adapted_text : PolicyFilesAreAdapted → (out text : List ℕ) (nodes : List Node) → out ≡ text → IsTextReadAsNodes text nodes → adapted_text out ≡ out
+unfolding adapted_text
 read_text_is_its_adapted_text law out text nodes e is =
     subst (λ (t : List ℕ). adapted_text t ≡ t) (sym e)
     (ap bytes_of_first_file (law (single_file_named [] text) (policy_of_single_file [] is.read) (is.loads [])))

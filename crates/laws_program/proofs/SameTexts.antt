@@ -25,11 +25,11 @@ answers_same_as_third_are_same (Some a) None (Some c) f g = absurd g
 answers_same_as_third_are_same (Some a) (Some b) None f g = absurd f
 answers_same_as_third_are_same (Some a) (Some b) (Some c) f g = (sym g.0 ∙ f.0, sym g.1 ∙ f.1, sym g.2 ∙ f.2)
 
-files_of_gathering : Result (List NamedFile) GatherFault → List NamedFile
+abbrev files_of_gathering : Result (List NamedFile) GatherFault → List NamedFile
 files_of_gathering (Ok files) = files
 files_of_gathering (Err fault) = []
 
-walk_lines_of_loading : Result LoadedPolicy LoadFault → List Line
+abbrev walk_lines_of_loading : Result LoadedPolicy LoadFault → List Line
 walk_lines_of_loading (Ok policy) = policy.walk.lines
 walk_lines_of_loading (Err fault) = []
 
