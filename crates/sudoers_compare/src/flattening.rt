@@ -14,7 +14,9 @@ ghost use Rattle.sudoers_compare.specs.FlatSpecs.{flat_runas_spec_in_tables, opt
 
 use crate::flat_specs::{FlatCommand, FlatHostGroup, FlatRunas, FlatSpec};
 use std::alloc::Global;
-use sudoers_line_rows::{CommandRow, HostGroupRow, MemberRow, NodeRow, RowRange, RunasRow, rows_in};
+use sudoers_line_rows::{
+    CommandRow, HostGroupRow, MemberRow, NodeRow, RowRange, RunasRow, rows_in,
+};
 use sudoers_match::CommandSettings;
 use sudoers_match_list::{ExpansionSource, FlattenSizeFault, flatten_member_list};
 use sudoers_tree::Kind;
@@ -66,12 +68,7 @@ fn flatten_command<'a>(
         ≡ flat_rows_of_command source.now.policy.now users hosts (head, member_in_tables source.now.lines.tables.now member.now)) }
 {
     let runas = flatten_runas(alloc, source, runas)?;
-    let members = flatten_member_list(
-        alloc,
-        source,
-        Kind::Cmnd,
-        std::slice::from_ref(member),
-    )?;
+    let members = flatten_member_list(alloc, source, Kind::Cmnd, std::slice::from_ref(member))?;
     Ok(FlatCommand {
         start: member.start,
         runas,

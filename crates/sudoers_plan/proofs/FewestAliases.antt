@@ -212,10 +212,10 @@ round_finds_some_or_none part user lines all (d ∷ ds) names each =
     by : (there his : Bool) → list_any (bytes_eq d.name) names ≡ there → is_list_of_user part user lines names d.members ≡ his
         → FoundSomeOrNone part user lines all ds names (names_with_definitions_of_user part user lines names ds)
         → FoundSomeOrNone part user lines all (d ∷ ds) names (names_with_definitions_of_user part user lines (names_with_definition there his names d.name) ds)
-    by true his there_is his_is (inl none) = inl (none.0, λ e stands is. elim stands [ | inl same ↦ subst (λ (f : Def). HasName names f.name) same there_is | inr behind ↦ none.1 e behind is ])
+    by true his there_is his_is (inl none) = inl (none.0, λ e stands is. elim stands [ inl same ↦ subst (λ (f : Def). HasName names f.name) same there_is | inr behind ↦ none.1 e behind is ])
     by true his there_is his_is (inr some) = inr some
     by false false there_is his_is (inl none) =
-        inl (none.0, λ e stands is. elim stands [ | inl same ↦ absurd (let z = subst (λ (f : Def). is_list_of_user part user lines names f.members ≡ false) same his_is in cc) | inr behind ↦ none.1 e behind is ])
+        inl (none.0, λ e stands is. elim stands [ inl same ↦ absurd (let z = subst (λ (f : Def). is_list_of_user part user lines names f.members ≡ false) same his_is in cc) | inr behind ↦ none.1 e behind is ])
     by false false there_is his_is (inr some) = inr some
     by false true there_is his_is behind =
         let more = names ++ d.name ∷ [] in
@@ -241,12 +241,12 @@ rounds_find_all (suc n) part user lines defs names =
     let next = names_with_definitions_of_user part user lines names defs in
     elim (round_finds_some_or_none part user lines defs defs names (λ d stands. stands)) [
       | inl none ↦
-        let stays : names_after_rounds n part user lines defs next ≡ names = ap (λ (m : List (List ℕ)). names_after_rounds n part user lines defs m) none.0 ∙ rounds_leave_names n part user lines defs names none.0 in
-        inl (subst (HaveEachAliasOf part user lines defs) (sym stays) none.1)
+          let stays : names_after_rounds n part user lines defs next ≡ names = ap (λ (m : List (List ℕ)). names_after_rounds n part user lines defs m) none.0 ∙ rounds_leave_names n part user lines defs names none.0 in
+          inl (subst (HaveEachAliasOf part user lines defs) (sym stays) none.1)
       | inr some ↦ elim (rounds_find_all n part user lines defs next) [
-          | inl all ↦ inl all
-          | inr fewer ↦ inr (omega (arith, some, fewer))
-        ]
+        | inl all ↦ inl all
+        | inr fewer ↦ inr (omega (arith, some, fewer))
+      ]
     ]
 
 -- ---- at most as many definitions as rounds
