@@ -2,9 +2,6 @@ pub mod LineParts
 pub mod KeptTokens
 pub mod KeptRules
 pub mod KeptLines
-pub mod FreeTokens
-pub mod FreeRules
-pub mod FreeSpecs
 pub mod SameTokens
 pub mod ReadLines
 pub mod AdaptedLines
