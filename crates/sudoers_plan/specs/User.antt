@@ -1,6 +1,6 @@
 -- Where a user stands by name in a policy, and what goes when he goes.
-use Rattle.std.specs.Prelude.{◌≡◌, ℕ, zero, suc, ◌+◌, ◌&&◌, ◌||◌, not, Bool, true, false, List, [], ◌∷◌, ◌++◌, take, drop, map, reverse, Option, Some, None, is_some, Result, Ok, Err, if◌then◌else◌}
-use Rattle.std.specs.List.{filter, list_any, list_all, AllByRecursion}
+use Rattle.std.specs.Prelude.{ℕ, zero, suc, ◌+◌, ◌&&◌, ◌||◌, not, Bool, true, false, List, [], ◌∷◌, ◌++◌, take, drop, map, reverse, Option, Some, None, is_some, Result, Ok, Err, if◌then◌else◌}
+use Rattle.std.specs.List.{filter, list_any, list_all}
 use Rattle.std.specs.Str.{bytes_eq}
 use Rattle.sudoers_grammar.specs.declared.node.Atom.{Atom}
 use Rattle.sudoers_grammar.specs.declared.node.Atom.TheVariants as atom
@@ -108,15 +108,10 @@ abbrev pub names_after_rounds : ℕ → ListPart → List ℕ → List Line → 
 names_after_rounds zero part user lines defs names = names
 names_after_rounds (suc n) part user lines defs names = names_after_rounds n part user lines defs (names_with_definitions_of_user part user lines names defs)
 
--- The user aliases in which the user stands, by name or by such an alias: in any member, or in all. Of its own this defines nothing: that
--- these are the fewest names that have all such aliases is a law (`aliases_of_user_are_fewest`).
+-- The user aliases in which the user stands, by name or by such an alias: in any member, or in all. There are at most as many user aliases
+-- as rounds, so no round more finds another.
 unfoldable pub aliases_of_user : ListPart → List ℕ → List Line → List (List ℕ)
 aliases_of_user part user lines = names_after_rounds alias_limit_of_each_kind part user lines (user_definitions_of_lines lines) []
-
--- The names have each user alias whose list is the user's, by his name or by these names.
-abbrev pub HaveAliasesOfUser : ListPart → List ℕ → List Line → List (List ℕ) → Type 0
-HaveAliasesOfUser part user lines names =
-    AllByRecursion (λ (d : Def). is_list_of_user part user lines names d.members ≡ true → list_any (bytes_eq d.name) names ≡ true) (user_definitions_of_lines lines)
 
 -- WHERE HE CANNOT GO
 

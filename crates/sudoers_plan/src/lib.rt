@@ -2,7 +2,6 @@
 #![tactic(auto)]
 
 mod fault;
-pub mod laws;
 mod line_text;
 mod line_wishes;
 mod member_text;

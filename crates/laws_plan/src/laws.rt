@@ -6,7 +6,8 @@ ghost use Rattle.std.specs.Str.{bytes_eq};
 ghost use Rattle.sudoers_tree.specs.Line.{Line as LineOf};
 ghost use Rattle.sudoers_tree.specs.Policy.{AreValidWalkLines};
 ghost use Rattle.sudoers_plan.specs.declared.user_members.ListPart.{ListPart as PartOf};
-ghost use Rattle.sudoers_plan.specs.User.{HaveAliasesOfUser, aliases_of_user};
+ghost use Rattle.sudoers_plan.specs.User.{aliases_of_user};
+ghost use Rattle.laws_plan.specs.AliasesOfUser.{HaveAliasesOfUser};
 
 /// The aliases of a user have each user alias whose list is the user's, by his name or by these aliases. Other names that have each have
 /// all of these.

@@ -12,11 +12,12 @@ use Rattle.sudoers_grammar.specs.declared.node.Atom.TheVariants as atom
 use Rattle.sudoers_grammar.specs.Node.{Def, Member, Node}
 use Rattle.sudoers_grammar.specs.Node as node
 use Rattle.sudoers_tree.specs.Line.{Line}
-use Rattle.sudoers_tree.specs.Definition.{PlacedDefinition, definitions_from_place, definitions_in_line, definitions_from_line_number, definitions_of_lines, is_equal_kind}
+use Rattle.sudoers_tree.specs.Definition.{PlacedDefinition, definitions_from_place, definitions_in_line, definitions_from_line_number, is_equal_kind}
 use Rattle.sudoers_tree.specs.Policy.{AreValidWalkLines, alias_limit_of_each_kind, definition_count_of_kind}
 use Rattle.sudoers_plan.specs.declared.user_members.ListPart.{ListPart}
 use Rattle.sudoers_plan.specs.declared.user_members.ListPart.TheVariants.{Any, All}
-use Rattle.sudoers_plan.specs.User.{is_name_of_user, is_user_alias_defined, is_atom_of_user, is_member_of_user, is_list_of_user, names_with_definitions_of_user, user_definitions_of_node, user_definitions_of_lines, names_after_rounds, aliases_of_user, HaveAliasesOfUser}
+use Rattle.sudoers_plan.specs.User.{is_name_of_user, is_user_alias_defined, is_atom_of_user, is_member_of_user, is_list_of_user, names_with_definitions_of_user, user_definitions_of_node, user_definitions_of_lines, names_after_rounds, aliases_of_user}
+use Rattle.laws_plan.specs.AliasesOfUser.{HaveAliasesOfUser}
 
 -- The definition stands in the list.
 abbrev ListHasDefinition : List Def → Def → Type 0
