@@ -1,3 +1,4 @@
 mod FlatCommands
+mod FoundRows
 mod PlacedRows
 mod SameMembers
