@@ -1,8 +1,8 @@
 -- Rows that are next to each other, and what is found among them.
-use Rattle.std.proofs.Common.{◌≡◌, ◌⊎◌, inl, inr, ℕ, zero, suc, ◌+◌, ◌-◌, ◌<◌, ◌≤◌, Bool, true, false, not, ◌&&◌, ◌||◌, List, [], ◌∷◌, Option, Some, None, drop, length, if◌then◌else◌, nat_lt, refl, sym, ap, ap₂, subst, ◌∙◌, true≢false, arith}
+use Rattle.std.proofs.Common.{◌≡◌, ◌⊎◌, inl, inr, ℕ, zero, suc, ◌+◌, ◌-◌, ◌<◌, Bool, true, false, not, ◌&&◌, List, [], ◌∷◌, Option, Some, None, drop, length, if◌then◌else◌, nat_lt, refl, sym, ap, ap₂, subst, ◌∙◌, arith}
 use Rattle.std.specs.Prelude.{map, slice_get, slice_index_or}
 use Rattle.std.specs.List.{filter}
-use Rattle.std.specs.Option.{is_some, option_or}
+use Rattle.std.specs.Option.{is_some}
 use Rattle.std.proofs.lemmas.Bool.{ltb-true, ltb-false, lt-ltb, le-ltb}
 use Rattle.laws_compare.specs.Content.{FlatPrivilegeRow}
 use Rattle.laws_compare.specs.Decided.{is_covering_row}

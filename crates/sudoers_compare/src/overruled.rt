@@ -1,11 +1,11 @@
 //! Rows that a later row covers.
 
-ghost use Rattle.std.specs.Prelude.{◌≡◌, ℕ, ◌+◌, Bool, List, drop, map, slice_get, Option, IfOk, Some};
+ghost use Rattle.std.specs.Prelude.{◌≡◌, ℕ, ◌+◌, Bool, drop, map, slice_get, Option, IfOk, Some};
 ghost use Rattle.laws_compare.specs.Content.{FlatPrivilegeRow};
 ghost use Rattle.sudoers_compare.specs.FlatRow.{flat_row_of_view};
 ghost use Rattle.sudoers_compare.specs.FlatSpecs.{row_of_placed_view};
 ghost use Rattle.sudoers_compare.specs.NextRows.{first_passing_number, next_numbers_of_all, next_numbers_of_same_command, overruling_among_passing, overruling_of_two, AreNextNumbers};
-ghost use Rattle.sudoers_compare.specs.Overruled.{compared_row_limit, overruling_of_row, overrulings_of_rows};
+ghost use Rattle.sudoers_compare.specs.Overruled.{overruling_of_row, overrulings_of_rows};
 
 use crate::covering::covers_row;
 use crate::flat_row::FlatRow;

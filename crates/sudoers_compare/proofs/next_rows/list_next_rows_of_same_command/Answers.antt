@@ -1,4 +1,4 @@
-use Rattle.std.proofs.Common.{◌≡◌, ◌+◌, ◌-◌, ◌∙◌, Bool, List, Option, Some, Vec, ℕ, ap, arith, drop, if◌then◌else◌, map}
+use Rattle.std.proofs.Common.{◌≡◌, ◌+◌, ◌-◌, ◌∙◌, Bool, List, Some, Vec, ℕ, ap, arith, drop, if◌then◌else◌, map}
 use Rattle.std.specs.Str.{bytes_eq}
 use Rattle.std.specs.declared.alloc.Global.{Global}
 use Rattle.indexmap.specs.IndexMap.{get}
@@ -24,9 +24,10 @@ loop-number-preserved c =
     let passes : List ℕ → FlatPrivilegeRow → Bool = λ bytes later. bytes_eq bytes (command_key later.grant.atom.atom) in
     let eq : Vec ℕ Global → Vec ℕ Global → Bool = λ a b. bytes_eq a.items b.items in
     let behind_is : c.in_ok-behind.behind ≡ first_passing_number (is_row_of_same_command row) number (drop number rows) =
-    c.in_ok-behind.ensures.old ∙ c.loop-number.invariant.2 key ∙ ap (λ (bytes : List ℕ). first_passing_number (passes bytes) number (drop number rows)) key_is in
-    (omega (arith, c.loop-number.invariant.0),
-    one_more_number_is_next is_row_of_same_command rows number fewer row c.loop-number.next.items c.push.new.self.items c.in_ok-behind.behind less stands c.loop-number.invariant.1 behind_is c.in_ok-push.ensures.items,
-    λ other. first_row_one_further_to_front (passes other.items) rows number fewer row (get eq c.loop-number.nearest other) (get eq c.insert.new.self other) less stands (c.loop-number.invariant.2 other)
-        (c.in_ok-behind.ensures.updates.0 other
-        ∙ ap (λ (b : Bool). if b then Some fewer else get eq c.loop-number.nearest other) (bytes_are_alike_either_way key.items other.items ∙ ap (bytes_eq other.items) key_is)))
+    c.in_ok-behind.ensures.old ∙ c.loop-number.invariant.2 key ∙ ap (λ (bytes : List ℕ). first_passing_number (passes bytes) number (drop number rows)) key_is in (
+      omega (arith, c.loop-number.invariant.0),
+      one_more_number_is_next is_row_of_same_command rows number fewer row c.loop-number.next.items c.push.new.self.items c.in_ok-behind.behind less stands c.loop-number.invariant.1 behind_is c.in_ok-push.ensures.items,
+      λ other. first_row_one_further_to_front (passes other.items) rows number fewer row (get eq c.loop-number.nearest other) (get eq c.insert.new.self other) less stands (c.loop-number.invariant.2 other)
+          (c.in_ok-behind.ensures.updates.0 other
+          ∙ ap (λ (b : Bool). if b then Some fewer else get eq c.loop-number.nearest other) (bytes_are_alike_either_way key.items other.items ∙ ap (bytes_eq other.items) key_is)),
+    )

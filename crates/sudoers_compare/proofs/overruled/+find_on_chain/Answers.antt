@@ -1,4 +1,4 @@
-use Rattle.std.proofs.Common.{◌≡◌, ◌+◌, ◌<◌, length, sym, ◌∙◌, drop, map, arith, true≢false}
+use Rattle.std.proofs.Common.{◌+◌, length, sym, ◌∙◌, drop, map, arith, true≢false}
 use Rattle.std.proofs.lemmas.Bool.{lt-ltb, ltb-true}
 use Rattle.sudoers_compare.specs.FlatRow.{flat_row_of_view}
 use Rattle.sudoers_compare.specs.FlatSpecs.{row_of_placed_view}

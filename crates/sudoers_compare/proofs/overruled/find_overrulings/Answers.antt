@@ -1,4 +1,4 @@
-use Rattle.std.proofs.Common.{◌+◌, ◌∙◌, length, map}
+use Rattle.std.proofs.Common.{◌∙◌, map}
 use Rattle.std.specs.Prelude.{slice_index_or}
 use Rattle.sudoers_compare.specs.Overruled.{overrulings_of_rows}
 use Rattle.sudoers_compare.specs.FlatSpecs.{row_of_placed_view}
