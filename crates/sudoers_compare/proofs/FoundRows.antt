@@ -1,5 +1,5 @@
 -- What is found of a row: a row that covers it, or that no row behind it does.
-use Rattle.std.proofs.Common.{◌≡◌, ◌⊎◌, inl, inr, ℕ, zero, suc, ◌+◌, ◌<◌, ◌≤◌, Bool, true, false, not, ◌&&◌, ◌||◌, List, [], ◌∷◌, Option, Some, None, length, if◌then◌else◌, nat_lt, refl, sym, ap, subst, ◌∙◌, true≢false, arith}
+use Rattle.std.proofs.Common.{◌≡◌, ◌⊎◌, inl, inr, ℕ, zero, suc, ◌+◌, ◌<◌, ◌≤◌, Bool, true, false, not, ◌&&◌, ◌||◌, List, [], ◌∷◌, Option, Some, None, length, if◌then◌else◌, refl, sym, ap, subst, ◌∙◌, true≢false, arith}
 use Rattle.std.specs.Prelude.{slice_get}
 use Rattle.std.specs.List.{filter}
 use Rattle.std.specs.Option.{is_some, option_or}
@@ -52,14 +52,19 @@ command_decided_same_has_same_key (atom.Path a m) (atom.Path b n) e = sym (alike
 command_decided_same_has_same_key (atom.Sudoedit m) (atom.Sudoedit n) e = refl
 command_decided_same_has_same_key a b e = absurd (true≢false (sym e))
 
-atom_decided_wider_has_same_key : (wide narrow : Atom) → is_command_atom_wider wide narrow ≡ true → (bytes_eq (command_key narrow) (command_key wide) ≡ true) ⊎ (is_all_atom wide ≡ true)
-atom_decided_wider_has_same_key wide narrow e = elim (true_disjunction_has_true_side (is_all_atom wide || is_same_atom wide narrow) (is_same_command_with_any_arguments wide narrow) e) as (λ _. (bytes_eq (command_key narrow) (command_key wide) ≡ true) ⊎ (is_all_atom wide ≡ true)) [
-  | inl other ↦ elim (true_disjunction_has_true_side (is_all_atom wide) (is_same_atom wide narrow) other) as (λ _. (bytes_eq (command_key narrow) (command_key wide) ≡ true) ⊎ (is_all_atom wide ≡ true)) [
-    | inl all ↦ inr all
-    | inr same ↦ inl ((bytes_eq-Decides (command_key narrow) (command_key wide)).1 (same_atom_has_same_key wide narrow same))
-  ]
-  | inr path ↦ inl ((bytes_eq-Decides (command_key narrow) (command_key wide)).1 (command_decided_same_has_same_key wide narrow path))
-]
+abbrev HasSameKeyOrIsAll : Atom → Atom → Type 0
+HasSameKeyOrIsAll wide narrow = (bytes_eq (command_key narrow) (command_key wide) ≡ true) ⊎ (is_all_atom wide ≡ true)
+
+atom_decided_wider_has_same_key : (wide narrow : Atom) → is_command_atom_wider wide narrow ≡ true → HasSameKeyOrIsAll wide narrow
+atom_decided_wider_has_same_key wide narrow e =
+    let sides = true_disjunction_has_true_side (is_all_atom wide || is_same_atom wide narrow) (is_same_command_with_any_arguments wide narrow) e in
+    elim sides as (λ _. HasSameKeyOrIsAll wide narrow) [
+      | inl other ↦ elim (true_disjunction_has_true_side (is_all_atom wide) (is_same_atom wide narrow) other) as (λ _. HasSameKeyOrIsAll wide narrow) [
+        | inl all ↦ inr all
+        | inr same ↦ inl ((bytes_eq-Decides (command_key narrow) (command_key wide)).1 (same_atom_has_same_key wide narrow same))
+      ]
+      | inr path ↦ inl ((bytes_eq-Decides (command_key narrow) (command_key wide)).1 (command_decided_same_has_same_key wide narrow path))
+    ]
 
 covering_row_has_same_command_or_all : (later row : FlatPrivilegeRow) → is_covering_row later row ≡ true → (is_row_of_same_command row later ≡ true) ⊎ (is_row_of_all later ≡ true)
 covering_row_has_same_command_or_all later row e =
@@ -89,21 +94,29 @@ found_row_covers : (passes : FlatPrivilegeRow → Bool) (row : FlatPrivilegeRow)
     → IsCoveredByNumber row n rows number
 found_row_covers passes row zero n rows number e = absurd (nothing_is_no_item e)
 found_row_covers passes row (suc most) n [] number e = absurd (nothing_is_no_item e)
-found_row_covers passes row (suc most) n (later ∷ rows) number e = elim (found_here_or_further (passes later) (is_covering_row later row) n number (covering_row_number passes row most (n + 1) rows) (covering_row_number passes row (suc most) (n + 1) rows) e) as (λ _. IsCoveredByNumber row n (later ∷ rows) number) [
-  | inl here ↦ (0, omega (arith, here.1), (later, refl, here.0))
-  | inr (inl less) ↦ row_stands_one_further row later n rows number (found_row_covers passes row most (n + 1) rows number less)
-  | inr (inr same) ↦ row_stands_one_further row later n rows number (found_row_covers passes row (suc most) (n + 1) rows number same)
-]
+found_row_covers passes row (suc most) n (later ∷ rows) number e =
+    let less = covering_row_number passes row most (n + 1) rows in
+    let same = covering_row_number passes row (suc most) (n + 1) rows in
+    let where_found = found_here_or_further (passes later) (is_covering_row later row) n number less same e in
+    elim where_found as (λ _. IsCoveredByNumber row n (later ∷ rows) number) [
+      | inl here ↦ (0, omega (arith, here.1), (later, refl, here.0))
+      | inr (inl less) ↦ row_stands_one_further row later n rows number (found_row_covers passes row most (n + 1) rows number less)
+      | inr (inr same) ↦ row_stands_one_further row later n rows number (found_row_covers passes row (suc most) (n + 1) rows number same)
+    ]
 
 found_first_or_second : (a b : Option ℕ) (number : ℕ) → option_or a b ≡ Some number → (a ≡ Some number) ⊎ (b ≡ Some number)
 found_first_or_second None b number e = inr e
 found_first_or_second (Some k) b number e = inl e
 
 overruling_row_covers : (row : FlatPrivilegeRow) (n : ℕ) (behind : List FlatPrivilegeRow) (number : ℕ) → overruling_row_number row n behind ≡ Some number → IsCoveredByNumber row n behind number
-overruling_row_covers row n behind number e = elim (found_first_or_second (covering_row_number (is_row_of_same_command row) row compared_row_limit n behind) (covering_row_number is_row_of_all row compared_row_limit n behind) number e) as (λ _. IsCoveredByNumber row n behind number) [
-  | inl same ↦ found_row_covers (is_row_of_same_command row) row compared_row_limit n behind number same
-  | inr all ↦ found_row_covers is_row_of_all row compared_row_limit n behind number all
-]
+overruling_row_covers row n behind number e =
+    let by_same = covering_row_number (is_row_of_same_command row) row compared_row_limit n behind in
+    let by_all = covering_row_number is_row_of_all row compared_row_limit n behind in
+    let either = found_first_or_second by_same by_all number e in
+    elim either as (λ _. IsCoveredByNumber row n behind number) [
+      | inl same ↦ found_row_covers (is_row_of_same_command row) row compared_row_limit n behind number same
+      | inr all ↦ found_row_covers is_row_of_all row compared_row_limit n behind number all
+    ]
 
 -- the row with this number stands behind row i and covers it
 abbrev pub IsCoveredBehind : List FlatPrivilegeRow → ℕ → ℕ → FlatPrivilegeRow → ℕ → Type 0
@@ -158,10 +171,14 @@ rows_compared_do_not_cover passes row most n [] e few = λ j later stands pass. 
 rows_compared_do_not_cover passes row zero n (x ∷ rows) e few =
     let none = none_passes_here (passes x) x (filter passes rows) few in
     one_more_is_not_covering passes row x rows (λ pass. absurd (true≢false (sym pass ∙ none.0))) (rows_compared_do_not_cover passes row zero (n + 1) rows refl none.1)
-rows_compared_do_not_cover passes row (suc most) n (x ∷ rows) e few = elim (no_more_here_and_further (passes x) (is_covering_row x row) most n x (filter passes rows) (covering_row_number passes row most (n + 1) rows) (covering_row_number passes row (suc most) (n + 1) rows) e few) as (λ _. AreNotCovering passes row (x ∷ rows)) [
-  | inl here ↦ one_more_is_not_covering passes row x rows (λ pass. here.0) (rows_compared_do_not_cover passes row most (n + 1) rows here.1 here.2)
-  | inr other ↦ one_more_is_not_covering passes row x rows (λ pass. absurd (true≢false (sym pass ∙ other.0))) (rows_compared_do_not_cover passes row (suc most) (n + 1) rows other.1 other.2)
-]
+rows_compared_do_not_cover passes row (suc most) n (x ∷ rows) e few =
+    let less = covering_row_number passes row most (n + 1) rows in
+    let same = covering_row_number passes row (suc most) (n + 1) rows in
+    let split = no_more_here_and_further (passes x) (is_covering_row x row) most n x (filter passes rows) less same e few in
+    elim split as (λ _. AreNotCovering passes row (x ∷ rows)) [
+      | inl here ↦ one_more_is_not_covering passes row x rows (λ pass. here.0) (rows_compared_do_not_cover passes row most (n + 1) rows here.1 here.2)
+      | inr other ↦ one_more_is_not_covering passes row x rows (λ pass. absurd (true≢false (sym pass ∙ other.0))) (rows_compared_do_not_cover passes row (suc most) (n + 1) rows other.1 other.2)
+    ]
 
 found_neither : (a b : Option ℕ) → option_or a b ≡ None → (a ≡ None) × (b ≡ None)
 found_neither None b e = (refl, e)

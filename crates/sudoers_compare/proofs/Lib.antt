@@ -1,4 +1,6 @@
+mod Chains
 mod FlatCommands
 mod FoundRows
+mod NextNumbers
 mod PlacedRows
 mod SameMembers

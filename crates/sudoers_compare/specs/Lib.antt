@@ -1,4 +1,5 @@
 pub mod FlatSpecs
 pub mod AllInForce
 pub mod FlatRow
+pub mod NextRows
 pub mod Overruled

@@ -9,6 +9,7 @@ mod flat_rows;
 mod flat_specs;
 mod flattening;
 pub mod laws;
+mod next_rows;
 mod overruled;
 mod runas_specs;
 
@@ -17,4 +18,4 @@ pub use flat_row::{FlatRow, FlatRunasView};
 pub use flat_rows::{PlacedFlatRow, list_flat_rows};
 pub use flat_specs::{FlatCommand, FlatHostGroup, FlatRunas, FlatSpec};
 pub use flattening::flatten_specs;
-pub use overruled::Overruling;
+pub use overruled::{Overruling, find_overrulings};
