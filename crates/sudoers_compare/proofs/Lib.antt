@@ -1,3 +1,4 @@
+mod EqualContents
 mod FlatCommands
 mod FoundRows
 mod PlacedRows
