@@ -1,5 +1,7 @@
 mod EqualContents
 mod FlatCommands
+mod FlatSettings
 mod FoundRows
 mod PlacedRows
 mod SameMembers
+mod SameSettings

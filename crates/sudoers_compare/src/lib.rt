@@ -3,6 +3,7 @@
 
 mod command_atoms;
 mod covering;
+mod flat_defaults;
 mod flat_lists;
 mod flat_row;
 mod flat_rows;
@@ -13,6 +14,9 @@ mod overruled;
 mod runas_specs;
 
 pub use covering::{covers_grant, covers_row};
+pub use flat_defaults::{
+    FlatRunasDefault, FlatScope, flatten_runas_defaults, is_same_runas_default,
+};
 pub use flat_row::{FlatRow, FlatRunasView};
 pub use flat_rows::{PlacedFlatRow, list_flat_rows};
 pub use flat_specs::{FlatCommand, FlatHostGroup, FlatRunas, FlatSpec};
