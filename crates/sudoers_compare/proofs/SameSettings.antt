@@ -20,7 +20,11 @@ use Rattle.sudoers_tree.specs.Definition.{is_equal_kind}
 use Rattle.sudoers_match_list.specs.Flat.{SignedAtom}
 use Rattle.laws_compare.specs.Content.{FlatRunasDefault}
 use Rattle.laws_compare.specs.Decided.{is_same_signed_atom, is_same_flat_list}
-use Rattle.sudoers_compare.specs.FlatDefaults.{is_same_flat_runas_default, is_same_flat_scope}
+use Rattle.sudoers_compare.specs.FlatDefaults.{is_same_flat_scope}
+
+-- their scopes and names are the same
+abbrev pub is_same_flat_runas_default : FlatRunasDefault → FlatRunasDefault → Bool
+is_same_flat_runas_default a b = is_same_flat_scope a.scope b.scope && bytes_eq a.name b.name
 
 -- ---- each is the same as itself
 

@@ -1,7 +1,6 @@
 -- The settings of runas_default that the code holds, their scopes flat.
 use Rattle.std.specs.Prelude.{◌&&◌, Bool, true, false, List, map, Option, Some, None}
 use Rattle.std.specs.Option.{option_map}
-use Rattle.std.specs.Str.{bytes_eq}
 use Rattle.sudoers_grammar.specs.declared.node.Kind.{Kind}
 use Rattle.sudoers_grammar.specs.Node.{Node, Param, Scope}
 use Rattle.sudoers_line_rows.specs.declared.rows.Tables.{Tables}
@@ -34,13 +33,10 @@ flat_runas_defaults_in_params lines scope params = map (flat_runas_default_of li
 abbrev pub flat_runas_defaults_in_node : List Line → Node → List FlatRunasDefault
 flat_runas_defaults_in_node lines says = map (flat_runas_default_of lines) (runas_defaults_in_node says)
 
--- ---- which are the same
+-- ---- which scopes are the same
 
 abbrev pub is_same_flat_scope : Option (Kind × List SignedAtom) → Option (Kind × List SignedAtom) → Bool
 is_same_flat_scope None None = true
 is_same_flat_scope (Some a) (Some b) = is_equal_kind a.0 b.0 && is_same_flat_list a.1 b.1
 is_same_flat_scope None (Some b) = false
 is_same_flat_scope (Some a) None = false
-
-abbrev pub is_same_flat_runas_default : FlatRunasDefault → FlatRunasDefault → Bool
-is_same_flat_runas_default a b = is_same_flat_scope a.scope b.scope && bytes_eq a.name b.name

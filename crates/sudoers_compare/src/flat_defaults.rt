@@ -76,7 +76,6 @@ fn flatten_scope(
 
 /// Appends the setting of the parameter `row` to `settings`, if it sets runas_default. It stands on the line with the number `line`, which
 /// has this scope.
-#[tactic(auto, using(crate::proofs::FlatSettings::settings_behind_one_more))]
 fn append_flat_default_of_param<'a>(
     alloc: Global,
     source: &ExpansionSource<'a, '_>,
@@ -117,7 +116,6 @@ fn append_flat_defaults_of_params<'a>(
 }
 
 /// Appends the settings of runas_default of the line that `row` says to `settings`. It has the number `line`.
-#[tactic(auto, using(crate::proofs::FlatSettings::nothing_behind_settings))]
 fn append_flat_defaults_of_node<'a>(
     alloc: Global,
     source: &ExpansionSource<'a, '_>,
@@ -139,7 +137,6 @@ fn append_flat_defaults_of_node<'a>(
 /// # Errors
 ///
 /// `TooLarge`: a list has more than 65,536 members then. `NoMemory`: memory ran out.
-#[tactic(auto, using(crate::proofs::FlatSettings::settings_of_first_line))]
 pub fn flatten_runas_defaults<'a>(
     alloc: Global,
     source: &ExpansionSource<'a, '_>,

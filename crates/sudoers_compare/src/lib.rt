@@ -1,4 +1,4 @@
-//! Policies as rows with their lists flat, and which rows cover others.
+//! Policies as rows and as settings of runas_default, with their lists flat, and which rows cover others.
 #![tactic(auto)]
 
 mod command_atoms;
