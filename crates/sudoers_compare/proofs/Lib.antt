@@ -1,6 +1,9 @@
 mod Chains
+mod EqualContents
 mod FlatCommands
+mod FlatSettings
 mod FoundRows
 mod NextNumbers
 mod PlacedRows
 mod SameMembers
+mod SameSettings

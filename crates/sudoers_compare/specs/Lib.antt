@@ -1,3 +1,4 @@
+pub mod FlatDefaults
 pub mod FlatSpecs
 pub mod AllInForce
 pub mod FlatRow

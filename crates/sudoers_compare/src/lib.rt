@@ -1,8 +1,9 @@
-//! Policies as rows with their lists flat, and which rows cover others.
+//! Policies as rows and as settings of runas_default, with their lists flat, and which rows cover others.
 #![tactic(auto)]
 
 mod command_atoms;
 mod covering;
+mod flat_defaults;
 mod flat_lists;
 mod flat_row;
 mod flat_rows;
@@ -14,6 +15,9 @@ mod overruled;
 mod runas_specs;
 
 pub use covering::{covers_grant, covers_row};
+pub use flat_defaults::{
+    FlatRunasDefault, FlatScope, flatten_runas_defaults, is_same_runas_default,
+};
 pub use flat_row::{FlatRow, FlatRunasView};
 pub use flat_rows::{PlacedFlatRow, list_flat_rows};
 pub use flat_specs::{FlatCommand, FlatHostGroup, FlatRunas, FlatSpec};

@@ -1,0 +1,189 @@
+//! Settings of runas_default, their scopes flattened.
+
+ghost use Rattle.std.specs.Prelude.{◌≡◌, ◌↔◌, ◌++◌, ◌∷◌, [], ℕ, List, map, true, IfOk, OnOk};
+ghost use Rattle.std.specs.Borrow.{Bor};
+ghost use Rattle.std.specs.Option.{option_map};
+ghost use Rattle.sudoers_line_rows.specs.Tables.{node_in_tables, parameter_in_tables, parameters_of_range_in_tables, scope_in_tables};
+ghost use Rattle.sudoers_line_rows.specs.View.{parameter_of_view};
+ghost use Rattle.sudoers_match.specs.Default.{runas_default_in_param};
+ghost use Rattle.laws_compare.specs.Computed.{content_of_lines, flat_scope_of};
+ghost use Rattle.sudoers_compare.specs.FlatDefaults.{flat_runas_default_in_tables, flat_runas_defaults_in_node, flat_runas_defaults_in_params, flat_scope_in_tables, is_same_flat_scope};
+
+use crate::flat_lists::is_same_flat_list;
+use std::alloc::Global;
+use sudoers_line_rows::{
+    MemberRow, NodeRow, Param, ParamRow, RowRange, RowsOfTable, ScopeRow, Setting, Tables, rows_in,
+};
+use sudoers_match_list::{ExpansionSource, FlattenSizeFault, flatten_member_list};
+use sudoers_tree::{Kind, Operator, is_same_kind};
+
+/// The scope of a Defaults line, its list flat.
+#[derive(Drop)]
+pub struct FlatScope {
+    pub kind: Kind,
+    pub members: Vec<MemberRow>,
+}
+
+/// A setting of runas_default: its scope with its list flat, if it has one, and the name. `line` is the number of its line on the walk,
+/// from 0.
+#[derive(Drop)]
+pub struct FlatRunasDefault<'a> {
+    pub line: usize,
+    pub scope: Option<FlatScope>,
+    pub name: &'a [u8],
+}
+
+/// Returns the value to which `param` sets runas_default, if it sets it.
+fn read_runas_default_param<'a>(param: &Param<'a>) -> Option<&'a [u8]>
+    ensures { option_map (λ (name : Bor (List ℕ)). name.now) result ≡ runas_default_in_param (parameter_of_view param.now) }
+{
+    if param.name != b"runas_default".as_slice() {
+        return None;
+    }
+    if param.negated {
+        return Some(b"root");
+    }
+    match param.setting {
+        Some(
+            Setting {
+                operator: Operator::Set,
+                value,
+            },
+        ) => Some(value),
+        _ => None,
+    }
+}
+
+/// Returns the scope of a Defaults line with its list flat, if it has one.
+fn flatten_scope(
+    alloc: Global,
+    source: &ExpansionSource<'_, '_>,
+    scope: Option<ScopeRow>,
+) -> Result<Option<FlatScope>, FlattenSizeFault>
+    ensures { IfOk result (λ flat. option_map (flat_scope_in_tables source.now.lines.tables.now) flat
+        ≡ option_map (flat_scope_of source.now.policy.now) (option_map (scope_in_tables source.now.lines.tables.now) scope)) }
+{
+    let Some(scope) = scope else {
+        return Ok(None);
+    };
+    let rows = rows_in(source.lines.tables.members.as_slice(), scope.members);
+    let members = flatten_member_list(alloc, source, scope.kind, rows)?;
+    Ok(Some(FlatScope {
+        kind: scope.kind,
+        members,
+    }))
+}
+
+/// Appends the setting of the parameter `row` to `settings`, if it sets runas_default. It stands on the line with the number `line`, which
+/// has this scope.
+fn append_flat_default_of_param<'a>(
+    alloc: Global,
+    source: &ExpansionSource<'a, '_>,
+    line: usize,
+    scope: Option<ScopeRow>,
+    row: &ParamRow,
+    settings: &mut Vec<FlatRunasDefault<'a>>,
+) -> Result<(), FlattenSizeFault>
+    ensures { OnOk result (map (flat_runas_default_in_tables source.now.lines.tables.now) settings.new.items ≡ map (flat_runas_default_in_tables source.now.lines.tables.now) settings.old.items
+        ++ flat_runas_defaults_in_params source.now.policy.now (option_map (scope_in_tables source.now.lines.tables.now) scope) (parameter_in_tables source.now.lines.tables.now row.now ∷ [])) }
+{
+    let tables = source.lines.tables;
+    let Some(name) = read_runas_default_param(&tables.parameter_of_row(row)) else {
+        return Ok(());
+    };
+    let scope = flatten_scope(alloc, source, scope)?;
+    settings.push(FlatRunasDefault { line, scope, name })?;
+    Ok(())
+}
+
+/// Appends the settings of runas_default of a Defaults line to `settings`. It has the number `line` and this scope.
+fn append_flat_defaults_of_params<'a>(
+    alloc: Global,
+    source: &ExpansionSource<'a, '_>,
+    line: usize,
+    scope: Option<ScopeRow>,
+    params: RowRange,
+    settings: &mut Vec<FlatRunasDefault<'a>>,
+) -> Result<(), FlattenSizeFault>
+    ensures { OnOk result (map (flat_runas_default_in_tables source.now.lines.tables.now) settings.new.items ≡ map (flat_runas_default_in_tables source.now.lines.tables.now) settings.old.items
+        ++ flat_runas_defaults_in_params source.now.policy.now (option_map (scope_in_tables source.now.lines.tables.now) scope) (parameters_of_range_in_tables source.now.lines.tables.now params)) }
+{
+    let rows = rows_in(source.lines.tables.params.as_slice(), params);
+    for row in rows {
+        append_flat_default_of_param(alloc, source, line, scope, row, settings)?;
+    }
+    Ok(())
+}
+
+/// Appends the settings of runas_default of the line that `row` says to `settings`. It has the number `line`.
+fn append_flat_defaults_of_node<'a>(
+    alloc: Global,
+    source: &ExpansionSource<'a, '_>,
+    line: usize,
+    row: &NodeRow,
+    settings: &mut Vec<FlatRunasDefault<'a>>,
+) -> Result<(), FlattenSizeFault>
+    ensures { OnOk result (map (flat_runas_default_in_tables source.now.lines.tables.now) settings.new.items ≡ map (flat_runas_default_in_tables source.now.lines.tables.now) settings.old.items
+        ++ flat_runas_defaults_in_node source.now.policy.now (node_in_tables source.now.lines.tables.now row.now)) }
+{
+    let NodeRow::Defaults { scope, params } = row else {
+        return Ok(());
+    };
+    append_flat_defaults_of_params(alloc, source, line, *scope, *params, settings)
+}
+
+/// Returns the settings of runas_default of the policy that `source` has, in file order, their scopes flat.
+///
+/// # Errors
+///
+/// `TooLarge`: a list has more than 65,536 members then. `NoMemory`: memory ran out.
+pub fn flatten_runas_defaults<'a>(
+    alloc: Global,
+    source: &ExpansionSource<'a, '_>,
+) -> Result<Vec<FlatRunasDefault<'a>>, FlattenSizeFault>
+    ensures { IfOk result (λ settings. map (flat_runas_default_in_tables source.now.lines.tables.now) settings.items ≡ (content_of_lines source.now.policy.now).runas_defaults) }
+{
+    let mut settings = Vec::new(alloc);
+    for (line, row) in source.lines.rows.iter().enumerate() {
+        append_flat_defaults_of_node(alloc, source, line, &row.node, &mut settings)?;
+    }
+    Ok(settings)
+}
+
+/// Returns whether `scope` says in `tables` what `other` says in `others`. Either may be absent.
+fn is_same_flat_scope(
+    tables: &Tables,
+    scope: &Option<FlatScope>,
+    others: &Tables,
+    other: &Option<FlatScope>,
+) -> bool
+    ensures { result ≡ is_same_flat_scope (option_map (flat_scope_in_tables tables.now) scope.now) (option_map (flat_scope_in_tables others.now) other.now) }
+{
+    match (scope, other) {
+        (None, None) => true,
+        (Some(scope), Some(other)) => {
+            let members = RowsOfTable {
+                tables,
+                rows: scope.members.as_slice(),
+            };
+            let other_members = RowsOfTable {
+                tables: others,
+                rows: other.members.as_slice(),
+            };
+            is_same_kind(scope.kind, other.kind) && is_same_flat_list(&members, &other_members)
+        }
+        _ => false,
+    }
+}
+
+/// Returns whether `setting` says in `tables` what `other` says in `others`. Their lines do not count.
+pub fn is_same_runas_default(
+    tables: &Tables,
+    setting: &FlatRunasDefault<'_>,
+    others: &Tables,
+    other: &FlatRunasDefault<'_>,
+) -> bool
+    ensures { (result ≡ true) ↔ (flat_runas_default_in_tables tables.now setting.now ≡ flat_runas_default_in_tables others.now other.now) }
+{
+    is_same_flat_scope(tables, &setting.scope, others, &other.scope) && setting.name == other.name
+}
