@@ -1,4 +1,6 @@
 mod FlatCommands
 mod FoundRows
 mod PlacedRows
+mod SameAtoms
 mod SameMembers
+mod SameRows

@@ -97,3 +97,7 @@ placed_rows_of_policy lines = placed_rows_from_line lines 0 lines
 -- a row that the code holds
 abbrev pub placed_row_of_view : PlacedFlatRow → PlacedRow
 placed_row_of_view placed = row_at_place placed.line placed.start (flat_row_of_view placed.row)
+
+-- the same, without its place
+abbrev pub row_of_placed_view : PlacedFlatRow → FlatPrivilegeRow
+row_of_placed_view placed = flat_row_of_view placed.row

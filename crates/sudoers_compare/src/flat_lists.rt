@@ -59,7 +59,7 @@ fn is_same_member(row: &MemberRow, tables: &Tables, other: &MemberRow, others: &
 }
 
 /// Returns whether the flat lists `members` and `others` are the same.
-fn is_same_flat_list(
+pub fn is_same_flat_list(
     members: &RowsOfTable<'_, MemberRow>,
     others: &RowsOfTable<'_, MemberRow>,
 ) -> bool

@@ -11,6 +11,7 @@ mod flattening;
 pub mod laws;
 mod overruled;
 mod runas_specs;
+mod same_row;
 
 pub use covering::{covers_grant, covers_row};
 pub use flat_row::{FlatRow, FlatRunasView};
@@ -18,3 +19,4 @@ pub use flat_rows::{PlacedFlatRow, list_flat_rows};
 pub use flat_specs::{FlatCommand, FlatHostGroup, FlatRunas, FlatSpec};
 pub use flattening::flatten_specs;
 pub use overruled::Overruling;
+pub use same_row::is_same_row;
