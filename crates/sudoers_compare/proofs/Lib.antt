@@ -1,5 +1,6 @@
 mod FlatCommands
 mod FoundRows
+mod MarkedRows
 mod PlacedRows
 mod SameAtoms
 mod SameMembers

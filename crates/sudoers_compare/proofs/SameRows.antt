@@ -118,7 +118,7 @@ option_is_alike : {X : Type 0} (alike : X → X → Bool) → ((x : X) → alike
 option_is_alike alike one None = refl
 option_is_alike alike one (Some x) = one x
 
-list_is_alike : {X : Type 0} (alike : X → X → Bool) → ((x : X) → alike x x ≡ true) → (xs : List X) → are_lists_alike alike xs xs ≡ true
+pub list_is_alike : {X : Type 0} (alike : X → X → Bool) → ((x : X) → alike x x ≡ true) → (xs : List X) → are_lists_alike alike xs xs ≡ true
 list_is_alike alike one [] = refl
 list_is_alike alike one (x ∷ xs) = both_true (one x) (list_is_alike alike one xs)
 

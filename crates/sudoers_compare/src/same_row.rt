@@ -30,10 +30,7 @@ fn is_same_optional_list(
 }
 
 /// Returns whether the Runas_Specs are the same. Either may be absent.
-fn is_same_runas_spec(
-    runas: &Option<FlatRunasView<'_>>,
-    other: &Option<FlatRunasView<'_>>,
-) -> bool
+fn is_same_runas_spec(runas: &Option<FlatRunasView<'_>>, other: &Option<FlatRunasView<'_>>) -> bool
     ensures { result ≡ is_same_flat_runas_spec (option_map flat_runas_spec_of_view runas.now) (option_map flat_runas_spec_of_view other.now) }
 {
     match (runas, other) {
@@ -118,7 +115,7 @@ fn is_same_grant(row: &FlatRow<'_>, other: &FlatRow<'_>) -> bool
 }
 
 /// Returns whether the rows are the same part by part.
-fn has_same_parts(row: &FlatRow<'_>, other: &FlatRow<'_>) -> bool
+pub fn has_same_parts(row: &FlatRow<'_>, other: &FlatRow<'_>) -> bool
     ensures { result ≡ is_same_flat_row (flat_row_of_view row.now) (flat_row_of_view other.now) }
 {
     is_same_flat_list(&row.users, &other.users)
