@@ -6,6 +6,6 @@ mod OverruledRows
 mod SameEffects
 mod SameGrants
 mod ComputedContents
-mod SameAtoms
+pub mod SameAtoms
 mod DecidedCovers
 mod ComputedEffects

@@ -20,7 +20,7 @@ use Rattle.laws_compare.specs.Decided.{is_same_signed_atom}
 pub alike_bytes_are_same : (a b : List ℕ) → bytes_eq a b ≡ true → a ≡ b
 alike_bytes_are_same a b e = (bytes_eq-Decides a b).0 e
 
-alike_truth_values_are_same : (a b : Bool) → is_same_bool a b ≡ true → a ≡ b
+pub alike_truth_values_are_same : (a b : Bool) → is_same_bool a b ≡ true → a ≡ b
 alike_truth_values_are_same true true e = refl
 alike_truth_values_are_same false false e = refl
 alike_truth_values_are_same a b e = absurd (true≢false (sym e))

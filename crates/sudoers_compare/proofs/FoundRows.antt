@@ -12,6 +12,7 @@ use Rattle.sudoers_line_rows.specs.Alike.{is_same_args, is_same_atom}
 use Rattle.sudoers_match_list.specs.Flat.{is_all_atom, has_no_digests}
 use Rattle.laws_compare.specs.Content.{FlatPrivilegeRow}
 use Rattle.laws_compare.specs.Decided.{is_any_arguments, is_command_atom_wider, is_covering_grant, is_covering_row, is_list_wider, is_runas_spec_wider, is_same_command_with_any_arguments, is_time_bound_wider}
+use Rattle.laws_compare.proofs.SameAtoms.{alike_bytes_are_same}
 use Rattle.sudoers_compare.specs.declared.overruled.Overruling.{Overruling}
 use Rattle.sudoers_compare.specs.Overruled.{are_more_than_compared, command_key, compared_row_limit, covering_row_number, is_row_of_all, is_row_of_same_command, overruling_of_row, overruling_row_number, overrulings_of_rows}
 
@@ -26,9 +27,6 @@ nothing_is_no_item e = absurd cc
 true_disjunction_has_true_side : (a b : Bool) → (a || b) ≡ true → (a ≡ true) ⊎ (b ≡ true)
 true_disjunction_has_true_side true b e = inl refl
 true_disjunction_has_true_side false b e = inr e
-
-pub alike_bytes_are_same : (a b : List ℕ) → bytes_eq a b ≡ true → a ≡ b
-alike_bytes_are_same a b e = (bytes_eq-Decides a b).0 e
 
 same_atom_has_same_key : (wide narrow : Atom) → is_same_atom wide narrow ≡ true → command_key narrow ≡ command_key wide
 same_atom_has_same_key atom.All atom.All e = refl

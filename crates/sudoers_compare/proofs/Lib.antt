@@ -3,7 +3,9 @@ mod EqualContents
 mod FlatCommands
 mod FlatSettings
 mod FoundRows
+mod MarkedRows
 mod NextNumbers
 mod PlacedRows
 mod SameMembers
+mod SameRows
 mod SameSettings

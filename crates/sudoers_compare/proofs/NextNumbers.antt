@@ -10,7 +10,8 @@ use Rattle.sudoers_compare.specs.declared.overruled.Overruling.{Overruling}
 use Rattle.sudoers_compare.specs.Overruled.{are_more_than_compared, command_key, compared_row_limit, covering_row_number, is_row_of_all, is_row_of_same_command, overruling_of_row, overrulings_of_rows}
 use Rattle.sudoers_compare.specs.NextRows.{AreNextNumbers, first_passing_number, is_next_row_of_all, next_numbers_of_all, next_numbers_of_same_command, next_row_numbers, overruling_among_passing, overruling_of_two}
 use Rattle.sudoers_compare.proofs.Chains.{tail_from_item, the_overruling, true_or_false}
-use Rattle.sudoers_compare.proofs.FoundRows.{alike_bytes_are_same, nothing_is_no_item, one_item_is_the_other}
+use Rattle.laws_compare.proofs.SameAtoms.{alike_bytes_are_same}
+use Rattle.sudoers_compare.proofs.FoundRows.{nothing_is_no_item, one_item_is_the_other}
 
 -- ---- what the numbers are
 

@@ -49,7 +49,7 @@ fn is_any_arguments(args: &BorrowedArgs<'_>) -> bool
 }
 
 /// Returns whether `atom` and `other` are the same, wherever they stand.
-fn is_same_atom(atom: &BorrowedAtom<'_>, other: &BorrowedAtom<'_>) -> bool
+pub fn is_same_atom(atom: &BorrowedAtom<'_>, other: &BorrowedAtom<'_>) -> bool
     ensures { result ≡ is_same_atom (atom_of_view atom.now) (atom_of_view other.now) }
 {
     match (atom, other) {

@@ -10,9 +10,13 @@ mod flat_rows;
 mod flat_specs;
 mod flattening;
 pub mod laws;
+mod marks;
 mod next_rows;
 mod overruled;
+mod proposed_marks;
+mod row_marks;
 mod runas_specs;
+mod same_row;
 
 pub use covering::{covers_grant, covers_row};
 pub use flat_defaults::{
@@ -22,4 +26,7 @@ pub use flat_row::{FlatRow, FlatRunasView};
 pub use flat_rows::{PlacedFlatRow, list_flat_rows};
 pub use flat_specs::{FlatCommand, FlatHostGroup, FlatRunas, FlatSpec};
 pub use flattening::flatten_specs;
+pub use marks::mark_changed_rows;
 pub use overruled::{Overruling, find_overrulings};
+pub use row_marks::RowMarks;
+pub use same_row::is_same_row;
