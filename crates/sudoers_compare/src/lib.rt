@@ -12,7 +12,6 @@ pub mod laws;
 mod marks;
 mod overruled;
 mod proposed_marks;
-mod row_marks;
 mod runas_specs;
 mod same_row;
 
@@ -21,7 +20,6 @@ pub use flat_row::{FlatRow, FlatRunasView};
 pub use flat_rows::{PlacedFlatRow, list_flat_rows};
 pub use flat_specs::{FlatCommand, FlatHostGroup, FlatRunas, FlatSpec};
 pub use flattening::flatten_specs;
-pub use marks::mark_changed_rows;
+pub use marks::{RowMarks, mark_changed_rows};
 pub use overruled::Overruling;
-pub use row_marks::RowMarks;
 pub use same_row::is_same_row;
