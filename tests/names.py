@@ -38,7 +38,7 @@ VERBS = tuple(
     """
     adapt add advance answer append apply ask bring bump carry change check choose clear close collect compare convert copy
     count create cut decide drop edit enter expand expect explain extend filter_policy find finish flatten flip fold
-    follow forget gather get go guard include inherit insert join keep leave list load locate lock look make mark_all
+    follow forget gather get go guard include inherit insert join keep leave list load locate lock look make mark_all mark_changed
     mark_cyclic mark_reached mark_used match move note open parse pass place plan prepare print prune pull push put
     read record redo remove rename renew replace report_fault resolve respell restart rewrite run search select set settle
     show skip sort spell spend split start store strip swap sync take tell turn undo visit walk write

@@ -1,25 +1,13 @@
 -- Settings of runas_default are the same exactly if they are decided to be the same.
-use Rattle.std.proofs.Common.{◌≡◌, ◌↔◌, ℕ, Bool, true, false, ◌&&◌, ◌==◌, List, [], ◌∷◌, Option, Some, None, refl, sym, ap, ap₂, subst, ◌∙◌, true≢false}
-use Rattle.std.proofs.lemmas.Bool.{and_parts, eq-eqb, eqb-true}
-use Rattle.std.proofs.lemmas.Slice.Eq.{bytes_eq-Decides}
+use Rattle.std.proofs.Common.{◌≡◌, ◌↔◌, ℕ, Bool, true, ◌&&◌, List, Option, Some, None, refl, sym, ap₂, subst, ◌∙◌, true≢false}
+use Rattle.std.proofs.lemmas.Bool.{and_parts}
 use Rattle.std.specs.Str.{bytes_eq}
-use Rattle.sudoers_grammar.specs.Node.{Digest}
-use Rattle.sudoers_grammar.specs.declared.node.Address.{Address}
-use Rattle.sudoers_grammar.specs.declared.node.Args.{Args}
-use Rattle.sudoers_grammar.specs.declared.node.Args.TheVariants as args
-use Rattle.sudoers_grammar.specs.declared.node.Atom.{Atom}
-use Rattle.sudoers_grammar.specs.declared.node.Atom.TheVariants as atom
-use Rattle.sudoers_grammar.specs.declared.node.DigestKind.{DigestKind}
-use Rattle.sudoers_grammar.specs.declared.node.DigestKind.TheVariants as digest
 use Rattle.sudoers_grammar.specs.declared.node.Kind.{Kind}
 use Rattle.sudoers_grammar.specs.declared.node.Kind.TheVariants.{User, Runas, Host, Cmnd}
-use Rattle.sudoers_grammar.specs.declared.node.Mask.{Mask}
-use Rattle.sudoers_grammar.specs.declared.node.Mask.TheVariants as mask
-use Rattle.sudoers_line_rows.specs.Alike.{are_lists_alike, is_same_bool, is_same_digest_kind, is_same_digest, is_same_mask, is_same_args, is_same_atom}
 use Rattle.sudoers_tree.specs.Definition.{is_equal_kind}
 use Rattle.sudoers_match_list.specs.Flat.{SignedAtom}
 use Rattle.laws_compare.specs.Content.{FlatRunasDefault}
-use Rattle.laws_compare.specs.Decided.{is_same_signed_atom, is_same_flat_list}
+use Rattle.laws_compare.specs.Decided.{is_same_flat_list}
 use Rattle.laws_compare.proofs.SameAtoms.{alike_bytes_are_same}
 use Rattle.sudoers_compare.proofs.SameRows.{alike_flat_lists_are_same, both_true, bytes_are_alike, flat_list_is_alike}
 use Rattle.sudoers_compare.specs.FlatDefaults.{is_same_flat_scope}

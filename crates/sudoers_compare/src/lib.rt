@@ -14,7 +14,6 @@ mod marks;
 mod next_rows;
 mod overruled;
 mod proposed_marks;
-mod row_marks;
 mod runas_specs;
 mod same_row;
 
@@ -26,7 +25,6 @@ pub use flat_row::{FlatRow, FlatRunasView};
 pub use flat_rows::{PlacedFlatRow, list_flat_rows};
 pub use flat_specs::{FlatCommand, FlatHostGroup, FlatRunas, FlatSpec};
 pub use flattening::flatten_specs;
-pub use marks::mark_changed_rows;
+pub use marks::{RowMarks, mark_changed_rows};
 pub use overruled::{Overruling, find_overrulings};
-pub use row_marks::RowMarks;
 pub use same_row::is_same_row;
