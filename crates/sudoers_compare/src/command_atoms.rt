@@ -1,4 +1,4 @@
-//! Commands of which one matches what another matches.
+//! Whether one command matches everything that another matches.
 
 ghost use Rattle.std.specs.Prelude.{◌≡◌};
 ghost use Rattle.sudoers_line_rows.specs.Alike.{is_same_args, is_same_atom, is_same_mask};

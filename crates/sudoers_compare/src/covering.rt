@@ -1,4 +1,4 @@
-//! Rows of which one covers another.
+//! Whether one row covers another.
 
 ghost use Rattle.std.specs.Prelude.{◌≡◌};
 ghost use Rattle.laws_compare.specs.Decided.{is_covering_grant, is_covering_row, is_time_bound_wider};

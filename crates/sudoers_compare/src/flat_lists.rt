@@ -1,4 +1,4 @@
-//! Flat lists of which one allows what another allows.
+//! Whether one flat list allows everything that another allows.
 
 ghost use Rattle.std.specs.Prelude.{◌≡◌};
 ghost use Rattle.std.specs.List.{list_any};

@@ -1,4 +1,4 @@
-//! Runas_Specs of which one has each target of another.
+//! Whether one Runas_Spec has every target of another.
 
 ghost use Rattle.std.specs.Prelude.{◌≡◌};
 ghost use Rattle.std.specs.Option.{option_map};
