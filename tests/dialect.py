@@ -76,7 +76,15 @@ ROWS = (
     Row("before an ID", f"{BEGIN}/bin/a x=#5\n", error="main:1:17: syntax error: UnexpectedToken\n", sudo_reads=False),
     Row("before an ID on the next row", f"{BEGIN}/bin/a x=\\\n#5\n", error="main:1:17: syntax error: UnexpectedToken\n", sudo_reads=False),
     Row("behind an escaped byte", f"{BEGIN}/bin/a \\==\n", error="main:1:18: syntax error: UnexpectedToken\n", sudo_reads=False),
-    Row("behind sudoedit", f"{BEGIN}sudoedit =x\n", error="main:1:18: syntax error: UnexpectedToken\n"),
+    Row("behind sudoedit", f"{BEGIN}sudoedit =x\n", f"{BEGIN}sudoedit \\=x\n"),
+    Row("directly behind sudoedit", f"{BEGIN}sudoedit=x, /bin/a\n", f"{BEGIN}sudoedit \\=x, /bin/a\n"),
+    Row("behind a denied sudoedit with a tag", f"{BEGIN}NOEXEC: !sudoedit =x=y\n", f"{BEGIN}NOEXEC: !sudoedit \\=x\\=y\n"),
+    Row("behind sudoedit in an alias", "Cmnd_Alias X = /bin/b, sudoedit =x\nbob ALL=X\n", "Cmnd_Alias X = /bin/b, sudoedit \\=x\nbob ALL=X\n"),
+    Row("behind sudoedit and an argument", f"{BEGIN}sudoedit /a =b\n", f"{BEGIN}sudoedit /a \\=b\n"),
+    Row("alone behind sudoedit", f"{BEGIN}sudoedit = x\n", error="main:1:18: syntax error: UnexpectedToken\n", sudo_reads=False),
+    Row("before an ID behind sudoedit", f"{BEGIN}sudoedit =#5\n", error="main:1:18: syntax error: UnexpectedToken\n", sudo_reads=False),
+    Row("behind a host sudoedit", "bob h, sudoedit = /bin/a : sudoedit = /bin/b\n", sudo_reads=False),
+    Row("behind a value sudoedit", "bob ALL=ROLE=sudoedit /bin/a : sudoedit=/bin/b\n", sudo_reads=False),
 )
 
 SYNTAX_ERROR = "syntax error"

@@ -2,6 +2,9 @@ pub mod LineParts
 pub mod KeptTokens
 pub mod KeptRules
 pub mod KeptLines
+pub mod FreeTokens
+pub mod FreeRules
+pub mod FreeSpecs
 pub mod SameTokens
 pub mod ReadLines
 pub mod AdaptedLines

@@ -19,28 +19,25 @@ use Rattle.sudoers_text.specs.Context.{token_forms_in_context, context_after_tok
 use Rattle.sudoers_text.specs.Token.{AreTokensFrom, IsTokenOfKindAndSize, is_line_end_or_empty, leading_gap_size, next_token_start, units_left_of_place}
 use Rattle.sudoers_text.specs.Adapted.{leads_to_id, begins_with_argument_word, is_equals_among_arguments, is_plain_equals, leads_to_closing_parenthesis, is_colon_in_parentheses, is_lone_colon, respelling_of}
 use Rattle.sudoers_grammar.specs.Piece.{TokenWithBytes, tokens_with_bytes, is_punct, is_mark_of_byte}
-use Rattle.laws_dialect.proofs.KeptTokens.{may_be_equals, begins_with_closing_parenthesis, IsKeptBehind}
+use Rattle.laws_dialect.proofs.KeptTokens.{begins_with_closing_parenthesis, IsKeptBehind}
+use Rattle.laws_dialect.proofs.FreeTokens.{IsFreeIn, other_token_is_no_equals_among_arguments}
 
 -- ---- an `=`
-
-other_token_is_no_equals_among_arguments : (here : TokenContext) (k : TokenKind) (text : List ℕ) → (may_be_equals k && bytes_eq text (codes "=")) ≡ false → is_equals_among_arguments here k text ≡ false
-other_token_is_no_equals_among_arguments context.Arguments kind.Punct text e = e
-other_token_is_no_equals_among_arguments context.QuotedArgument kind.Bad text e = e
-other_token_is_no_equals_among_arguments here k text e = refl
 
 conjunction_around_false_is_false : (a b : Bool) → (a && false && b) ≡ false
 conjunction_around_false_is_false true b = refl
 conjunction_around_false_is_false false b = refl
 
-kept_token_is_no_plain_equals : (here : TokenContext) (left : TokenBefore) (apart : Bool) (t : TokenWithBytes) (ts : List TokenWithBytes) (rest : List ℕ) → IsKeptBehind left t ts
-    → is_plain_equals here left apart t.kind t.text rest ≡ false
-kept_token_is_no_plain_equals here before.Path apart t ts rest kept =
+kept_token_is_no_plain_equals : (here : TokenContext) (left : TokenBefore) (apart : Bool) (t : TokenWithBytes) (ts : List TokenWithBytes) (rest : List ℕ) → IsKeptBehind false left t ts
+    → IsFreeIn here left t → is_plain_equals here left apart t.kind t.text rest ≡ false
+kept_token_is_no_plain_equals here before.Sudoedit apart t ts rest kept free = ap (λ (b : Bool). b && begins_with_argument_word rest && not (leads_to_id false rest)) free
+kept_token_is_no_plain_equals here before.Path apart t ts rest kept free =
     ap (λ (b : Bool). b && begins_with_argument_word rest && not (leads_to_id false rest)) (other_token_is_no_equals_among_arguments here t.kind t.text kept)
-kept_token_is_no_plain_equals here (before.Argument joined) apart t ts rest kept =
+kept_token_is_no_plain_equals here (before.Argument joined) apart t ts rest kept free =
     ap (λ (b : Bool). b && (begins_with_argument_word rest || (joined && not apart)) && not (leads_to_id false rest)) (other_token_is_no_equals_among_arguments here t.kind t.text kept)
-kept_token_is_no_plain_equals here before.OpeningParenthesis apart t ts rest kept =
+kept_token_is_no_plain_equals here before.OpeningParenthesis apart t ts rest kept free =
     conjunction_around_false_is_false (is_equals_among_arguments here t.kind t.text) (not (leads_to_id false rest))
-kept_token_is_no_plain_equals here before.Other apart t ts rest kept =
+kept_token_is_no_plain_equals here before.Other apart t ts rest kept free =
     conjunction_around_false_is_false (is_equals_among_arguments here t.kind t.text) (not (leads_to_id false rest))
 
 -- ---- a `:` between `(` and `)`
@@ -94,7 +91,7 @@ conjunction_of_two_not_both_true_is_false true false never = refl
 conjunction_of_two_not_both_true_is_false false b never = refl
 
 kept_token_is_no_lone_colon : (here : TokenContext) (left : TokenBefore) (t : TokenWithBytes) (line : List ℕ) (stop : ℕ) (ts : List Token) (rest : List ℕ) → rest ≡ drop stop line
-    → IsKeptBehind left t (tokens_with_bytes line ts) → AreTokensFrom (context_after_token here t.kind t.text rest) line stop ts
+    → IsKeptBehind false left t (tokens_with_bytes line ts) → AreTokensFrom (context_after_token here t.kind t.text rest) line stop ts
     → is_lone_colon here left t.kind t.text rest ≡ false
 unfolding is_mark_of_byte
 kept_token_is_no_lone_colon here before.OpeningParenthesis t line stop ts rest rest_is kept are =
@@ -105,6 +102,8 @@ kept_token_is_no_lone_colon here before.OpeningParenthesis t line stop ts rest r
     let both : true ≡ false =
     sym (ap (λ (b : Bool). b && begins_with_closing_parenthesis (tokens_with_bytes line ts)) (colon_in_parentheses_is_mark here t.kind t.text colon) ∙ closing) ∙ kept in
     cc)
+kept_token_is_no_lone_colon here before.Sudoedit t line stop ts rest rest_is kept are =
+    conjunction_around_false_is_false (is_colon_in_parentheses here t.kind t.text) (leads_to_closing_parenthesis rest)
 kept_token_is_no_lone_colon here before.Path t line stop ts rest rest_is kept are =
     conjunction_around_false_is_false (is_colon_in_parentheses here t.kind t.text) (leads_to_closing_parenthesis rest)
 kept_token_is_no_lone_colon here (before.Argument joined) t line stop ts rest rest_is kept are =
@@ -122,8 +121,8 @@ token_of_neither_form_stays_same here left apart k text rest no_equals no_colon 
 
 -- A token that keeps its spelling in a line is respelled as it stands.
 pub kept_token_stays_same : (here : TokenContext) (left : TokenBefore) (apart : Bool) (t : TokenWithBytes) (line : List ℕ) (stop : ℕ) (ts : List Token) (rest : List ℕ) → rest ≡ drop stop line
-    → IsKeptBehind left t (tokens_with_bytes line ts) → AreTokensFrom (context_after_token here t.kind t.text rest) line stop ts
+    → IsKeptBehind false left t (tokens_with_bytes line ts) → IsFreeIn here left t → AreTokensFrom (context_after_token here t.kind t.text rest) line stop ts
     → respelling_of here left apart t.kind t.text rest ≡ respelling.Same
-kept_token_stays_same here left apart t line stop ts rest rest_is kept are =
-    token_of_neither_form_stays_same here left apart t.kind t.text rest (kept_token_is_no_plain_equals here left apart t (tokens_with_bytes line ts) rest kept)
+kept_token_stays_same here left apart t line stop ts rest rest_is kept free are =
+    token_of_neither_form_stays_same here left apart t.kind t.text rest (kept_token_is_no_plain_equals here left apart t (tokens_with_bytes line ts) rest kept free)
     (kept_token_is_no_lone_colon here left t line stop ts rest rest_is kept are)

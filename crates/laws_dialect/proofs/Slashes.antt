@@ -61,6 +61,8 @@ escaped_equals_is_slashed : (left : TokenBefore) (apart : Bool) (bytes others : 
     → IsSlashed (61 ∷ bytes) (prefix_of_respelled respelling.Escaped left apart ++ (61 ∷ others))
 escaped_equals_is_slashed before.Path false bytes others is = equals_with_blank_and_backslash is
 escaped_equals_is_slashed before.Path true bytes others is = equals_with_backslash is
+escaped_equals_is_slashed before.Sudoedit false bytes others is = equals_with_blank_and_backslash is
+escaped_equals_is_slashed before.Sudoedit true bytes others is = equals_with_backslash is
 escaped_equals_is_slashed (before.Argument joined) apart bytes others is = equals_with_backslash is
 escaped_equals_is_slashed before.OpeningParenthesis apart bytes others is = equals_with_backslash is
 escaped_equals_is_slashed before.Other apart bytes others is = equals_with_backslash is

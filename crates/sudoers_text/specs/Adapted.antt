@@ -47,10 +47,11 @@ leads_to_id false (b ∷ rest) =
     else b == 35 && begins_digit rest)
 
 -- An `=` there is of one word with a byte left of it (apart: blanks or continuations stand between) or right of it. The last byte of
--- a path is of no such word: sudo ends the path there.
+-- a path is of no such word, and that of `sudoedit` neither: sudo ends the command there.
 abbrev pub is_in_argument_word : TokenBefore → Bool → List ℕ → Bool
 is_in_argument_word before.Path apart rest = begins_with_argument_word rest
 is_in_argument_word (before.Argument joined) apart rest = begins_with_argument_word rest || (joined && not apart)
+is_in_argument_word before.Sudoedit apart rest = begins_with_argument_word rest
 is_in_argument_word before.OpeningParenthesis apart rest = false
 is_in_argument_word before.Other apart rest = false
 
@@ -90,6 +91,7 @@ is_lone_colon here left k text rest =
 abbrev pub token_before : TokenKind → List ℕ → TokenBefore
 token_before kind.Path text = before.Path
 token_before kind.Arg text = before.Argument (ends_with_argument_word false false text)
+token_before kind.Word text = if bytes_eq text (codes "sudoedit") then before.Sudoedit else before.Other
 token_before kind.Punct text = if bytes_eq text (codes "(") then before.OpeningParenthesis else before.Other
 token_before k text = before.Other
 
@@ -100,11 +102,13 @@ respelling_of here left apart k text rest =
     else (if is_lone_colon here left k text rest then respelling.Blank
     else respelling.Same)
 
--- what is put before the token's text: a backslash, and a blank before that where the path ends there; or a blank in its place
+-- what is put before the token's text: a backslash, and a blank before that where the path or `sudoedit` ends there; or a blank in its
+-- place
 abbrev pub prefix_of_respelled : Respelling → TokenBefore → Bool → List ℕ
 prefix_of_respelled respelling.Same left apart = []
 prefix_of_respelled respelling.Blank left apart = 32 ∷ []
 prefix_of_respelled respelling.Escaped before.Path false = 32 ∷ 92 ∷ []
+prefix_of_respelled respelling.Escaped before.Sudoedit false = 32 ∷ 92 ∷ []
 prefix_of_respelled respelling.Escaped left apart = 92 ∷ []
 
 -- what is left of its text

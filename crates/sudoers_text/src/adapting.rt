@@ -17,6 +17,8 @@ use std::alloc::{AllocError, Global};
 pub enum TokenBefore {
     /// The path of a command.
     Path,
+    /// The word `sudoedit`. Among arguments it is the command.
+    Sudoedit,
     /// A piece of an argument. True: its last byte is of one word with what follows it.
     Argument(bool),
     /// `(`.
@@ -140,6 +142,7 @@ impl TokenBefore {
         match kind {
             TokenKind::Path => TokenBefore::Path,
             TokenKind::Arg => TokenBefore::Argument(ends_with_argument_word(text)),
+            TokenKind::Word if text == b"sudoedit".as_slice() => TokenBefore::Sudoedit,
             TokenKind::Punct if text == b"(".as_slice() => TokenBefore::OpeningParenthesis,
             _ => TokenBefore::Other,
         }
@@ -150,7 +153,7 @@ impl TokenBefore {
         ensures { result ≡ is_in_argument_word self is_apart rest.now }
     {
         match self {
-            TokenBefore::Path => begins_with_argument_word(rest),
+            TokenBefore::Path | TokenBefore::Sudoedit => begins_with_argument_word(rest),
             TokenBefore::Argument(joined) => begins_with_argument_word(rest)
                 || (joined && !is_apart),
             _ => false,
@@ -171,7 +174,9 @@ impl TokenBefore {
         match (respelling, self) {
             (Respelling::Same, _) => b"".as_slice(),
             (Respelling::Blank, _) => b" ".as_slice(),
-            (Respelling::Escaped, TokenBefore::Path) if !is_apart => b" \\".as_slice(),
+            (Respelling::Escaped, TokenBefore::Path | TokenBefore::Sudoedit) if !is_apart => {
+                b" \\".as_slice()
+            }
             (Respelling::Escaped, _) => b"\\".as_slice(),
         }
     }
