@@ -1,7 +1,6 @@
 //! Settings of runas_default, their scopes flattened.
 
 ghost use Rattle.std.specs.Prelude.{◌≡◌, ◌↔◌, ◌++◌, ◌∷◌, [], ℕ, List, map, true, IfOk, OnOk};
-ghost use Rattle.std.specs.Borrow.{Bor};
 ghost use Rattle.std.specs.Option.{option_map};
 ghost use Rattle.sudoers_line_rows.specs.Tables.{node_in_tables, parameter_in_tables, parameters_of_range_in_tables, scope_in_tables};
 ghost use Rattle.sudoers_line_rows.specs.View.{parameter_of_view};
@@ -11,11 +10,10 @@ ghost use Rattle.sudoers_compare.specs.FlatDefaults.{flat_runas_default_in_table
 
 use crate::flat_lists::is_same_flat_list;
 use std::alloc::Global;
-use sudoers_line_rows::{
-    MemberRow, NodeRow, Param, ParamRow, RowRange, RowsOfTable, ScopeRow, Setting, Tables, rows_in,
-};
+use sudoers_line_rows::{MemberRow, NodeRow, ParamRow, RowRange, RowsOfTable, ScopeRow, Tables, rows_in};
+use sudoers_match::read_runas_default_param;
 use sudoers_match_list::{ExpansionSource, FlattenSizeFault, flatten_member_list};
-use sudoers_tree::{Kind, Operator, is_same_kind};
+use sudoers_tree::{Kind, is_same_kind};
 
 /// The scope of a Defaults line, its list flat.
 #[derive(Drop)]
@@ -31,27 +29,6 @@ pub struct FlatRunasDefault<'a> {
     pub line: usize,
     pub scope: Option<FlatScope>,
     pub name: &'a [u8],
-}
-
-/// Returns the value to which `param` sets runas_default, if it sets it.
-fn read_runas_default_param<'a>(param: &Param<'a>) -> Option<&'a [u8]>
-    ensures { option_map (λ (name : Bor (List ℕ)). name.now) result ≡ runas_default_in_param (parameter_of_view param.now) }
-{
-    if param.name != b"runas_default".as_slice() {
-        return None;
-    }
-    if param.negated {
-        return Some(b"root");
-    }
-    match param.setting {
-        Some(
-            Setting {
-                operator: Operator::Set,
-                value,
-            },
-        ) => Some(value),
-        _ => None,
-    }
 }
 
 /// Returns the scope of a Defaults line with its list flat, if it has one.

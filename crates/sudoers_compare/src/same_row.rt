@@ -9,10 +9,9 @@ ghost use Rattle.laws_compare.specs.Decided.{is_same_signed_atom};
 ghost use Rattle.sudoers_compare.specs.FlatRow.{flat_row_of_view, flat_runas_spec_of_view, grant_of_view, optional_signed_atoms_of_view};
 ghost use Rattle.sudoers_compare.specs.SameRow.{are_same_option_values, are_same_tags, is_same_flat_row, is_same_flat_runas_spec, is_same_grant, is_same_option_value, is_same_optional_flat_list, is_same_tag};
 
-use crate::command_atoms::is_same_atom;
 use crate::flat_lists::is_same_flat_list;
 use crate::flat_row::{FlatRow, FlatRunasView};
-use sudoers_line_rows::{Member, MemberRow, RowsOfTable, are_row_lists_alike};
+use sudoers_line_rows::{Member, MemberRow, RowsOfTable, are_row_lists_alike, is_same_atom};
 use sudoers_match::{CommandOptions, CommandTags};
 
 /// Returns whether neither of the flat lists is there, or both are and they are the same.

@@ -96,7 +96,8 @@ pub fn are_row_lists_alike<T: ComparableRow>(
     left.is_empty()
 }
 
-fn is_same_atom(atom: &BorrowedAtom<'_>, other: &BorrowedAtom<'_>) -> bool
+/// Returns whether `atom` and `other` are the same, wherever they stand.
+pub fn is_same_atom(atom: &BorrowedAtom<'_>, other: &BorrowedAtom<'_>) -> bool
     ensures { result ≡ same_atom (atom_of_view atom.now) (atom_of_view other.now) }
 {
     match (atom, other) {
@@ -123,6 +124,7 @@ fn is_same_atom(atom: &BorrowedAtom<'_>, other: &BorrowedAtom<'_>) -> bool
     }
 }
 
+/// Returns whether `mask` and `other` are written the same: bits and a dotted mask are two.
 fn is_same_mask(mask: Mask, other: Mask) -> bool
     ensures { result ≡ same_mask mask other }
 {
@@ -133,6 +135,7 @@ fn is_same_mask(mask: Mask, other: Mask) -> bool
     }
 }
 
+/// Returns whether `args` and `other` say the same of a command's arguments.
 fn is_same_args(args: &BorrowedArgs<'_>, other: &BorrowedArgs<'_>) -> bool
     ensures { result ≡ same_args (args_of_view args.now) (args_of_view other.now) }
 {

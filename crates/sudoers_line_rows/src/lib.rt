@@ -12,7 +12,7 @@ mod table_appending;
 mod view;
 
 pub use alias_members::{find_alias_members, find_aliases_in_list};
-pub use alike::{ComparableRow, are_row_lists_alike};
+pub use alike::{ComparableRow, are_row_lists_alike, is_same_atom};
 pub use row_counts::TableRowCounts;
 pub use row_lists::{RowsOfTable, rows_in};
 pub use rows::{

@@ -25,7 +25,9 @@ pub use matching_host_groups::{HostGroupPlace, find_places_of_matching_host_grou
 pub use near_misses::{MissedPart, NearMiss, list_near_misses};
 pub use options::CommandOptions;
 pub use request_words::{join_words, make_command_with_joined_arguments};
-pub use runas_default_user::{find_runas_default_for, has_runas_default, runas_default};
+pub use runas_default_user::{
+    find_runas_default_for, has_runas_default, read_runas_default_param, runas_default,
+};
 pub use specs_for_users::{SpecOnLine, find_specs_for_users, list_specs_with_lines};
 pub use spellings::{CommandSpellings, SpelledCommandListKind, make_sole_spelling};
 pub use sudoers_match_list::{

@@ -21,7 +21,7 @@ use sudoers_match_member::Who;
 use sudoers_tree::{Kind, Node, Operator, Param, ParamRow, Policy, RowsOfTable, Scope, Setting};
 
 /// Returns the value to which `param` sets runas_default, if it sets it.
-fn read_runas_default_param<'a>(param: &Param<'a>) -> Option<&'a [u8]>
+pub fn read_runas_default_param<'a>(param: &Param<'a>) -> Option<&'a [u8]>
     ensures { option_map (λ (name : Bor (List ℕ)). name.now) result ≡ runas_default_in_param (parameter_of_view param.now) }
 {
     if param.name != b"runas_default".as_slice() {
