@@ -8,11 +8,14 @@ ghost use Rattle.sudoers_match.specs.Default.{runas_default_in_param};
 ghost use Rattle.laws_compare.specs.Computed.{content_of_lines, flat_scope_of};
 ghost use Rattle.sudoers_compare.specs.FlatDefaults.{flat_runas_default_in_tables, flat_runas_defaults_in_node, flat_runas_defaults_in_params, flat_scope_in_tables, is_same_flat_scope};
 
+use crate::counted_lists::flatten_counted_list;
 use crate::flat_lists::is_same_flat_list;
 use std::alloc::Global;
-use sudoers_line_rows::{MemberRow, NodeRow, ParamRow, RowRange, RowsOfTable, ScopeRow, Tables, rows_in};
+use sudoers_line_rows::{
+    MemberRow, NodeRow, ParamRow, RowRange, RowsOfTable, ScopeRow, Tables, rows_in,
+};
 use sudoers_match::read_runas_default_param;
-use sudoers_match_list::{ExpansionSource, FlattenSizeFault, flatten_member_list};
+use sudoers_match_list::{ExpansionSource, FlattenSizeFault};
 use sudoers_tree::{Kind, is_same_kind};
 
 /// The scope of a Defaults line, its list flat.
@@ -31,11 +34,12 @@ pub struct FlatRunasDefault<'a> {
     pub name: &'a [u8],
 }
 
-/// Returns the scope of a Defaults line with its list flat, if it has one.
+/// Returns the scope of a Defaults line with its list flat, if it has one. Its members are taken from `allowance`.
 fn flatten_scope(
     alloc: Global,
     source: &ExpansionSource<'_, '_>,
     scope: Option<ScopeRow>,
+    allowance: &mut usize,
 ) -> Result<Option<FlatScope>, FlattenSizeFault>
     ensures { IfOk result (λ flat. option_map (flat_scope_in_tables source.now.lines.tables.now) flat
         ≡ option_map (flat_scope_of source.now.policy.now) (option_map (scope_in_tables source.now.lines.tables.now) scope)) }
@@ -44,7 +48,7 @@ fn flatten_scope(
         return Ok(None);
     };
     let rows = rows_in(source.lines.tables.members.as_slice(), scope.members);
-    let members = flatten_member_list(alloc, source, scope.kind, rows)?;
+    let members = flatten_counted_list(alloc, source, scope.kind, rows, allowance)?;
     Ok(Some(FlatScope {
         kind: scope.kind,
         members,
@@ -59,6 +63,7 @@ fn append_flat_default_of_param<'a>(
     line: usize,
     scope: Option<ScopeRow>,
     row: &ParamRow,
+    allowance: &mut usize,
     settings: &mut Vec<FlatRunasDefault<'a>>,
 ) -> Result<(), FlattenSizeFault>
     ensures { OnOk result (map (flat_runas_default_in_tables source.now.lines.tables.now) settings.new.items ≡ map (flat_runas_default_in_tables source.now.lines.tables.now) settings.old.items
@@ -68,7 +73,7 @@ fn append_flat_default_of_param<'a>(
     let Some(name) = read_runas_default_param(&tables.parameter_of_row(row)) else {
         return Ok(());
     };
-    let scope = flatten_scope(alloc, source, scope)?;
+    let scope = flatten_scope(alloc, source, scope, allowance)?;
     settings.push(FlatRunasDefault { line, scope, name })?;
     Ok(())
 }
@@ -80,6 +85,7 @@ fn append_flat_defaults_of_params<'a>(
     line: usize,
     scope: Option<ScopeRow>,
     params: RowRange,
+    allowance: &mut usize,
     settings: &mut Vec<FlatRunasDefault<'a>>,
 ) -> Result<(), FlattenSizeFault>
     ensures { OnOk result (map (flat_runas_default_in_tables source.now.lines.tables.now) settings.new.items ≡ map (flat_runas_default_in_tables source.now.lines.tables.now) settings.old.items
@@ -87,7 +93,7 @@ fn append_flat_defaults_of_params<'a>(
 {
     let rows = rows_in(source.lines.tables.params.as_slice(), params);
     for row in rows {
-        append_flat_default_of_param(alloc, source, line, scope, row, settings)?;
+        append_flat_default_of_param(alloc, source, line, scope, row, allowance, settings)?;
     }
     Ok(())
 }
@@ -98,6 +104,7 @@ fn append_flat_defaults_of_node<'a>(
     source: &ExpansionSource<'a, '_>,
     line: usize,
     row: &NodeRow,
+    allowance: &mut usize,
     settings: &mut Vec<FlatRunasDefault<'a>>,
 ) -> Result<(), FlattenSizeFault>
     ensures { OnOk result (map (flat_runas_default_in_tables source.now.lines.tables.now) settings.new.items ≡ map (flat_runas_default_in_tables source.now.lines.tables.now) settings.old.items
@@ -106,23 +113,25 @@ fn append_flat_defaults_of_node<'a>(
     let NodeRow::Defaults { scope, params } = row else {
         return Ok(());
     };
-    append_flat_defaults_of_params(alloc, source, line, *scope, *params, settings)
+    append_flat_defaults_of_params(alloc, source, line, *scope, *params, allowance, settings)
 }
 
-/// Returns the settings of runas_default of the policy that `source` has, in file order, their scopes flat.
+/// Returns the settings of runas_default of the policy that `source` has, in file order, their scopes flat. Their members are
+/// taken from `allowance`, the number of members that all lists may have together.
 ///
 /// # Errors
 ///
-/// `TooLarge`: a list has more than 65,536 members then. `NoMemory`: memory ran out.
+/// `TooLarge`: they have more than `allowance` members then. `NoMemory`: memory ran out.
 pub fn flatten_runas_defaults<'a>(
     alloc: Global,
     source: &ExpansionSource<'a, '_>,
+    allowance: &mut usize,
 ) -> Result<Vec<FlatRunasDefault<'a>>, FlattenSizeFault>
     ensures { IfOk result (λ settings. map (flat_runas_default_in_tables source.now.lines.tables.now) settings.items ≡ (content_of_lines source.now.policy.now).runas_defaults) }
 {
     let mut settings = Vec::new(alloc);
     for (line, row) in source.lines.rows.iter().enumerate() {
-        append_flat_defaults_of_node(alloc, source, line, &row.node, &mut settings)?;
+        append_flat_defaults_of_node(alloc, source, line, &row.node, allowance, &mut settings)?;
     }
     Ok(settings)
 }

@@ -2,6 +2,7 @@
 #![tactic(auto)]
 
 mod command_atoms;
+mod counted_lists;
 mod covering;
 mod flat_defaults;
 mod flat_lists;
