@@ -50,3 +50,7 @@ is_same_grant a b =
 -- The rows say the same.
 abbrev pub is_same_flat_row : FlatPrivilegeRow → FlatPrivilegeRow → Bool
 is_same_flat_row a b = is_same_flat_list a.users b.users && is_same_flat_list a.hosts b.hosts && is_same_grant a.grant b.grant
+
+-- What the grants say of a command is the same: the sign, the tags and the options.
+abbrev pub have_same_effect : Grant → Grant → Bool
+have_same_effect a b = is_same_bool a.atom.allow b.atom.allow && are_same_tags a.tags b.tags && are_same_option_values a.options b.options

@@ -35,7 +35,11 @@ pub struct FlatRunasDefault<'a> {
 }
 
 /// Returns the scope of a Defaults line with its list flat, if it has one. Its members are taken from `allowance`.
-fn flatten_scope(
+///
+/// # Errors
+///
+/// `TooLarge`: the list has more than `allowance` members then. `NoMemory`: memory ran out.
+pub fn flatten_scope(
     alloc: Global,
     source: &ExpansionSource<'_, '_>,
     scope: Option<ScopeRow>,

@@ -20,7 +20,7 @@ mod same_row;
 
 pub use covering::{covers_grant, covers_row};
 pub use flat_defaults::{
-    FlatRunasDefault, FlatScope, flatten_runas_defaults, is_same_runas_default,
+    FlatRunasDefault, FlatScope, flatten_runas_defaults, flatten_scope, is_same_runas_default,
 };
 pub use flat_row::{FlatRow, FlatRunasView};
 pub use flat_rows::{PlacedFlatRow, list_flat_rows};
@@ -28,4 +28,5 @@ pub use flat_specs::{FlatCommand, FlatHostGroup, FlatRunas, FlatSpec};
 pub use flattening::flatten_specs;
 pub use marks::{RowMarks, mark_changed_rows};
 pub use overruled::{Overruling, find_overrulings};
-pub use same_row::is_same_row;
+pub use proposed_marks::{ComparedLists, choose_marks};
+pub use same_row::{has_same_effect, is_same_row};

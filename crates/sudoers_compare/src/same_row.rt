@@ -7,7 +7,7 @@ ghost use Rattle.sudoers_match_list.specs.Flat.{signed_atom_of_member};
 ghost use Rattle.sudoers_match.specs.Values.{option_value_of_view, option_values_of_view};
 ghost use Rattle.laws_compare.specs.Decided.{is_same_signed_atom};
 ghost use Rattle.sudoers_compare.specs.FlatRow.{flat_row_of_view, flat_runas_spec_of_view, grant_of_view, optional_signed_atoms_of_view};
-ghost use Rattle.sudoers_compare.specs.SameRow.{are_same_option_values, are_same_tags, is_same_flat_row, is_same_flat_runas_spec, is_same_grant, is_same_option_value, is_same_optional_flat_list, is_same_tag};
+ghost use Rattle.sudoers_compare.specs.SameRow.{are_same_option_values, are_same_tags, have_same_effect, is_same_flat_row, is_same_flat_runas_spec, is_same_grant, is_same_option_value, is_same_optional_flat_list, is_same_tag};
 
 use crate::flat_lists::is_same_flat_list;
 use crate::flat_row::{FlatRow, FlatRunasView};
@@ -111,6 +111,15 @@ fn is_same_grant(row: &FlatRow<'_>, other: &FlatRow<'_>) -> bool
         && are_same_options(&row.options, &other.options)
         && are_same_tags(&row.tags, &other.tags)
         && is_same_member(&row.member, &other.member)
+}
+
+/// Returns whether the sign, the tags and the options of the rows are the same.
+pub fn has_same_effect(row: &FlatRow<'_>, other: &FlatRow<'_>) -> bool
+    ensures { result ≡ have_same_effect (grant_of_view row.now) (grant_of_view other.now) }
+{
+    row.member.negated == other.member.negated
+        && are_same_tags(&row.tags, &other.tags)
+        && are_same_options(&row.options, &other.options)
 }
 
 /// Returns whether the rows are the same part by part.

@@ -1,0 +1,5 @@
+pub mod ChangedText
+pub mod Faults
+pub mod OverruledText
+pub mod RowText
+pub mod Views

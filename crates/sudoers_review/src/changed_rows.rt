@@ -1,0 +1,113 @@
+//! What is printed of the rows in which two policies differ.
+
+ghost use Rattle.std.specs.Prelude.{◌≡◌, ◌++◌, ℕ, List, drop, codes, map, OnOk, IfOk};
+ghost use Rattle.std.specs.List.{flat_map};
+ghost use Rattle.sudoers_compare.specs.FlatSpecs.{placed_row_of_view};
+ghost use Rattle.sudoers_review.specs.ChangedText.{changed_row_line, changed_row_lines, marked_rows, marked_rows_in_front, rows_behind_first_unmarked, rows_with_marks};
+ghost use Rattle.sudoers_review.specs.Views.{marked_rows_of_view};
+
+use crate::compare_fault::CompareFault;
+use crate::overruled::{TEXT_LIMIT, append_place_of_row};
+use crate::row_text::{append_row, has_long_lists};
+use std::alloc::Global;
+use sudoers_compare::PlacedFlatRow;
+use sudoers_tree::Policy;
+
+/// The rows of a policy, and which of them are marked. A row without a mark is not marked.
+#[derive(Clone, Copy)]
+pub struct MarkedRows<'p, 'r, 'f, 'm> {
+    pub policy: &'p Policy,
+    pub rows: &'r [PlacedFlatRow<'f>],
+    pub marks: &'m [bool],
+}
+
+/// Returns whether the row with this number is marked.
+fn is_marked(marks: &[bool], number: usize) -> bool {
+    match marks.get(number) {
+        Some(mark) => *mark,
+        None => false,
+    }
+}
+
+/// Appends to `out` the line on `placed`, a row of `policy`, behind `sign`.
+fn append_changed_row(
+    alloc: Global,
+    out: &mut Vec<u8>,
+    sign: &[u8],
+    policy: &Policy,
+    placed: &PlacedFlatRow<'_>,
+) -> Result<(), CompareFault>
+    ensures { OnOk result (out.new.items ≡ out.old.items ++ changed_row_line sign.now policy.now (placed_row_of_view placed.now)) }
+{
+    if has_long_lists(&placed.row) || out.len() > TEXT_LIMIT {
+        return Err(CompareFault::TooLarge);
+    }
+    out.extend_from_slice(sign)?;
+    append_row(alloc, out, &placed.row)?;
+    out.extend_from_slice(b"  ")?;
+    append_place_of_row(alloc, out, policy, placed)?;
+    out.extend_from_slice(b"\n")?;
+    Ok(())
+}
+
+/// Appends to `out` the lines on the marked rows of `new` from row `from` on, up to the first row that has no mark. Returns the number of the
+/// row behind that one.
+fn append_rows_in_front(
+    alloc: Global,
+    out: &mut Vec<u8>,
+    new: &MarkedRows<'_, '_, '_, '_>,
+    from: usize,
+) -> Result<usize, CompareFault>
+    ensures lines { OnOk result (out.new.items ≡ out.old.items
+        ++ flat_map (changed_row_line (codes "+ ") new.now.policy.now) (marked_rows_in_front (drop from (marked_rows_of_view new.now)))) }
+    ensures behind { IfOk result (λ number. drop number (marked_rows_of_view new.now) ≡ rows_behind_first_unmarked (drop from (marked_rows_of_view new.now))) }
+{
+    let mut number = from;
+    while number < new.rows.len() && is_marked(new.marks, number) {
+        append_changed_row(alloc, out, b"+ ", new.policy, &new.rows[number])?;
+        number += 1;
+    }
+    if number < new.rows.len() {
+        number += 1;
+    }
+    Ok(number)
+}
+
+/// Appends to `out` the lines on the marked rows of `new` from row `from` on.
+fn append_marked_rows(
+    alloc: Global,
+    out: &mut Vec<u8>,
+    new: &MarkedRows<'_, '_, '_, '_>,
+    from: usize,
+) -> Result<(), CompareFault>
+    ensures { OnOk result (out.new.items ≡ out.old.items
+        ++ flat_map (changed_row_line (codes "+ ") new.now.policy.now) (marked_rows (drop from (marked_rows_of_view new.now)))) }
+{
+    for number in from..new.rows.len() {
+        if is_marked(new.marks, number) {
+            append_changed_row(alloc, out, b"+ ", new.policy, &new.rows[number])?;
+        }
+    }
+    Ok(())
+}
+
+/// Appends to `out` the lines on the marked rows of `old` and `new`. The rows without a mark are the same in both.
+pub fn append_changed_rows(
+    alloc: Global,
+    out: &mut Vec<u8>,
+    old: &MarkedRows<'_, '_, '_, '_>,
+    new: &MarkedRows<'_, '_, '_, '_>,
+) -> Result<(), CompareFault>
+    ensures { OnOk result (out.new.items ≡ out.old.items
+        ++ changed_row_lines old.now.policy.now new.now.policy.now (marked_rows_of_view old.now) (marked_rows_of_view new.now)) }
+{
+    let mut reached = 0;
+    for number in 0..old.rows.len() {
+        if is_marked(old.marks, number) {
+            append_changed_row(alloc, out, b"- ", old.policy, &old.rows[number])?;
+        } else {
+            reached = append_rows_in_front(alloc, out, new, reached)?;
+        }
+    }
+    append_marked_rows(alloc, out, new, reached)
+}

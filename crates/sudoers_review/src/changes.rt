@@ -1,0 +1,76 @@
+//! What is printed of two policies that differ.
+
+ghost use Rattle.std.specs.Prelude.{◌≡◌, ◌⊎◌, ◌++◌, map, IfOk, IfErr, OnOk};
+ghost use Rattle.sudoers_check.specs.Chains.{HasCyclicAliasReachedFromSpecOrDefaults};
+ghost use Rattle.sudoers_review.specs.declared.compare_fault.CompareFault.TheVariants.{Cycle, NoMemory, TooLarge};
+ghost use Rattle.sudoers_compare.specs.FlatSpecs.{placed_row_of_view};
+ghost use Rattle.sudoers_review.specs.ChangedText.{changed_row_lines, rows_with_marks, IsChangesText};
+
+use crate::changed_rows::{MarkedRows, append_changed_rows};
+use crate::changed_settings::append_changed_settings;
+use crate::compare_fault::CompareFault;
+use crate::flat_policy::FlatPolicy;
+use crate::other_defaults::append_changed_other_defaults;
+use std::alloc::Global;
+use sudoers_compare::{PlacedFlatRow, RowMarks, mark_changed_rows};
+use sudoers_tree::Policy;
+
+/// Appends to `out` the lines on the rows of `old` and `new` that are marked.
+fn append_rows_with_marks(
+    alloc: Global,
+    out: &mut Vec<u8>,
+    old: &Policy,
+    old_rows: &[PlacedFlatRow<'_>],
+    new: &Policy,
+    new_rows: &[PlacedFlatRow<'_>],
+    marks: &RowMarks,
+) -> Result<(), CompareFault>
+    ensures { OnOk result (out.new.items ≡ out.old.items ++ changed_row_lines old.now new.now
+        (rows_with_marks marks.now.gone.items (map placed_row_of_view old_rows.now)) (rows_with_marks marks.now.came.items (map placed_row_of_view new_rows.now))) }
+{
+    let gone = MarkedRows {
+        policy: old,
+        rows: old_rows,
+        marks: marks.gone.as_slice(),
+    };
+    let came = MarkedRows {
+        policy: new,
+        rows: new_rows,
+        marks: marks.came.as_slice(),
+    };
+    append_changed_rows(alloc, out, &gone, &came)
+}
+
+/// Returns the lines on what `old` and `new` grant otherwise, the aliases replaced: each row that went behind `-`, and each that came behind `+`,
+/// with its place; then their settings of runas_default, if they differ; then the other parameters of Defaults, on which no answer depends.
+/// Without a line each request has the same answer, tags and options in both.
+///
+/// # Errors
+///
+/// `Cycle`: a reachable alias of one of them is cyclic. `TooLarge`: the lists of one have more than 65,536 members together when their aliases
+/// are replaced, or the lines have more than 16 MiB. `NoMemory`: memory ran out.
+pub fn make_changes_text(alloc: Global, old: &Policy, new: &Policy) -> Result<Vec<u8>, CompareFault>
+    ensures text { IfOk result (λ text. IsChangesText old.now new.now text.items) }
+    ensures straight { IfOk result (λ text. (HasCyclicAliasReachedFromSpecOrDefaults old.now.walk.lines → ⊥) × (HasCyclicAliasReachedFromSpecOrDefaults new.now.walk.lines → ⊥)) }
+    ensures fault { IfErr result (λ fault. (fault ≡ NoMemory) ⊎ ((fault ≡ TooLarge) ⊎ ((fault ≡ Cycle)
+        × (HasCyclicAliasReachedFromSpecOrDefaults old.now.walk.lines ⊎ HasCyclicAliasReachedFromSpecOrDefaults new.now.walk.lines)))) }
+{
+    let old_flat = FlatPolicy::new(alloc, old)?;
+    let new_flat = FlatPolicy::new(alloc, new)?;
+    let old_rows = old_flat.list_rows(alloc)?;
+    let new_rows = new_flat.list_rows(alloc)?;
+    let marks = mark_changed_rows(alloc, old_rows.as_slice(), new_rows.as_slice())?;
+    let mut text = Vec::new(alloc);
+    append_rows_with_marks(
+        alloc,
+        &mut text,
+        old,
+        old_rows.as_slice(),
+        new,
+        new_rows.as_slice(),
+        &marks,
+    )?;
+    append_changed_settings(alloc, &mut text, &old_flat, &new_flat)?;
+    append_changed_other_defaults(alloc, &mut text, &old_flat, &new_flat)?;
+    Ok(text)
+}

@@ -1,0 +1,181 @@
+//! What is printed of commands that never decide.
+
+ghost use Rattle.std.specs.Prelude.{◌≡◌, ◌⊎◌, ◌++◌, List, [], map, IfOk, IfErr, OnOk};
+ghost use Rattle.sudoers_check.specs.Chains.{HasCyclicAliasReachedFromSpecOrDefaults};
+ghost use Rattle.sudoers_compare.specs.FlatSpecs.{placed_row_of_view};
+ghost use Rattle.sudoers_review.specs.declared.compare_fault.CompareFault.TheVariants.{Cycle, NoMemory, TooLarge};
+ghost use Rattle.sudoers_review.specs.OverruledText.{command_text_of_row, overruled_lines, overruled_row_line, overruled_row_line_if_any, overruled_text, place_text_of_row, text_of_overrulings, undecided_rows, undecided_rows_line, useless_or_overruled_words};
+
+use crate::compare_fault::CompareFault;
+use crate::flat_policy::FlatPolicy;
+use std::alloc::{AllocError, Global};
+use sudoers_compare::{Overruling, PlacedFlatRow, find_overrulings, has_same_effect};
+use sudoers_cvt_spell::append_member;
+use sudoers_list::append_place_on_walk_line;
+use sudoers_text::append_decimal_number;
+use sudoers_tree::{Kind, Policy};
+
+/// How many bytes a text has at most that is printed of a comparison.
+pub const TEXT_LIMIT: usize = 16_777_216;
+
+/// Returns what is said of a command that never decides.
+fn choose_words(is_useless: bool) -> &'static [u8]
+    ensures { result.now ≡ useless_or_overruled_words is_useless }
+{
+    if is_useless {
+        b": useless "
+    } else {
+        b": overruled "
+    }
+}
+
+/// Appends to `out` where the command of `placed` stands.
+pub fn append_place_of_row(
+    alloc: Global,
+    out: &mut Vec<u8>,
+    policy: &Policy,
+    placed: &PlacedFlatRow<'_>,
+) -> Result<(), AllocError>
+    ensures { OnOk result (out.new.items ≡ out.old.items ++ place_text_of_row policy.now (placed_row_of_view placed.now)) }
+{
+    append_place_on_walk_line(alloc, out, policy, placed.line, placed.start as usize)
+}
+
+/// Appends the command of `placed` to `out`.
+fn append_command_text(
+    alloc: Global,
+    out: &mut Vec<u8>,
+    placed: &PlacedFlatRow<'_>,
+) -> Result<(), AllocError>
+    ensures { OnOk result (out.new.items ≡ out.old.items ++ command_text_of_row (placed_row_of_view placed.now)) }
+{
+    append_member(alloc, out, false, Kind::Cmnd, &placed.row.member)
+}
+
+/// Appends the line on `placed` to `out`, which `later` covers.
+fn append_overruled_row_line(
+    alloc: Global,
+    out: &mut Vec<u8>,
+    policy: &Policy,
+    placed: &PlacedFlatRow<'_>,
+    later: &PlacedFlatRow<'_>,
+) -> Result<(), AllocError>
+    ensures { OnOk result (out.new.items ≡ out.old.items ++ overruled_row_line policy.now (placed_row_of_view placed.now) (placed_row_of_view later.now)) }
+{
+    append_place_of_row(alloc, out, policy, placed)?;
+    out.extend_from_slice(choose_words(has_same_effect(&placed.row, &later.row)))?;
+    append_command_text(alloc, out, placed)?;
+    out.extend_from_slice(b": ")?;
+    append_place_of_row(alloc, out, policy, later)?;
+    out.extend_from_slice(b" decides\n")
+}
+
+/// Returns the row with this number, if there is one.
+fn find_row<'r, 'f>(
+    rows: &'r [PlacedFlatRow<'f>],
+    number: Option<usize>,
+) -> Option<&'r PlacedFlatRow<'f>> {
+    rows.get(number?)
+}
+
+/// Appends the line on `placed` to `out`, if `later` covers it.
+fn append_line_of_overruling(
+    alloc: Global,
+    out: &mut Vec<u8>,
+    policy: &Policy,
+    placed: &PlacedFlatRow<'_>,
+    later: Option<&PlacedFlatRow<'_>>,
+) -> Result<(), AllocError> {
+    match later {
+        Some(later) => append_overruled_row_line(alloc, out, policy, placed, later),
+        None => Ok(()),
+    }
+}
+
+/// Appends to `out` the lines on those of `rows` that later ones cover. `found` says which.
+fn append_overruled_lines(
+    alloc: Global,
+    out: &mut Vec<u8>,
+    policy: &Policy,
+    rows: &[PlacedFlatRow<'_>],
+    found: &[Overruling],
+) -> Result<(), CompareFault>
+    ensures { OnOk result (out.new.items ≡ out.old.items ++ overruled_lines policy.now (map placed_row_of_view rows.now) (map placed_row_of_view rows.now) found.now) }
+{
+    for number in 0..rows.len().min(found.len()) {
+        let later = find_row(rows, found[number].by);
+        append_line_of_overruling(alloc, out, policy, &rows[number], later)?;
+        if out.len() > TEXT_LIMIT {
+            return Err(CompareFault::TooLarge);
+        }
+    }
+    Ok(())
+}
+
+/// The rows of which it is not decided whether a later one covers them: the number of the first, and how many they are.
+#[derive(Clone, Copy)]
+struct UndecidedRows {
+    first: usize,
+    count: usize,
+}
+
+/// Returns the rows of which it is not decided whether a later one covers them.
+fn count_undecided_rows(found: &[Overruling]) -> UndecidedRows {
+    let mut undecided = UndecidedRows { first: 0, count: 0 };
+    for number in 0..found.len() {
+        if found[number].are_rows_left_out {
+            if undecided.count == 0 {
+                undecided.first = number;
+            }
+            undecided.count += 1;
+        }
+    }
+    undecided
+}
+
+/// Appends to `out` the line on those of `rows` of which it is not decided whether a later one covers them.
+fn append_undecided_rows_line(
+    alloc: Global,
+    out: &mut Vec<u8>,
+    policy: &Policy,
+    rows: &[PlacedFlatRow<'_>],
+    found: &[Overruling],
+) -> Result<(), AllocError>
+    ensures { OnOk result (out.new.items ≡ out.old.items ++ undecided_rows_line policy.now (undecided_rows (map placed_row_of_view rows.now) found.now)) }
+{
+    let undecided = count_undecided_rows(found);
+    if undecided.count == 0 {
+        return Ok(());
+    }
+    let Some(first) = rows.get(undecided.first) else {
+        return Ok(());
+    };
+    append_place_of_row(alloc, out, policy, first)?;
+    out.extend_from_slice(b": not decided: ")?;
+    append_command_text(alloc, out, first)?;
+    out.extend_from_slice(b"; commands with more than 64 later rows: ")?;
+    append_decimal_number(alloc, out, undecided.count)?;
+    out.extend_from_slice(b"\n")
+}
+
+/// Returns a line for each command of `policy` that never decides, since a later row covers its row: where it stands, the command, and where
+/// the later one stands. A command of an alias counts as each of the alias's commands. Behind them stands a line on the rows that have too
+/// many later ones, if there are any.
+///
+/// # Errors
+///
+/// `Cycle`: a reachable alias is cyclic. `TooLarge`: the lists have more than 65,536 members together when their aliases are replaced, or the
+/// lines have more than 16 MiB. `NoMemory`: memory ran out.
+pub fn make_overruled_text(alloc: Global, policy: &Policy) -> Result<Vec<u8>, CompareFault>
+    ensures text { IfOk result (λ text. text.items ≡ overruled_text policy.now) }
+    ensures straight { IfOk result (λ _. HasCyclicAliasReachedFromSpecOrDefaults policy.now.walk.lines → ⊥) }
+    ensures fault { IfErr result (λ fault. (fault ≡ NoMemory) ⊎ ((fault ≡ TooLarge) ⊎ ((fault ≡ Cycle) × HasCyclicAliasReachedFromSpecOrDefaults policy.now.walk.lines))) }
+{
+    let flat = FlatPolicy::new(alloc, policy)?;
+    let rows = flat.list_rows(alloc)?;
+    let found = find_overrulings(alloc, rows.as_slice())?;
+    let mut text = Vec::new(alloc);
+    append_overruled_lines(alloc, &mut text, policy, rows.as_slice(), found.as_slice())?;
+    append_undecided_rows_line(alloc, &mut text, policy, rows.as_slice(), found.as_slice())?;
+    Ok(text)
+}
