@@ -7,7 +7,7 @@ use crate::apply_command::UNDO_FILE;
 use crate::explaining::add_error_options;
 use crate::explaining_edits::EditExplanation;
 use crate::file_trouble::FileTrouble;
-use crate::files::{STDIN, open_disk_files, open_named_file};
+use crate::files::{STDIN, TOP, open_disk_files, open_named_file};
 use crate::files_within_byte_budget::FilesWithinByteBudget;
 use crate::terminal::open_standard_output;
 use crate::wish_options::{has_standard_input_twice, has_wishes};
@@ -257,7 +257,7 @@ pub fn gather_files_to_edit(
     let alloc = rt.alloc();
     let root = policy_name_of_edit_words(words);
     let mut files = FilesWithinByteBudget::new(
-        open_disk_files(rt, words, root)?,
+        open_disk_files(rt, words.get_str(TOP), root)?,
         INPUT_LIMIT.saturating_sub(used),
     );
     let mut found = match gather(alloc, root.as_bytes(), &mut files) {

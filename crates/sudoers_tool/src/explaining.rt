@@ -1,10 +1,11 @@
 //! What is printed behind the error of a command, for people.
 
 use crate::file_trouble::FileTrouble;
-use crate::files::{KeptDisk, STDIN, words_of_error_kind};
+use crate::files::{KeptDisk, STDIN, TOP, words_of_error_kind};
 use crate::installed::are_installed_notes_asked;
 use crate::json_output::is_json_asked;
 use crate::machine::{name_of_group_file, name_of_passwd_file};
+use crate::overruled_notes::{OVERRULED_ERROR_STATUS, are_overruled_notes_asked};
 use crate::target_notes::are_target_notes_asked;
 use crate::terminal::open_standard_error;
 use clap::{Arg, ArgAction, ArgMatches, Command};
@@ -58,7 +59,12 @@ fn make_error_status_option<'a>(alloc: Global) -> Arg<'a> {
 
 /// Returns the exit status of an error of a command with the words `words`.
 pub fn error_status_of_words(words: &ArgMatches<'_>) -> u8 {
-    words.get_one::<u8>(ERROR_STATUS).unwrap_or(1)
+    let status = if are_overruled_notes_asked(words) {
+        OVERRULED_ERROR_STATUS
+    } else {
+        1
+    };
+    words.get_one::<u8>(ERROR_STATUS).unwrap_or(status)
 }
 
 /// Adds to `command` the options that say how its errors are reported.
@@ -93,6 +99,7 @@ pub fn are_files_read_again(rt: &HostRuntime, words: &ArgMatches<'_>) -> bool {
     words.get_flag("all")
         || are_installed_notes_asked(words)
         || are_target_notes_asked(words)
+        || are_overruled_notes_asked(words)
         || are_errors_explained(rt, words)
 }
 
@@ -112,12 +119,12 @@ pub fn explain_outcome(
         Ok(status) if *status == 0 || words.get_flag("quiet") || words.get_flag("all") => {
             return Ok(Vec::new(rt.alloc()));
         }
-        Ok(_) => return explain_policy(rt, words, root, files),
+        Ok(_) => return explain_policy(rt, words.get_str(TOP), root, files),
         Err(trouble) => trouble,
     };
     match trouble.fault() {
         ToolFault::Layer(LayerFault::Gather(_) | LayerFault::Load(_)) => {
-            explain_policy(rt, words, root, files)
+            explain_policy(rt, words.get_str(TOP), root, files)
         }
         fault => Ok(explain_fault_of_words(rt, words, trouble.file(), fault)?),
     }
@@ -130,10 +137,11 @@ pub fn print_explanation(rt: &HostRuntime, text: &[u8]) {
     }
 }
 
-/// Returns the lines that explain why the policy `root` cannot be read; no bytes if it can. `files` are those that were read.
-fn explain_policy(
+/// Returns the lines that explain why the policy `root` cannot be read; no bytes if it can. `files` are those that were read, below the folder
+/// `top` if one is given.
+pub fn explain_policy(
     rt: &HostRuntime,
-    words: &ArgMatches<'_>,
+    top: Option<&str>,
     root: &str,
     files: &mut KeptDisk,
 ) -> Result<Vec<u8>, ToolFault> {
@@ -143,7 +151,7 @@ fn explain_policy(
         Err(fault) => {
             return Ok(explain_gather_fault(
                 rt,
-                words,
+                top,
                 files.files().files().last_requested_name(),
                 fault,
             )?);
@@ -155,17 +163,18 @@ fn explain_policy(
     }
 }
 
-/// Returns the lines that explain why the files of a policy cannot be gathered. The file `name` was asked for last.
+/// Returns the lines that explain why the files of a policy cannot be gathered below the folder `top`, if one is given. The file `name` was asked
+/// for last.
 pub fn explain_gather_fault(
     rt: &HostRuntime,
-    words: &ArgMatches<'_>,
+    top: Option<&str>,
     name: &[u8],
     fault: GatherFault,
 ) -> Result<Vec<u8>, AllocError> {
     let mut text = Vec::new(rt.alloc());
     match fault {
         GatherFault::NoRoot | GatherFault::Device(_) => {
-            let reason = find_reason_of_file(rt, words, name)?;
+            let reason = find_reason_of_file(rt, top, name)?;
             append_reason_of_file(rt.alloc(), &mut text, name, reason)?;
         }
         GatherFault::TooManyFiles => append_help(&mut text, &[b"a policy has at most 256 files"])?,
@@ -345,10 +354,10 @@ fn has_name_that_is_not_utf8(rt: &HostRuntime, path: &str) -> bool {
     false
 }
 
-/// Returns the system's reason why the file `name` cannot be read, below the folder that `words` name, if they name one.
+/// Returns the system's reason why the file `name` cannot be read, below the folder `top` if one is given.
 pub fn find_reason_of_file(
     rt: &HostRuntime,
-    words: &ArgMatches<'_>,
+    top: Option<&str>,
     name: &[u8],
 ) -> Result<&'static str, AllocError> {
     if name == STDIN.as_bytes() {
@@ -357,7 +366,7 @@ pub fn find_reason_of_file(
     let Ok(name) = str::from_utf8(name) else {
         return Ok("its name is not UTF-8");
     };
-    let path = match words.get_str("DIR") {
+    let path = match top {
         Some(dir) => format!(in rt.alloc(); "{dir}/{name}")?,
         None => String::from_str(rt.alloc(), name)?,
     };

@@ -2,7 +2,7 @@
 
 use crate::explaining::{advice_of_fault, append_reason_of_file, explain_gather_fault};
 use crate::file_trouble::FileTrouble;
-use crate::files::{STDIN, words_of_error_kind};
+use crate::files::{STDIN, TOP, words_of_error_kind};
 use clap::ArgMatches;
 use std::alloc::{AllocError, Global};
 use std::fs;
@@ -132,7 +132,7 @@ fn explain_trouble(
     let name = trouble.file().unwrap_or(b"");
     match trouble.fault() {
         ToolFault::Layer(LayerFault::Gather(fault)) => match words {
-            Some(words) => explain_gather_fault(rt, words, name, *fault),
+            Some(words) => explain_gather_fault(rt, words.get_str(TOP), name, *fault),
             None => Ok(Vec::new(rt.alloc())),
         },
         fault => explain_fault_of_file(rt, name, fault),

@@ -23,13 +23,12 @@ pub type Disk = FilesOnDisk<HostRuntime, Stdin>;
 /// The files of the disk and the standard input, each of which is read once, in a dialect.
 pub type KeptDisk = DialectFiles<KeptFiles<Disk>>;
 
-/// Returns the files of the disk for the policy `root`: those below the folder that `words` name, if they name one.
-pub fn open_disk_files(
-    rt: &HostRuntime,
-    words: &ArgMatches<'_>,
-    root: &str,
-) -> Result<Disk, ToolFault> {
-    let top = match words.get_str("DIR") {
+/// The option with the folder below which absolute names are read.
+pub const TOP: &str = "DIR";
+
+/// Returns the files of the disk for the policy `root`: those below the folder `top`, if one is given.
+pub fn open_disk_files(rt: &HostRuntime, top: Option<&str>, root: &str) -> Result<Disk, ToolFault> {
+    let top = match top {
         Some(dir) => Some(String::from_str(rt.alloc(), dir)?),
         None => None,
     };
@@ -37,14 +36,16 @@ pub fn open_disk_files(
     Ok(FilesOnDisk::new(rt.alloc(), rt.clone()?, top, root, rt.stdin()))
 }
 
-/// Returns the files of the disk for the policy `root`, in the dialect that `words` name. Each is kept when it is read, if `is_kept`.
+/// Returns the files of the disk for the policy `root`, below the folder `top` if one is given, in the dialect that `words` name. Each is kept
+/// when it is read, if `is_kept`.
 pub fn open_kept_files(
     rt: &HostRuntime,
     words: &ArgMatches<'_>,
+    top: Option<&str>,
     root: &str,
     is_kept: bool,
 ) -> Result<KeptDisk, ToolFault> {
-    let disk = open_disk_files(rt, words, root)?;
+    let disk = open_disk_files(rt, top, root)?;
     let kept = KeptFiles::new(rt.alloc(), disk, is_kept);
     Ok(DialectFiles::new(kept, dialect_of_words(words)))
 }

@@ -1,7 +1,7 @@
 //! Notes about the disk that has a policy, for `check --installed`: its links, and what sudo or `visudo -c` refuses for an owner or a mode.
 
 use crate::access::{Access, FILE_MODE, Refuser};
-use crate::files::{KeptDisk, STDIN, words_of_error_kind};
+use crate::files::{KeptDisk, STDIN, TOP, words_of_error_kind};
 use crate::json_output::JSON;
 use crate::placed_paths::resolve_existing_name;
 use crate::report_notes::ReportNotes;
@@ -268,7 +268,7 @@ impl PolicyDisk<'_, '_, '_> {
 
     /// Returns what the disk has of the file or the folder `name`, or of that to which it leads as a link.
     fn metadata_of(&self, name: &str) -> io::Result<Metadata> {
-        match self.words.get_str("DIR") {
+        match self.words.get_str(TOP) {
             Some(top) => {
                 let path = resolve_path_below(self.rt, self.alloc(), top, name)?;
                 fs::metadata(self.rt, path.as_str())
@@ -283,7 +283,7 @@ impl PolicyDisk<'_, '_, '_> {
             return Ok(None);
         }
         let path = resolve_existing_name(self.rt, self.words, name)?;
-        let top = self.words.get_str("DIR").unwrap_or("");
+        let top = self.words.get_str(TOP).unwrap_or("");
         match path.as_str().strip_prefix(top) {
             Some("") => Ok(Some(String::from_str(self.alloc(), "/")?)),
             Some(target) => Ok(Some(String::from_str(self.alloc(), target)?)),
@@ -293,7 +293,7 @@ impl PolicyDisk<'_, '_, '_> {
 
     /// Returns whether `name` is a link. The folder in which it stands may be one.
     fn is_link(&self, name: &str) -> io::Result<bool> {
-        let Some(top) = self.words.get_str("DIR") else {
+        let Some(top) = self.words.get_str(TOP) else {
             return Ok(fs::symlink_metadata(self.rt, name)?.is_symlink());
         };
         let (folder, base) = match name.rsplit_once('/') {

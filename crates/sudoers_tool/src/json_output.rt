@@ -1,7 +1,7 @@
 //! The documents of `check --json` and `show --json`, and their errors.
 
 use crate::explaining::{advice_of_fault, find_reason_of_file};
-use crate::files::KeptDisk;
+use crate::files::{KeptDisk, TOP};
 use crate::terminal::open_standard_output;
 use clap::{Arg, ArgAction, ArgMatches};
 use std::alloc::{AllocError, Global};
@@ -236,7 +236,7 @@ pub fn make_list_of_gather_fault(
     let file = files.files().files().last_requested_name();
     let is_of_file = is_fault_of_file(fault);
     let reason = if is_of_file {
-        Some(find_reason_of_file(rt, words, file)?.as_bytes())
+        Some(find_reason_of_file(rt, words.get_str(TOP), file)?.as_bytes())
     } else {
         None
     };

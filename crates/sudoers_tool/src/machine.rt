@@ -1,7 +1,7 @@
 //! The machine that is asked about: its users and groups, its name, and the moment.
 
 use crate::file_trouble::FileTrouble;
-use crate::files::{file_name_of_text, open_disk_files, open_named_file};
+use crate::files::{TOP, file_name_of_text, open_disk_files, open_named_file};
 use clap::ArgMatches;
 use jiff::Timestamp;
 use std::alloc::{AllocError, Global};
@@ -31,7 +31,7 @@ pub fn name_of_machine_file(
     words: &ArgMatches<'_>,
     name: &str,
 ) -> Result<String, AllocError> {
-    let dir = words.get_str("DIR").unwrap_or("");
+    let dir = words.get_str(TOP).unwrap_or("");
     let mut path = String::from_str(alloc, dir.trim_end_matches('/'))?;
     path.push_str(name)?;
     Ok(path)
@@ -86,7 +86,7 @@ fn read_machine_file(
     name: &str,
 ) -> Result<Vec<u8>, FileTrouble> {
     let alloc = rt.alloc();
-    let mut disk = open_disk_files(rt, words, name)?;
+    let mut disk = open_disk_files(rt, words.get_str(TOP), name)?;
     let fault = match disk.read(alloc, name.as_bytes()) {
         Ok(Some(bytes)) => {
             if bytes.len() <= TEXT_LIMIT {

@@ -13,6 +13,7 @@ mod ask_values;
 mod changed_lines;
 mod convert_command;
 mod dialect_option;
+mod diff_command;
 mod edit_command;
 mod explaining;
 mod explaining_edits;
@@ -25,6 +26,7 @@ mod kept_files;
 mod list_command;
 mod machine;
 mod new_faults;
+mod overruled_notes;
 mod place_command;
 mod place_trouble;
 mod placed_files;
@@ -46,6 +48,7 @@ use crate::ask_command::{is_list_with_same_folders, run_ask_command, run_list_wi
 use crate::ask_json::run_ask_as_json;
 use crate::ask_subcommands::{is_ask_command, policy_name_of_ask_words};
 use crate::convert_command::run_convert_command;
+use crate::diff_command::{DIFF, run_diff_command};
 use crate::edit_command::{EDIT, apply_script_to_policy_both_from_stdin, edit_policy_or_stdin};
 use crate::explaining::{
     are_errors_explained, are_files_read_again, error_status_of_words, explain_outcome,
@@ -53,12 +56,13 @@ use crate::explaining::{
 };
 use crate::explaining_edits::EditExplanation;
 use crate::file_trouble::FileTrouble;
-use crate::files::{KeptDisk, open_kept_files};
+use crate::files::{KeptDisk, TOP, open_kept_files};
 use crate::installed::{are_installed_notes_asked, find_installed_notes};
 use crate::json_output::{
     is_json_asked, print_error_document, run_check_as_json, run_show_as_json,
 };
 use crate::list_command::run_list_command;
+use crate::overruled_notes::find_overruled_notes;
 use crate::place_command::{PLACE, run_place_command};
 use crate::plan_command::{PLAN, run_plan_command};
 use crate::show_members::{are_members_asked, run_show_members};
@@ -127,6 +131,7 @@ fn run_matched_command(rt: &HostRuntime, matches: &ArgMatches<'_>) -> ExitCode {
     let status = match matches.subcommand() {
         Some((EDIT, words)) => run_edit_and_print_error(rt, words),
         Some((APPLY, words)) => run_apply_command(rt, words),
+        Some((DIFF, words)) => run_diff_command(rt, words),
         Some((PLACE, words)) => run_place_command(rt, words),
         Some((PLAN, words)) => run_plan_command(rt, words),
         Some((name, words)) if is_ask_command(name) => {
@@ -185,7 +190,7 @@ fn run_named_command_and_print_error(
     words: &ArgMatches<'_>,
 ) -> u8 {
     let is_kept = name == ADAPT || are_files_read_again(rt, words);
-    let mut files = match open_kept_files(rt, words, file, is_kept) {
+    let mut files = match open_kept_files(rt, words, words.get_str(TOP), file, is_kept) {
         Ok(files) => files,
         Err(fault) => return report_fault(rt, &FileTrouble::from(fault), error_status, &[]),
     };
@@ -325,6 +330,7 @@ fn run_check_command(
     let status = print_report_of_check(rt, file, words, files)?;
     installed.print(rt, words)?;
     refused.print(rt, words)?;
+    find_overruled_notes(rt, words, file, files)?.print(rt, words)?;
     let noted = installed
         .status_of_words(words)
         .max(refused.status_of_words(words));

@@ -1,6 +1,6 @@
 //! The paths at which files are put in place.
 
-use crate::files::words_of_error_kind;
+use crate::files::{TOP, words_of_error_kind};
 use crate::place_trouble::{PlaceError, make_place_error};
 use clap::ArgMatches;
 use std::alloc::{AllocError, Global};
@@ -149,7 +149,7 @@ pub fn resolve_existing_name(
     words: &ArgMatches<'_>,
     name: &str,
 ) -> io::Result<String> {
-    match words.get_str("DIR") {
+    match words.get_str(TOP) {
         Some(top) => resolve_path_below(rt, rt.alloc(), top, name),
         None => Ok(fs::canonicalize(rt, name)?.into_string()),
     }

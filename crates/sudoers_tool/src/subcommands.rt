@@ -6,11 +6,14 @@ use crate::apply_command::{APPLY, make_apply_subcommand};
 use crate::ask_subcommands::{make_what_subcommand, make_who_subcommand, make_why_subcommand};
 use crate::convert_command::make_convert_subcommand;
 use crate::dialect_option::make_dialect_option;
+use crate::diff_command::make_diff_subcommand;
 use crate::edit_command::{EDIT, make_edit_subcommand};
 use crate::explaining::add_error_options;
+use crate::files::TOP;
 use crate::installed::make_installed_flag;
 use crate::json_output::make_json_flag;
 use crate::list_command::make_list_subcommand;
+use crate::overruled_notes::make_overruled_flag;
 use crate::place_command::make_place_subcommand;
 use crate::plan_command::{PLAN, make_plan_subcommand};
 use crate::show_members::make_members_flag;
@@ -23,7 +26,7 @@ const VERSION: &str = "0.8.0";
 
 /// What help prints last.
 const EXIT_STATUS: &str =
-    "Exit status: 0 success; 1 an error, a policy that `check` does not pass, a command that `list` does not allow, or something that `plan --check` finds to do; 2 a wrong command line; 3 an error of `apply`, `place`, `plan`, `who`, `what` or `why`. See sudoers_tool(8).";
+    "Exit status: 0 success; 1 an error, a policy that `check` does not pass, a command that `list` does not allow, or something that `plan --check` finds to do; 2 a wrong command line; 3 an error of `apply`, `check --overruled`, `diff`, `place`, `plan`, `who`, `what` or `why`. See sudoers_tool(8).";
 
 /// Returns the command line of `show`.
 fn make_show_subcommand<'a>(alloc: Global) -> Result<Command<'a>, AllocError> {
@@ -41,7 +44,7 @@ pub fn make_top_level_command<'a>(alloc: Global) -> Result<Command<'a>, AllocErr
     Command::new(alloc, "sudoers_tool")
         .version(VERSION)
         .about(
-            "Check, show, edit, plan, apply, place, adapt, convert and list sudoers policies. Without a command, do what `edit` does",
+            "Check, show, compare, edit, plan, apply, place, adapt, convert and list sudoers policies. Without a command, do what `edit` does",
         )
         .after_help(EXIT_STATUS)
         .subcommand(add_error_options(
@@ -62,6 +65,7 @@ pub fn make_top_level_command<'a>(alloc: Global) -> Result<Command<'a>, AllocErr
                 make_policy_file_or_stdin_argument(alloc),
             )?,
         )?)?
+        .subcommand(make_diff_subcommand(alloc)?)?
         .subcommand(make_edit_subcommand(alloc, make_root_folder_option(alloc))?)?
         .subcommand(add_error_options(
             alloc,
@@ -104,6 +108,7 @@ fn make_check_subcommand<'a>(alloc: Global) -> Result<Command<'a>, AllocError> {
         .arg(skipped)?
         .arg(make_installed_flag(alloc)?)?
         .arg(make_target_option(alloc)?)?
+        .arg(make_overruled_flag(alloc)?)?
         .arg(make_dialect_option(alloc))?
         .arg(make_all_flag(alloc))?
         .arg(make_json_flag(alloc))?
@@ -120,7 +125,7 @@ fn make_policy_files_argument<'a>(alloc: Global) -> Arg<'a> {
 
 /// Returns the option with the folder below which absolute names are read.
 fn make_root_folder_option<'a>(alloc: Global) -> Arg<'a> {
-    Arg::new(alloc, "DIR").long("root").help(
+    Arg::new(alloc, TOP).long("root").help(
         "Read FILE and included files as a system does whose root is this folder, as an image; messages name them without it",
     )
 }
