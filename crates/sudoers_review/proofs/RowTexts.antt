@@ -10,8 +10,8 @@ use Rattle.sudoers_grammar.specs.declared.node.OptionName.{OptionName}
 use Rattle.sudoers_grammar.specs.declared.node.Tag.{Tag}
 use Rattle.sudoers_line_rows.specs.declared.row_lists.RowsOfTable.{RowsOfTable}
 use Rattle.sudoers_line_rows.specs.declared.rows.MemberRow.{MemberRow}
-use Rattle.sudoers_line_rows.specs.View.{member_of_view, members_of_view, runas_of_view}
-use Rattle.sudoers_match_list.specs.Flat.{SignedAtom, signed_atom_of_member}
+use Rattle.sudoers_line_rows.specs.View.{member_of_view, runas_of_view}
+use Rattle.sudoers_match_list.specs.Flat.{signed_atom_of_member}
 use Rattle.sudoers_match.specs.declared.command_settings.CommandSettings.{CommandSettings}
 use Rattle.sudoers_match.specs.declared.tags.CommandTags.{CommandTags}
 use Rattle.sudoers_match.specs.Heads.{AccumulatedCommandSettings, final_value_of_option, final_value_of_tag, final_tags_of, given_options_in_order}

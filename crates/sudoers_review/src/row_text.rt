@@ -2,9 +2,9 @@
 
 ghost use Rattle.std.specs.Prelude.{◌≡◌, ◌++◌, map, IfOk, OnOk};
 ghost use Rattle.std.specs.Option.{option_map};
+ghost use Rattle.sudoers_line_rows.specs.View.{members_of_view, runas_of_view};
 ghost use Rattle.sudoers_cvt_spell.specs.Commands.{printed_runas_options_tags_and_command};
 ghost use Rattle.sudoers_compare.specs.FlatRow.{flat_row_of_view, grant_of_view};
-ghost use Rattle.sudoers_line_rows.specs.View.{members_of_view, runas_of_view};
 ghost use Rattle.sudoers_review.specs.RowText.{command_of_grant, printed_row};
 ghost use Rattle.sudoers_review.specs.RowViews.{members_of_optional_view, runas_of_flat_view};
 

@@ -1,4 +1,4 @@
-use Rattle.std.proofs.Common.{◌≡◌, ◌+◌, ◌≤◌, ◌++◌, true, false, List, ℕ, codes, drop, get_or, length, ap, ◌∙◌, arith}
+use Rattle.std.proofs.Common.{◌+◌, ◌≤◌, true, ℕ, drop, get_or, length, ap, ◌∙◌, arith}
 use Rattle.std.proofs.lemmas.Result.{on_ok_weaker}
 use Rattle.sudoers_compare.specs.FlatSpecs.{placed_row_of_view}
 use Rattle.sudoers_review.specs.Views.{marked_rows_of_view}

@@ -1,4 +1,4 @@
-use Rattle.std.proofs.Common.{◌≡◌, ◌+◌, ◌<◌, ◌≤◌, ◌++◌, true, false, List, ℕ, codes, drop, get_or, length, ap, ◌∙◌, arith}
+use Rattle.std.proofs.Common.{◌+◌, ◌≤◌, true, codes, drop, get_or, length, ◌∙◌, arith}
 use Rattle.sudoers_compare.specs.FlatSpecs.{placed_row_of_view}
 use Rattle.sudoers_review.specs.ChangedText.{changed_row_line}
 use Rattle.sudoers_review.specs.Views.{marked_rows_of_view}

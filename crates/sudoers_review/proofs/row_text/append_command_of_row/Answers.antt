@@ -1,4 +1,4 @@
-use Rattle.std.proofs.Common.{◌≡◌, ◌++◌, List, ℕ, ap, ◌∙◌}
+use Rattle.std.proofs.Common.{◌++◌, List, ℕ, ap, ◌∙◌}
 use Rattle.std.proofs.lemmas.Result.{on_ok_weaker}
 use Rattle.sudoers_list.proofs.Passing.{value_on_ok_is_first_choice}
 use Rattle.sudoers_review.proofs.RowTexts.{settings_of_row_are_printed_as_its_grant}
