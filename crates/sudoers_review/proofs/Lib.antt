@@ -1,0 +1,2 @@
+mod RowTexts
+mod ShownRows

@@ -2,4 +2,5 @@ pub mod ChangedText
 pub mod Faults
 pub mod OverruledText
 pub mod RowText
+pub mod RowViews
 pub mod Views

@@ -1,6 +1,6 @@
 //! What is printed of the rows in which two policies differ.
 
-ghost use Rattle.std.specs.Prelude.{◌≡◌, ◌++◌, ℕ, List, drop, codes, map, OnOk, IfOk};
+ghost use Rattle.std.specs.Prelude.{◌≡◌, ◌++◌, ℕ, List, drop, get_or, false, codes, map, OnOk, IfOk};
 ghost use Rattle.std.specs.List.{flat_map};
 ghost use Rattle.sudoers_compare.specs.FlatSpecs.{placed_row_of_view};
 ghost use Rattle.sudoers_review.specs.ChangedText.{changed_row_line, changed_row_lines, marked_rows, marked_rows_in_front, rows_behind_first_unmarked, rows_with_marks};
@@ -22,7 +22,9 @@ pub struct MarkedRows<'p, 'r, 'f, 'm> {
 }
 
 /// Returns whether the row with this number is marked.
-fn is_marked(marks: &[bool], number: usize) -> bool {
+fn is_marked(marks: &[bool], number: usize) -> bool
+    ensures { result ≡ get_or marks.now number false }
+{
     match marks.get(number) {
         Some(mark) => *mark,
         None => false,

@@ -2,9 +2,11 @@
 
 ghost use Rattle.std.specs.Prelude.{◌≡◌, ◌++◌, map, IfOk, OnOk};
 ghost use Rattle.std.specs.Option.{option_map};
+ghost use Rattle.sudoers_line_rows.specs.View.{members_of_view, runas_of_view};
 ghost use Rattle.sudoers_cvt_spell.specs.Commands.{printed_runas_options_tags_and_command};
 ghost use Rattle.sudoers_compare.specs.FlatRow.{flat_row_of_view, grant_of_view};
 ghost use Rattle.sudoers_review.specs.RowText.{command_of_grant, printed_row};
+ghost use Rattle.sudoers_review.specs.RowViews.{members_of_optional_view, runas_of_flat_view};
 
 use std::alloc::{AllocError, Global};
 use sudoers_compare::{FlatRow, FlatRunasView};
@@ -49,7 +51,9 @@ pub fn has_long_lists(row: &FlatRow<'_>) -> bool {
 fn members_of_optional_list<'a>(
     tables: &'a Tables,
     list: Option<RowsOfTable<'a, MemberRow>>,
-) -> RowsOfTable<'a, MemberRow> {
+) -> RowsOfTable<'a, MemberRow>
+    ensures { members_of_view result ≡ members_of_optional_view list.entry }
+{
     match list {
         Some(members) => members,
         None => RowsOfTable { tables, rows: &[] },
@@ -57,7 +61,9 @@ fn members_of_optional_list<'a>(
 }
 
 /// Returns a flat Runas_Spec as one.
-fn runas_spec_of_flat<'a>(tables: &'a Tables, runas: FlatRunasView<'a>) -> RunasSpec<'a> {
+fn runas_spec_of_flat<'a>(tables: &'a Tables, runas: FlatRunasView<'a>) -> RunasSpec<'a>
+    ensures { runas_of_view result ≡ runas_of_flat_view runas.entry }
+{
     RunasSpec {
         users: members_of_optional_list(tables, runas.users),
         groups: members_of_optional_list(tables, runas.groups),
@@ -65,7 +71,11 @@ fn runas_spec_of_flat<'a>(tables: &'a Tables, runas: FlatRunasView<'a>) -> Runas
 }
 
 /// Returns what holds of the command of `row`.
-fn settings_of_row<'a>(row: &FlatRow<'a>) -> CommandSettings<'a> {
+fn settings_of_row<'a>(row: &FlatRow<'a>) -> CommandSettings<'a>
+    ensures runas { option_map runas_of_view result.runas ≡ option_map runas_of_flat_view row.now.runas }
+    ensures options { result.options ≡ row.now.options }
+    ensures tags { result.tags ≡ row.now.tags }
+{
     let runas = match row.runas {
         Some(runas) => Some(runas_spec_of_flat(row.users.tables, runas)),
         None => None,
