@@ -3,20 +3,20 @@
 ghost use Rattle.std.specs.Prelude.{◌≡◌, false};
 ghost use Rattle.sudoers_text.specs.Unit.{is_empty};
 ghost use Rattle.sudoers_forms.specs.Names.{form_or};
-ghost use Rattle.sudoers_forms.specs.Forms.{form_of_gap, form_of_mark, form_of_tag, form_of_text, form_of_word, has_blank, has_second_odd_run, is_behind_sign, is_gap_byte, is_split_first_member, is_split_further_member, is_split_scope, rest_from_lf};
+ghost use Rattle.sudoers_forms.specs.Forms.{begins_bare_quote, bytes_behind_marks, form_of_gap, form_of_mark, form_of_tag, form_of_text, form_of_word, has_blank, has_second_odd_run, is_behind_sign, is_gap_byte, is_quote_of_scope, is_split_first_member, is_split_further_member, is_split_scope, rest_from_lf};
 
 use crate::digest_size::is_digest_of_kind;
 use crate::form::Form;
 use crate::line_part::{LinePart, is_member_kind};
-use crate::member_form::{find_form_of_quoted, find_form_of_word};
+use crate::member_form::{find_form_of_quoted, find_form_of_word, find_form_of_word_of_include};
 use crate::names::{choose_first_form, choose_form_if};
-use crate::spelling::has_byte;
+use crate::spelling::{has_byte, is_numbered, size_of_word};
 use crate::text_form::{
     find_form_of_argument, find_form_of_comment, find_form_of_path, find_form_of_value,
 };
-use crate::words::{is_first_word, is_tag_word};
+use crate::words::is_tag_word;
 use sudoers_grammar::begins_with_byte;
-use sudoers_text::{TokenKind, begins_line_end};
+use sudoers_text::{TokenKind, begins_line_end, leading_blanks_len};
 
 /// A token, and what stands around it.
 #[derive(Clone, Copy)]
@@ -53,21 +53,25 @@ impl TokenInLine<'_> {
         ensures { result ≡ form_of_gap self.now.part self.now.second_before.now self.now.kind_before self.now.before.now self.now.gap.now self.now.kind self.now.text.now }
     {
         if self.before.is_empty() {
-            choose_form_if(
-                has_byte(b'\n', self.gap) && is_first_word(self.text),
-                Form::FirstContinuation,
-            )
+            self.part.find_form_of_first_gap(self.gap, self.text)
         } else if self.part.is_scope() {
             choose_form_if(
                 !self.second_before.is_empty() && self.is_split_scope(),
                 Form::SplitScope,
             )
-        } else {
+        } else if self.part == LinePart::Parameters {
             choose_form_if(
-                self.part == LinePart::Parameters
-                    && is_member_kind(self.kind_before)
+                is_member_kind(self.kind_before)
                     && !(self.kind == TokenKind::Comment || has_blank(self.gap)),
                 Form::ScopeEnd,
+            )
+        } else {
+            self.part.find_form_of_row(
+                self.kind_before,
+                self.before,
+                self.gap,
+                self.kind,
+                self.text,
             )
         }
     }
@@ -110,6 +114,12 @@ impl TokenInLine<'_> {
             TokenKind::Comment => find_form_of_comment(is_empty(self.before), self.text),
             TokenKind::Path => find_form_of_path(self.is_at_return, self.rest, self.text),
             TokenKind::Arg => find_form_of_argument(self.is_last, self.is_at_return, self.text),
+            TokenKind::Word if self.part.is_include() => find_form_of_word_of_include(
+                self.part,
+                self.before,
+                self.rest,
+                self.text,
+            ),
             TokenKind::Word => self.find_form_of_word(),
             TokenKind::Quoted => find_form_of_quoted(self.part, option, self.rest, self.text),
             TokenKind::Id => self.part.find_form_of_name(self.kind, self.text),
@@ -151,7 +161,12 @@ impl TokenInLine<'_> {
         } else if self.text == b":".as_slice() && is_tag_word(self.before) {
             self.find_form_of_tag()
         } else {
-            None
+            choose_form_if(
+                self.part.is_scope_of_names()
+                    && self.before == b"Defaults".as_slice()
+                    && is_quote_of_scope(self.rest.get(1..).unwrap_or(&[])),
+                Form::ScopeQuote,
+            )
         }
     }
 
@@ -168,6 +183,37 @@ impl TokenInLine<'_> {
             choose_form_if(!self.part.has_commands(), Form::TagName)
         }
     }
+}
+
+/// Returns the bytes of `bytes` without the `!` that they begin with.
+fn skip_marks(bytes: &[u8]) -> &[u8]
+    ensures { result.now ≡ bytes_behind_marks bytes.now }
+{
+    let mut rest = bytes;
+    while let Some((first, behind)) = rest.split_first() {
+        if *first != b'!' {
+            break;
+        }
+        rest = behind;
+    }
+    rest
+}
+
+/// Returns whether `bytes` begin with a quote, and neither a word nor a number stands directly behind it.
+fn begins_bare_quote(bytes: &[u8]) -> bool
+    ensures { result ≡ begins_bare_quote bytes.now }
+{
+    match bytes {
+        [b'"', rest @ ..] => size_of_word(rest) == 0 && !is_numbered(rest),
+        _ => false,
+    }
+}
+
+/// Returns whether `bytes`, behind the sign of a scope, begin with a name in quotes that sudo sees no scope in.
+fn is_quote_of_scope(bytes: &[u8]) -> bool
+    ensures { result ≡ is_quote_of_scope bytes.now }
+{
+    begins_bare_quote(skip_marks(&bytes[leading_blanks_len(bytes)..]))
 }
 
 /// Returns whether `gap`, behind the sign of a scope, ends the scope for sudo.
