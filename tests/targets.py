@@ -334,7 +334,7 @@ def run_rows_by_visudo(stand):
 # ---- the page of differences -------------------------------------------------------------
 
 PAGE = "docs/differences.md"
-FEWEST_ON_PAGE = 90
+FEWEST_ON_PAGE = 70
 
 
 def run_page(stand):
