@@ -108,7 +108,7 @@ REFUSED_HERE = (
     error(DIFFERENCES, "one file included twice", " twice"),
     has(DIFFERENCES, "`#include` and `#includedir` make them comments for sudo", r"^[ \t]+#include(?:dir)?[ \t]"),
     has(DIFFERENCES, "`\\x00` in a path", r"include.*\\x00"),
-    has(DIFFERENCES, "`#` at the beginning of a path", r"include(?:dir)?[ \t]+#"),
+    has(DIFFERENCES, "`#` at the beginning of a path", rf"include(?:dir)?{GAP}#"),
     error(DIFFERENCES, "A continuation needs a line behind it", "OpenContinuation"),
     error(DIFFERENCES, "`#` in quotes with nothing behind it", "EmptyName"),
     error(DIFFERENCES, "This tool has no regular expressions", "Regex"),

@@ -197,11 +197,15 @@ begins_bare_quote bytes = has_first_byte 34 bytes && nat_eq (size_as_word (drop 
 abbrev pub is_quote_of_scope : List ℕ → Bool
 is_quote_of_scope bytes = begins_bare_quote (bytes_behind_marks (drop (leading_blanks_size bytes) bytes))
 
+-- the sign of a scope of names, behind the word that begins its line
+abbrev pub form_of_sign : LinePart → List ℕ → List ℕ → Option Form
+form_of_sign p before rest = form_if (is_scope_of_names p && bytes_eq before (codes "Defaults") && is_quote_of_scope (drop 1 rest)) form.ScopeQuote
+
 abbrev pub form_of_mark : LinePart → List ℕ → List ℕ → List ℕ → List ℕ → Option Form
 form_of_mark p before gap rest text =
     if bytes_eq text (codes "!") then form_if (not (is_scope p) && not (bytes_eq before (codes "!")) && has_second_odd_run false false rest) form.SplitMarks
     else (if bytes_eq text (codes ":") && is_tag_word before then form_of_tag p gap
-    else form_if (is_scope_of_names p && bytes_eq before (codes "Defaults") && is_quote_of_scope (drop 1 rest)) form.ScopeQuote)
+    else form_of_sign p before rest)
 
 -- The sign of a scope stands directly before.
 abbrev pub is_behind_sign : List ℕ → List ℕ → Bool

@@ -1,9 +1,9 @@
 //! Why sudo refuses a token, by what stands before it.
 
-ghost use Rattle.std.specs.Prelude.{◌≡◌, false};
+ghost use Rattle.std.specs.Prelude.{◌≡◌, drop, false};
 ghost use Rattle.sudoers_text.specs.Unit.{is_empty};
 ghost use Rattle.sudoers_forms.specs.Names.{form_or};
-ghost use Rattle.sudoers_forms.specs.Forms.{begins_bare_quote, bytes_behind_marks, form_of_gap, form_of_mark, form_of_tag, form_of_text, form_of_word, has_blank, has_second_odd_run, is_behind_sign, is_gap_byte, is_quote_of_scope, is_split_first_member, is_split_further_member, is_split_scope, rest_from_lf};
+ghost use Rattle.sudoers_forms.specs.Forms.{begins_bare_quote, bytes_behind_marks, form_of_gap, form_of_mark, form_of_sign, form_of_tag, form_of_text, form_of_word, has_blank, has_second_odd_run, is_behind_sign, is_gap_byte, is_quote_of_scope, is_split_first_member, is_split_further_member, is_split_scope, rest_from_lf};
 
 use crate::digest_size::is_digest_of_kind;
 use crate::form::Form;
@@ -161,12 +161,7 @@ impl TokenInLine<'_> {
         } else if self.text == b":".as_slice() && is_tag_word(self.before) {
             self.find_form_of_tag()
         } else {
-            choose_form_if(
-                self.part.is_scope_of_names()
-                    && self.before == b"Defaults".as_slice()
-                    && is_quote_of_scope(self.rest.get(1..).unwrap_or(&[])),
-                Form::ScopeQuote,
-            )
+            find_form_of_sign(self.part, self.before, self.rest)
         }
     }
 
@@ -214,6 +209,25 @@ fn is_quote_of_scope(bytes: &[u8]) -> bool
     ensures { result ≡ is_quote_of_scope bytes.now }
 {
     begins_bare_quote(skip_marks(&bytes[leading_blanks_len(bytes)..]))
+}
+
+/// Returns the bytes behind the first one of `rest`.
+fn skip_sign(rest: &[u8]) -> &[u8]
+    ensures { result.now ≡ drop 1 rest.now }
+{
+    rest.get(1..).unwrap_or(&[])
+}
+
+/// Returns why sudo refuses the mark with which `rest` begins, behind the token `before`, if it is the sign of a scope.
+fn find_form_of_sign(part: LinePart, before: &[u8], rest: &[u8]) -> Option<Form>
+    ensures { result ≡ form_of_sign part before.now rest.now }
+{
+    choose_form_if(
+        part.is_scope_of_names()
+            && before == b"Defaults".as_slice()
+            && is_quote_of_scope(skip_sign(rest)),
+        Form::ScopeQuote,
+    )
 }
 
 /// Returns whether `gap`, behind the sign of a scope, ends the scope for sudo.

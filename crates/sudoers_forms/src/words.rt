@@ -1,6 +1,6 @@
 //! Words with a meaning of their own, for sudo 1.9.13 as Debian builds it.
 
-ghost use Rattle.std.specs.Prelude.{◌≡◌};
+ghost use Rattle.std.specs.Prelude.{◌≡◌, drop};
 ghost use Rattle.sudoers_forms.specs.Words.{begins_blank, begins_with_first_word, begins_word_and_blank, is_at_include, is_command_word, is_comment_of_include, is_digest_kind, is_first_word, is_hash_include, is_known_option, is_option, is_tag_word, is_unknown_option};
 
 use sudoers_grammar::begins_with_byte;
@@ -108,7 +108,14 @@ fn begins_with_blank(text: &[u8]) -> bool
 fn begins_with_word_and_blank(word: &[u8], text: &[u8]) -> bool
     ensures { result ≡ begins_word_and_blank word.now text.now }
 {
-    text.starts_with(word) && begins_with_blank(text.get(word.len()..).unwrap_or(&[]))
+    text.starts_with(word) && begins_with_blank(skip_bytes(word.len(), text))
+}
+
+/// Returns the bytes of `text` behind the first `size`.
+fn skip_bytes(size: usize, text: &[u8]) -> &[u8]
+    ensures { result.now ≡ drop size text.now }
+{
+    text.get(size..).unwrap_or(&[])
 }
 
 /// Returns whether the comment `text` begins like an include line.
