@@ -259,14 +259,23 @@ form_of_row p before_kind before gap k text =
     if is_comment k then form_if (is_comment_of_include text && has_last_byte 10 gap && not (is_behind_command before_kind before)) form.IncludeComment
     else form_if (is_word k && not (is_include p) && is_line_word before gap text) form.LineWord
 
+abbrev pub form_of_scope_gap : List ℕ → List ℕ → List ℕ → List ℕ → Option Form
+form_of_scope_gap second_before before gap text = form_if (not (is_empty second_before) && is_split_scope second_before before gap text) form.SplitScope
+
+abbrev pub form_of_parameter_gap : TokenKind → List ℕ → TokenKind → Option Form
+form_of_parameter_gap before_kind gap k = form_if (is_member_kind before_kind && not (is_comment k || has_blank gap)) form.ScopeEnd
+
+abbrev pub form_of_further_gap : LinePart → List ℕ → TokenKind → List ℕ → List ℕ → TokenKind → List ℕ → Option Form
+form_of_further_gap p second_before before_kind before gap k text =
+    if is_scope p then form_of_scope_gap second_before before gap text
+    else (if is_parameters p then form_of_parameter_gap before_kind gap k
+    else form_of_row p before_kind before gap k text)
+
 -- What stands before a token: the part of the token, the text of the second token before it, the kind and the text of the first one, and the
 -- bytes between.
 abbrev pub form_of_gap : LinePart → List ℕ → TokenKind → List ℕ → List ℕ → TokenKind → List ℕ → Option Form
 form_of_gap p second_before before_kind before gap k text =
-    if is_empty before then form_of_first_gap p gap text
-    else (if is_scope p then form_if (not (is_empty second_before) && is_split_scope second_before before gap text) form.SplitScope
-    else (if is_parameters p then form_if (is_member_kind before_kind && not (is_comment k || has_blank gap)) form.ScopeEnd
-    else form_of_row p before_kind before gap k text))
+    if is_empty before then form_of_first_gap p gap text else form_of_further_gap p second_before before_kind before gap k text
 
 -- ---- tokens
 

@@ -3,7 +3,7 @@
 ghost use Rattle.std.specs.Prelude.{◌≡◌, drop, false};
 ghost use Rattle.sudoers_text.specs.Unit.{is_empty};
 ghost use Rattle.sudoers_forms.specs.Names.{form_or};
-ghost use Rattle.sudoers_forms.specs.Forms.{begins_bare_quote, bytes_behind_marks, form_of_gap, form_of_mark, form_of_sign, form_of_tag, form_of_text, form_of_word, has_blank, has_second_odd_run, is_behind_sign, is_gap_byte, is_quote_of_scope, is_split_first_member, is_split_further_member, is_split_scope, rest_from_lf};
+ghost use Rattle.sudoers_forms.specs.Forms.{begins_bare_quote, bytes_behind_marks, form_of_further_gap, form_of_gap, form_of_mark, form_of_parameter_gap, form_of_scope_gap, form_of_sign, form_of_tag, form_of_text, form_of_word, has_blank, has_second_odd_run, is_behind_sign, is_gap_byte, is_quote_of_scope, is_split_first_member, is_split_further_member, is_split_scope, rest_from_lf};
 
 use crate::digest_size::is_digest_of_kind;
 use crate::form::Form;
@@ -54,17 +54,19 @@ impl TokenInLine<'_> {
     {
         if self.before.is_empty() {
             self.part.find_form_of_first_gap(self.gap, self.text)
-        } else if self.part.is_scope() {
-            choose_form_if(
-                !self.second_before.is_empty() && self.is_split_scope(),
-                Form::SplitScope,
-            )
+        } else {
+            self.find_form_of_further_gap()
+        }
+    }
+
+    /// Returns why sudo refuses what stands before the token, which is not the first of its line.
+    fn find_form_of_further_gap(&self) -> Option<Form>
+        ensures { result ≡ form_of_further_gap self.now.part self.now.second_before.now self.now.kind_before self.now.before.now self.now.gap.now self.now.kind self.now.text.now }
+    {
+        if self.part.is_scope() {
+            self.find_form_of_scope_gap()
         } else if self.part == LinePart::Parameters {
-            choose_form_if(
-                is_member_kind(self.kind_before)
-                    && !(self.kind == TokenKind::Comment || has_blank(self.gap)),
-                Form::ScopeEnd,
-            )
+            self.find_form_of_parameter_gap()
         } else {
             self.part.find_form_of_row(
                 self.kind_before,
@@ -74,6 +76,27 @@ impl TokenInLine<'_> {
                 self.text,
             )
         }
+    }
+
+    /// Returns why sudo refuses what stands before the token of a scope.
+    fn find_form_of_scope_gap(&self) -> Option<Form>
+        ensures { result ≡ form_of_scope_gap self.now.second_before.now self.now.before.now self.now.gap.now self.now.text.now }
+    {
+        choose_form_if(
+            !self.second_before.is_empty() && self.is_split_scope(),
+            Form::SplitScope,
+        )
+    }
+
+    /// Returns why sudo refuses what stands before the token among parameters.
+    fn find_form_of_parameter_gap(&self) -> Option<Form>
+        ensures { result ≡ form_of_parameter_gap self.now.kind_before self.now.gap.now self.now.kind }
+    {
+        choose_form_if(
+            is_member_kind(self.kind_before)
+                && !(self.kind == TokenKind::Comment || has_blank(self.gap)),
+            Form::ScopeEnd,
+        )
     }
 
     /// Returns whether the sign of a scope stands directly before the token.
