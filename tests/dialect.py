@@ -46,6 +46,12 @@ BEGIN = "bob ALL="
 ROWS = (
     Row("an option with a value", f"{BEGIN}/bin/a --json=o\n", f"{BEGIN}/bin/a --json\\=o\n"),
     Row("a setting", f"{BEGIN}/usr/bin/env PATH=/usr/lib x\n", f"{BEGIN}/usr/bin/env PATH\\=/usr/lib x\n"),
+    Row("what ceph ships", "ceph ALL=NOPASSWD: /usr/sbin/smartctl -x --json=o /dev/*\n", "ceph ALL=NOPASSWD: /usr/sbin/smartctl -x --json\\=o /dev/*\n"),
+    Row(
+        "what sshuttle prints",
+        "Cmnd_Alias SSHUTTLE304 = /usr/bin/env PYTHONPATH=/usr/lib/python3/dist-packages /usr/bin/python3 /usr/bin/sshuttle *\nbob ALL=NOPASSWD: SSHUTTLE304\n",
+        "Cmnd_Alias SSHUTTLE304 = /usr/bin/env PYTHONPATH\\=/usr/lib/python3/dist-packages /usr/bin/python3 /usr/bin/sshuttle *\nbob ALL=NOPASSWD: SSHUTTLE304\n",
+    ),
     Row("several", f"{BEGIN}/bin/a x=y=z =w\n", f"{BEGIN}/bin/a x\\=y\\=z \\=w\n"),
     Row("two in a row", f"{BEGIN}/bin/a ==\n", f"{BEGIN}/bin/a \\=\\=\n"),
     Row("at the end of a word", f"{BEGIN}/bin/a x=\n", f"{BEGIN}/bin/a x\\=\n"),

@@ -1,13 +1,15 @@
 """Reads mutants of the worked policies with `check --for sudo` and with `visudo -c -f`, which have to agree.
 
-The policies are those that worked_policies.py gathers, the examples among them, without includes. A mutant has one or
-more changes, mostly of whole words, with pieces that sudo and this toolkit may read otherwise. It depends on its policy and
-the seed alone, so that a new policy leaves the mutants of the others as they are.
+The policies are those that worked_policies.py gathers, the examples among them. A mutant has one or more changes, mostly
+of whole words, with pieces that sudo and this toolkit may read otherwise. It depends on its policy and a seed alone, so
+that a new policy leaves the mutants of the others as they are. Beside it lie a file and a folder that pieces name, and
+those that the include lines of the policy name. Policies with include lines are mutated by each seed, the others by the
+first one.
 
 Both read it, or both refuse it: this toolkit by an error or by a note `refused by visudo -c`. A note `read otherwise by
-sudo` or `not decided` goes with both answers of visudo. Any other mutant has to fall under a predicate, which holds of
-its text or of our error. Each predicate has words of a page that describes it, and the test looks them up. Where visudo of
-sudo 1.9.13p3 is not installed, all that is skipped.
+sudo` or `not decided` goes with both answers of visudo. A mutant that visudo refuses may never pass without a note. Any
+other one has to fall under a predicate, which holds of its text or of our error. Each predicate has words of a page that
+describes it, and the test looks them up. Where visudo of sudo 1.9.13p3 is not installed, all that is skipped.
 """
 
 import hashlib
@@ -16,6 +18,7 @@ import random
 import re
 import subprocess
 from collections import Counter
+from concurrent.futures import ThreadPoolExecutor
 from dataclasses import dataclass
 
 import documents
@@ -26,8 +29,10 @@ from stand import Folder, Stand
 from tally import shown
 
 PART = "mutants"
-SEED = 20_261_130
+SEEDS = (20_261_130, 20_261_131, 20_261_132)
+SEED = SEEDS[0]
 MUTANTS, MOST = 3_000, 2_000
+WORKERS = 4
 
 # Less than this would show that mutants got lost: read by both, refused by both, with a note that says so.
 FEWEST = {"both read": 400, "both refuse": 800, "noted": 100}
@@ -37,6 +42,7 @@ PIECES = (
     *("\\*", "\\x41", "\\x00", "\\\t", "=", ":", ",", "(", ")", "/", "^", "$", "*", "~", "@", ".", "\n", "\\,", "\\=", "\\:"),
     *("ALL", "sudoedit", "CWD=/tmp ", "CWD", "TIMEOUT=1h ", "TIMEOUT=x ", "ROLE=r ", "NOPASSWD: ", "NOPASSWD", "MAIL:", "10.0.0.1"),
     *("sha224", "A", "a", "0", "1", "-", "_"),
+    *("@include web\n", "#include web", "@includedir parts\n", "@include", "#include ", " Defaults", "User_Alias", "%h", '"web"', "web\\\n"),
 )
 BYTES = " \t\\\"#%+!,:=()/>azAZ09-_.*?[]^$~@'|{};&\x7f\x01"
 WORDS = re.compile(r"[A-Za-z0-9_./-]+|\s+|.", re.S)
@@ -89,6 +95,7 @@ def error(page, words, name):
 
 
 DIFFERENCES, CHECKS = "docs/differences.md", "docs/checks.md"
+GAP = r"(?:\s|\\\r?\n)*"
 TAGS = r"(?:NO)?(?:EXEC|FOLLOW|INTERCEPT|LOG_INPUT|LOG_OUTPUT|MAIL|PASSWD|SETENV)"
 
 # We refuse it, and visudo reads it.
@@ -98,13 +105,18 @@ REFUSED_HERE = (
     error(DIFFERENCES, "is at most 4,294,967,295", "BadId"),
     error(DIFFERENCES, "Here a time stamp is in UTC", "BadStamp"),
     error(DIFFERENCES, "Here a quote among arguments must be closed", "OpenQuote"),
+    error(DIFFERENCES, "one file included twice", " twice"),
+    has(DIFFERENCES, "`#include` and `#includedir` make them comments for sudo", r"^[ \t]+#include(?:dir)?[ \t]"),
+    has(DIFFERENCES, "`\\x00` in a path", r"include.*\\x00"),
+    has(DIFFERENCES, "`#` at the beginning of a path", rf"include(?:dir)?{GAP}#"),
     error(DIFFERENCES, "A continuation needs a line behind it", "OpenContinuation"),
     error(DIFFERENCES, "`#` in quotes with nothing behind it", "EmptyName"),
     error(DIFFERENCES, "This tool has no regular expressions", "Regex"),
     Predicate(DIFFERENCES, "a quote ends a path", lambda reading: reading.error.endswith("UnexpectedByte") and '"' in reading.text),
+    Predicate(DIFFERENCES, "a quote ends a path", lambda reading: '"' in reading.bytes_at_error() and reading.has(r'/[^\s,:=]*"')),
     has(DIFFERENCES, "sudo begins a comment at a", r"\"[^\"\n]*#"),
     Predicate(DIFFERENCES, "Write a backslash before each `=` among arguments", lambda reading: "=" in reading.bytes_at_error()),
-    has(DIFFERENCES, "colon alone, which sudo reads as `()`", r"\(\s*:\s*\)"),
+    has(DIFFERENCES, "colon alone, which sudo reads as `()`", rf"\({GAP}:{GAP}\)"),
     has(DIFFERENCES, "blanks come between the backslash and the line end", r"\\[ \t]+\r?(?:\n|\Z)"),
     has(DIFFERENCES, "parentheses in a folder", r"C(?:WD|HROOT)\s*=\S*[!()]"),
     has(DIFFERENCES, "something directly behind `sudoedit`", r"sudoedit[^\s,:=#\\]"),
@@ -123,23 +135,33 @@ REFUSED_HERE = (
 NOTED_ALONE = (
     has(CHECKS, "a folder with `!`, `(` or `)`", r"C(?:WD|HROOT)\s*=.*[!()]"),
     has(CHECKS, "`!` directly behind Defaults or its scope, with a blank behind it", r"!\s"),
-    has(CHECKS, "a backslash and CR LF directly behind a keyword with blanks before it", r"^[ \t]+\w+\\\r\n"),
+    has(CHECKS, "a backslash and CR LF directly behind a keyword with blanks before it", r"^[ \t]+@?\w+\\\r\n"),
     has(CHECKS, "a time with a backslash as the value of `TIMEOUT`", r"TIMEOUT\s*=\s*\S*\\"),
-    has(CHECKS, "a name that begins with `^` and has several `$`", r"\^\S*\$\S*\$"),
     has(CHECKS, "a continuation alone behind `!` in a scope", r"!(?:\\\r?\n)"),
 )
 
-# We read it without a note, and visudo refuses it.
-PASSED_ALONE = (
-    has(CHECKS, "a name that begins with `^`, where a `$` follows further on", r"(?:^|[\s,!(=:@>])\^.*\$"),
-    has(CHECKS, "in quotes a sign and continuations alone", r"\"[%+]:?(?:\\\r?\n\s*)+\""),
-    has(CHECKS, "a scope that begins with a quoted name whose first byte is a blank or a mark", r"Defaults[:@>]\s*!*\""),
-)
+# An include line with the name of a file or a folder, perhaps a path from the root.
+INCLUDED = re.compile(r'(include(?:dir)?[ \t]+"?)(/(?:etc/)?)?([\w.-]+)')
+RULE = "bob h = ALL\n"
 
 
-def is_alone(text):
-    """Returns whether a text has no include, and no NUL."""
-    return "include" not in text and "\0" not in text
+def beside(text):
+    """Returns the files that lie beside the mutants of a text."""
+    tree = {"web": RULE, "parts/a": RULE}
+    for words, _, name in INCLUDED.findall(text):
+        if name.strip(".") and name not in ("p", "parts") and f"{name}/a" not in tree:
+            tree[f"{name}/a" if words.startswith("includedir") and name not in tree else name] = RULE
+    return tree
+
+
+def has_include(text):
+    """Returns whether a text may have an include line."""
+    return "include" in text
+
+
+def is_run(text):
+    """Returns whether a text has no NUL."""
+    return "\0" not in text
 
 
 def order_of(text):
@@ -148,9 +170,20 @@ def order_of(text):
 
 
 def policies():
-    """Returns the texts that are changed."""
-    texts = (text.decode("latin-1") for text in worked_policies.texts(MOST))
-    return sorted(filter(is_alone, texts), key=order_of)[:MUTANTS]
+    """Returns the texts that are changed: those without include lines, and those with such lines, in relative paths."""
+    texts = [text.decode("latin-1") for text in worked_policies.texts(MOST) if is_run(text.decode("latin-1"))]
+    alone = sorted((text for text in texts if not has_include(text)), key=order_of)[:MUTANTS]
+    return alone, [INCLUDED.sub(r"\1\3", text) for text in texts if has_include(text)]
+
+
+def mutants():
+    """Yields each mutant, with the files beside it."""
+    alone, including = policies()
+    for text in alone:
+        yield mutant(text), beside("")
+    for seed in SEEDS:
+        for text in including:
+            yield mutant(text, seed), beside(text)
 
 
 def change_words(draw, text):
@@ -192,7 +225,7 @@ def mutant(text, seed=SEED):
 
 
 def read_by_both(stand, folder, text):
-    """Returns what both programs make of a text."""
+    """Returns what both programs make of a text in a folder."""
     with open(os.path.join(folder, "p"), "w", encoding="latin-1", newline="") as file:
         file.write(text)
     ours = stand.run("check --for sudo p", folder)
@@ -200,7 +233,8 @@ def read_by_both(stand, folder, text):
     theirs = subprocess.run(words, capture_output=True, cwd=folder, env={"LC_ALL": "C"}, timeout=SECONDS, check=False)
     lines = ours.stdout.decode("latin-1").split("\n")
     notes = tuple(line for line in lines if re.search(r": (?:refused by visudo -c|read otherwise by sudo|not decided): ", line))
-    return Reading(text, lines[0] if ours.status else "", notes, theirs.returncode == 0)
+    error_line = lines[0] or ours.stderr.decode("latin-1").strip()
+    return Reading(text, error_line if ours.status else "", notes, theirs.returncode == 0)
 
 
 def outcome_of(reading):
@@ -211,7 +245,7 @@ def outcome_of(reading):
         return ("noted alone", NOTED_ALONE) if reading.is_read else ("noted", ())
     if reading.notes:
         return "read otherwise or not decided", ()
-    return ("both read", ()) if reading.is_read else ("passed alone", PASSED_ALONE)
+    return ("both read", ()) if reading.is_read else ("passed alone", ())
 
 
 def problems_of(reading, counts):
@@ -227,7 +261,7 @@ def problems_of(reading, counts):
 
 def run_pages(tally):
     """Looks up the words of each predicate on its page."""
-    for predicate in (*REFUSED_HERE, *NOTED_ALONE, *PASSED_ALONE):
+    for predicate in (*REFUSED_HERE, *NOTED_ALONE):
         page = " ".join(documents.read(predicate.page).split())
         tally.note(f"{PART}: {predicate.words}", [] if predicate.words in page else [f"not on {predicate.page}"])
 
@@ -239,9 +273,14 @@ def run_all(program, tally):
         tally.skip(f"{PART}: beside visudo", f"visudo of sudo {SUDO.decode()} is not installed")
         return
     stand, counts = Stand(PART, program, tally), Counter()
-    with Folder({}) as folder:
-        for text in filter(is_alone, map(mutant, policies())):
-            tally.note(f"{PART}: {shown(text)}", problems_of(read_by_both(stand, folder, text), counts))
+
+    def read_mutant(one):
+        with Folder(one[1]) as folder:
+            return read_by_both(stand, folder, one[0])
+
+    with ThreadPoolExecutor(WORKERS) as pool:
+        for reading in pool.map(read_mutant, (one for one in mutants() if is_run(one[0]))):
+            tally.note(f"{PART}: {shown(reading.text)}", problems_of(reading, counts))
     print(f"{PART}: {dict(counts)}")
     too_few = [f"{outcome}: {counts[outcome]} of {least}" for outcome, least in FEWEST.items() if counts[outcome] < least]
     tally.note(f"{PART}: enough of each", too_few)

@@ -79,6 +79,15 @@ PATH_ARGUMENTS = "an escape in a path that begins the arguments"
 PATH_QUOTE = "a quote in a path is a byte of it; write a blank before it"
 LINE_BLANK = "a backslash and blanks at a line end continue the line"
 OTHERWISE = "read otherwise by sudo"
+LINE_WORD = "a name that begins a line of Defaults, aliases or includes; write it in quotes"
+SCOPE_QUOTE = "a quoted name that begins with a blank or a mark; write a backslash before these, without quotes"
+INCLUDE_ROW = "#include begins a row; write a blank behind #"
+INDENTED = "blanks before #include make it a comment; remove them"
+NAME_END = "# or a backslash directly behind a name is a part of it; write a blank before it"
+NAME_SPACE = "a name ends at an unusual space; write it in quotes"
+NAME_ESCAPE = "\\x in quotes is no escape; write the byte"
+NAME_HOST = "%h is the name of the host; write the whole name"
+NAME_SIGN = "a quoted name that begins with % or +; write it without quotes"
 SIZES = (("sha224", 56, 40, 38), ("sha256", 64, 44, 43), ("sha384", 96, 64, 64), ("sha512", 128, 88, 86))
 
 
@@ -139,7 +148,7 @@ NAMES = (
     Row("addresses as users", "10.0.0.1, 1.2.3.04/8 h = (10.0.0.0/255.0.0.0) ALL\n", (form("1:1", ADDRESS), form("1:11", ADDRESS), form("1:27", ADDRESS))),
     Row("an address as a group and in an alias", "User_Alias A = !10.0.0.1/32\nA h = (a : 1.1.1.1) ALL\n", (form("1:17", ADDRESS), form("2:12", ADDRESS))),
     Row("addresses where they may stand, and words like them", '"10.0.0.1", 10.0.0, 10.0.0.256, 1.1.1.1/33, 1.1.1.1/08 10.0.0.1, 10.0.0.0/8 = ALL\n'),
-    Row("a regular expression as a name", "^b$ h = ALL\n^b, b$ h = ALL\n", (form("1:1", REGEX),)),
+    Row("a regular expression as a name", "^b$ h = ALL\n^b, b h = ALL\n", (form("1:1", REGEX),)),
     Row("a tag in quotes and : among names", "User_Alias A = bob, \"MAIL\" : B = eve\nA, B ALL = (ALL, !\\EXEC:adm) ALL\n"),
 )
 OPTIONS = (
@@ -184,4 +193,75 @@ PATHS_AND_ARGUMENTS = (
     Row("an escaped blank as a name at the end of a line", "User_Alias A = b, \\ \nA h = ALL\n", (form("1:19", LINE_BLANK, OTHERWISE),)),
     Row("an escaped blank before the end of a line", "bob h = /a \\  # x\nbob h = /a \\ b\nbob h = /a\\ \n"),
 )
-FORMS = TOKENS + NAMES + OPTIONS + GAPS + PATHS_AND_ARGUMENTS
+FIRST_WORDS = ("Defaults", "User_Alias", "Runas_Alias", "Host_Alias", "Cmnd_Alias", "Cmd_Alias")
+# What may follow a word of these directly, so that a name begins with it.
+BEHIND_FIRST_WORDS = ("x", ".x", "2", "$", "\\ x", "-", "%", "_ALIAS")
+
+
+def rows_of_first_words():
+    """Rows of names that begin with a first word, in rows of each beginning."""
+    for word in FIRST_WORDS:
+        for behind in BEHIND_FIRST_WORDS:
+            name = word + behind
+            text = "".join(f"{before}{name} h = ALL\n" for before in (" ", "\t", " \t ", "", "\\\n", " \\\n", "\\\n ", "bob, \\\n ", "bob, \\\n", "bob,  "))
+            yield Row(f"{name} as a name", text, tuple(form(place, LINE_WORD) for place in ("1:2", "2:2", "3:4", "10:2", "12:2")))
+        text = f"bob \\\n{word} = ALL\nbob, \\\n {word} h = (\\\n{word}) ALL\nbob, {word} h = /a \\\n{word} x\n"
+        yield Row(f"{word} in a row of its own", text, tuple(form(place, LINE_WORD) for place in ("2:1", "4:2", "5:1")))
+
+
+def included(name, main, *notes):
+    """Returns the row of this file, which includes the file `web` and the folder `parts`."""
+    return Row(name, {"main": main, "web": "bob h = ALL\n", "web2": "bob h = ALL\n", "parts/a": "bob h = ALL\n"}, notes)
+
+
+LINES = (
+    *rows_of_first_words(),
+    Row("names that begin with other words", " User_Aliax h = ALL\n defaultsx h = ALL\n xDefaults h = ALL\n \\Defaults h = ALL\n \"Defaultsx\" h = ALL\n"),
+    Row("first words in aliases, runas lists and values", "User_Alias A = \\\n Defaultsx\nA h = (a : \\\n User_Aliasx) ROLE=\\\nDefaults ALL\n", tuple(form(place, LINE_WORD) for place in ("2:2", "4:2", "5:1"))),
+    Row("first words in scopes and parameters", "Defaults:bob,\\\nDefaults fqdn\nDefaults:bob,\\\n@include fqdn\nDefaults mailsub=\\\nDefaults, \\\n fqdn\n"),
+    Row("first words in arguments and quotes", 'bob h = /a \\\n Defaultsx, /b \\\n@include web\n"b\\\n@include web", "c\\\n Defaults" h = ALL\n'),
+    Row("@include as a name", "bob, @include h, @includedir = ALL\nUser_Alias A = @include\nA h = (@includedir) ALL\n", tuple(form(place, LINE_WORD) for place in ("1:6", "1:18", "2:16", "3:8"))),
+    Row("names like @include", '@includex h = ALL\n @includedirs a@include = ALL\nbob "@include", \\@include, @include\\x = ALL\n'),
+    Row("#include in a row of its own", "bob h = ALL \\\n#include x\nUser_Alias A = a \\\n#includedir\tx\nA h = /a/ \\\n#include x\n", tuple(form(place, INCLUDE_ROW) for place in ("2:1", "4:1", "6:1"))),
+    Row("comments like #include", "bob h = ALL \\\n #include x\nbob h = ALL \\\n#include\nbob h = ALL \\\n#includex y\nbob h = ALL #include x\n"),
+    Row("#include behind a command and a parameter", "bob h = /a \\\n#include x\nbob h = /a b \\\n#include x\nbob h = sudoedit \\\n#include x\nDefaults fqdn \\\n#include x\n"),
+    Row("a long regular expression as a name", "^b, c$ h = ALL\nbob ^h = /a$\nbob h = (!^b : c$) ROLE=^r /b$\nUser_Alias A = ^b : B = c\\$\nA, B h = ALL\n", tuple(form(place, REGEX) for place in ("1:1", "2:5", "3:11", "3:25", "4:16"))),
+    Row("names like regular expressions", "^a$b$ h = ALL\n^a$b, c$ h = ALL\n^b h = /a #$\n^b \\\n h = /a$\n^b, #5, c$ h = ALL\n%^b, a^b, c$ h = ALL\n"),
+    Row("a quoted blank or mark that begins a scope", "".join(f'Defaults{before}"{name}" fqdn\n' for before in (":", "@", ">", ":!", ": ", ": !!") for name in (" b", "!b", ">b", ",b", "#b", "(b", "\tb")), tuple(form(f"{number}:9", SCOPE_QUOTE) for number in range(1, 43))),
+    Row("quoted names that begin a scope", "".join(f'Defaults:{name} fqdn\n' for name in ('"b"', '"\\ b"', '"#5"', '"%b"', '"@b"', '"/b"', '"+b"', '!"b"', ' !"b"', 'a," b"', 'a,!" b"', "\\ b", "\\!b"))),
+    Row("a backslash and a tab at the end of an alias", "User_Alias A = x\\\t\n\nA h = ALL\n", (form("1:16", LINE_BLANK, OTHERWISE),)),
+    Row("a backslash and a tab before a comment", "User_Alias A = x\\\t # y\nA h = ALL\n", (form("1:16", WORD),)),
+    Row("a continuation before the sign of a quoted name", 'bob "\\\n %a" = (b : "\\\n+c") ALL, ROLE="\\\n " ALL\n"\\\n %a" h = (b : "\\\n c") TIMEOUT="\\\n 5" ALL\n', (form("1:5", GROUP), form("2:13", GROUP), form("3:16", NO_NAME))),
+)
+INCLUDES = (
+    included("include lines", '@include web\n#include "web2" # x\n @includedir\tparts #- 1\n'),
+    included("other include lines", '\t@include"web"#x\n#include \\\nweb2 \\\n #x\n#includedir "pa\\\n rts"\\\n\n'),
+    included("escapes in names of files", "@include we\\x62\n@include \\w\\e\\b2\n"),
+    included("a number behind an include", "@include web #1\n", form("1:14", NUMBERED)),
+    included("a number behind #include", "#include web \\\n #-1\n", form("2:2", NUMBERED)),
+    included("a number behind a quoted name", '@include "web"#1\n', form("1:15", NUMBERED)),
+    included("a number behind a folder", '@includedir "parts"#-1\n', form("1:20", NUMBERED)),
+    included("a broken comment behind an include", "@include web #-\n@include web2 #-\r\n", form("1:14", BROKEN), form("2:15", BROKEN)),
+    included("a continuation before an include", "\\\n@include web\n", form("2:1", FIRST)),
+    included("a continuation before #include", "\\\r\n#include web\n", form("2:1", FIRST)),
+    included("a continuation before an indented @include", " \\\n @includedir parts\n", form("2:2", FIRST)),
+    included("#include in a row of an include", "@include web \\\n#include web2\n", form("2:1", INCLUDE_ROW)),
+    included("CR LF behind @include", "@include\\\r\n web\n", form("1:1", WORD_RETURN)),
+    included("#include without a name", "#include #x\n#includedir \n", form("1:1", INCLUDE_ROW, OTHERWISE), form("2:1", INCLUDE_ROW, OTHERWISE)),
+    included("#include without a name behind a continuation", "\\\n#include #x\n", form("2:1", INCLUDE_ROW)),
+    included("an indented #include without a name", " #include #x\n#include\n#includex \n"),
+    included("an indented #include", " #include web #1\n", form("1:2", INDENTED, OTHERWISE)),
+    included("an indented #include behind a continuation", "\\\n\t#includedir parts#1\n", form("2:2", INDENTED, OTHERWISE)),
+    included("# directly behind a name", "@include web#1\n", form("1:10", NAME_END, OTHERWISE)),
+    included("# directly behind the name of a folder", "#includedir parts#x\n", form("1:13", NAME_END, OTHERWISE)),
+    included("a continuation directly behind a name", "@include web\\\n\n@includedir parts\\\r\n # x\n", form("1:10", NAME_END, OTHERWISE), form("3:13", NAME_END, OTHERWISE)),
+    included("x in quotes", '@include "we\\x62"\n@includedir "pa\\x72ts"\n', form("1:10", NAME_ESCAPE, OTHERWISE), form("2:13", NAME_ESCAPE, OTHERWISE)),
+    included("the name of the host", '@includedir %h\n@includedir q%\\hq\n@includedir "q%h"\n', *(form(f"{number}:13", NAME_HOST, OTHERWISE) for number in (1, 2, 3))),
+    included("a quoted sign", '@includedir "%x"\n', form("1:13", NAME_SIGN)),
+    included("a quoted + behind a continuation", '@includedir "\\\n +x"\n', form("1:13", NAME_SIGN)),
+    included("signs without quotes, and others in quotes", '@includedir %x\n@includedir +x\n@includedir "\\%x"\n@includedir "x %H"\n'),
+    included("an escaped blank that begins a name", "@includedir \\ x\n@includedir x\\ y\n", form("1:13", NAME_SPACE, OTHERWISE)),
+    included("an unusual space in a name", "@includedir x\fy\n", form("1:13", NAME_SPACE, OTHERWISE)),
+    included("a backslash at the end of the quoted name of a folder", '@includedir "x\\\\"\n', form("1:13", ENDED)),
+)
+FORMS = TOKENS + NAMES + OPTIONS + GAPS + PATHS_AND_ARGUMENTS + LINES + INCLUDES

@@ -4,6 +4,8 @@ A row of ROWS has a policy and its notes. The program runs on it with the option
 just the policies with a note `refused by visudo -c`. It knows the machine's locales, so rows that are not decided are not for it. With
 `ignore_unknown_defaults` it prints nothing about unknown names, and refuses them all the same.
 
+Each policy of docs/differences.md that the program reads has a note, if sudo refuses it.
+
 Then each parameter of the program's own table stands in each form of a line, and parameters have random values. Both programs have to
 refuse the same lines, for the same reason. Lines that the program's grammar refuses are left out. Where visudo of sudo 1.9.13p3 is not
 installed, all that is skipped.
@@ -19,7 +21,7 @@ from dataclasses import dataclass
 from cases import Case
 from devices import Stand as Devices
 from devices import refuse_growths
-from documents import SUDO, visudo
+from documents import SUDO, read_document, visudo
 from installed import without_owners
 from preload import with_library
 from program import SECONDS, Wanted, fault
@@ -327,6 +329,28 @@ def run_rows_by_visudo(stand):
         wanted = 1 if one.is_refused() else 0
         problems = difference("status", wanted, done.returncode)
         stand.tally.note(f"{PART}: {one.name}, visudo", problems + ([f"{done.stderr}"] if problems else []))
+
+
+# ---- the page of differences -------------------------------------------------------------
+
+PAGE = "docs/differences.md"
+FEWEST_ON_PAGE = 70
+
+
+def run_page(stand):
+    """Each policy of the page of differences that this program reads has a note, where the page says that sudo refuses it, and no refusal
+    where sudo reads it."""
+    rows = [one for one in read_document(PAGE).rows if one.command == "check" and one.sudo and one.printed.endswith(b": parsed OK\n")]
+    refusals = 0
+    for one in rows:
+        with Folder({"policy": one.policy}) as folder:
+            came = stand.run("check --for sudo policy", folder)
+        is_refused = b": refused by visudo -c: " in came.stdout
+        refusals += is_refused
+        is_noted = is_refused or one.sudo == "refuses" and b": read otherwise by sudo: " in came.stdout
+        stand.tally.note(f"{PART}: {PAGE}:{one.line}", difference("refused", one.sudo == "refuses", is_noted))
+    is_enough = refusals >= FEWEST_ON_PAGE
+    stand.tally.note(f"{PART}: rows of {PAGE}", [] if is_enough else [f"{refusals} of {FEWEST_ON_PAGE} rows are refused"])
 
 
 # ---- the words of the program --------------------------------------------------------
@@ -712,6 +736,7 @@ def run_all(program, tally):
     """Runs all of it."""
     stand = Stand(PART, program, tally)
     run_rows(stand)
+    run_page(stand)
     run_words(stand)
     if visudo():
         run_rows_by_visudo(stand)

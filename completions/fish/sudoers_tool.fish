@@ -151,7 +151,7 @@ complete -c sudoers_tool -n '__fish_seen_subcommand_from check' -l all -d 'Print
 complete -c sudoers_tool -n '__fish_seen_subcommand_from check show' -l json -d 'Print one JSON document, also for an error'
 complete -c sudoers_tool -n '__fish_seen_subcommand_from check' -l skipped -d 'List the folders and the files in included folders that are not read'
 complete -c sudoers_tool -n '__fish_seen_subcommand_from check' -l installed -d 'List links, and what sudo refuses for its owner or mode'
-complete -c sudoers_tool -n '__fish_seen_subcommand_from check' -l for -x -a 'sudo sudo-rs' -d 'List names and values of Defaults that this program refuses'
+complete -c sudoers_tool -n '__fish_seen_subcommand_from check' -l for -x -a 'sudo sudo-rs' -d 'List Defaults, other forms and includes that this program refuses'
 complete -c sudoers_tool -n '__fish_seen_subcommand_from check convert show' -l dialect -x -a sudo -d 'Read the policy in this dialect'
 complete -c sudoers_tool -n __sudoers_tool_option_of_list -l dialect -x -a sudo -d 'Read the policy in this dialect'
 complete -c sudoers_tool -n '__sudoers_tool_option_of what who why' -l dialect -x -a sudo -d 'Read the policy in this dialect'

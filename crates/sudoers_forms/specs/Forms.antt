@@ -1,5 +1,5 @@
 -- The forms of a policy that sudo refuses, and where they stand.
-use Rattle.std.specs.Prelude.{ℕ, suc, ◌==◌, ◌&&◌, ◌||◌, not, Bool, true, false, List, [], ◌∷◌, ◌++◌, length, drop, nat_eq, nat_le, nat_lt, slice_range, codes, Option, Some, None, if◌then◌else◌}
+use Rattle.std.specs.Prelude.{ℕ, suc, ◌+◌, ◌==◌, ◌&&◌, ◌||◌, not, Bool, true, false, List, [], ◌∷◌, ◌++◌, length, drop, nat_eq, nat_le, nat_lt, slice_range, codes, Option, Some, None, if◌then◌else◌}
 use Rattle.std.specs.List.{ends_with, starts_with}
 use Rattle.std.specs.Str.{bytes_eq}
 use Rattle.sudoers_text.specs.declared.token.TokenKind.{TokenKind}
@@ -7,13 +7,15 @@ use Rattle.sudoers_text.specs.declared.token.TokenKind.TheVariants as kind
 use Rattle.sudoers_text.specs.Found.{tokens_of_line}
 use Rattle.sudoers_text.specs.LineMode.{line_mode}
 use Rattle.sudoers_text.specs.Unit.{is_empty, is_blank, begins_line_end}
+use Rattle.sudoers_text.specs.Value.{leading_blanks_size}
 use Rattle.sudoers_grammar.specs.Node.{Node}
 use Rattle.sudoers_grammar.specs.Node as node
 use Rattle.sudoers_grammar.specs.Piece.{TokenWithBytes, tokens_with_bytes, has_first_byte, has_last_byte, has_byte, is_word, is_comment}
 use Rattle.sudoers_tree.specs.Line.{Line}
 use Rattle.sudoers_forms.specs.Spelling.{size_as_path, size_as_word, spelled_size, is_numbered, is_broken_comment, is_digest_of_kind}
-use Rattle.sudoers_forms.specs.Names.{form_if, form_or, form_of_name, form_of_folder, form_of_plain_value, is_folder_option, path_size_limit}
-use Rattle.sudoers_forms.specs.Words.{is_first_word, is_tag_word, is_unknown_option}
+use Rattle.sudoers_forms.specs.Names.{form_if, form_or, form_of_name, form_of_folder, form_of_plain_value, is_folder_option, is_scope_of_names, path_size_limit}
+use Rattle.sudoers_forms.specs.Words.{is_first_word, begins_with_first_word, is_at_include, is_hash_include, is_comment_of_include, is_tag_word, is_unknown_option}
+use Rattle.sudoers_forms.specs.Includes.{is_include, form_of_include_quoted, form_of_include_word}
 use Rattle.sudoers_forms.specs.Parts.{first_part, part_of_token, part_after_token, is_member_kind, is_scope}
 use Rattle.sudoers_forms.specs.declared.spelling.Spelling.TheVariants as spelling
 use Rattle.sudoers_forms.specs.declared.line_part.LinePart.{LinePart}
@@ -44,17 +46,30 @@ form_of_path is_at_return rest text =
 
 -- ---- words
 
--- The text is a regular expression for sudo.
+-- How many bytes a regular expression has behind its `^`, up to its `$`. A `$` or a `#` with a backslash before it may stand in it. Escaped:
+-- the byte before is a backslash.
+abbrev pub size_of_regex_rest : Bool → List ℕ → ℕ
+size_of_regex_rest escaped [] = 0
+size_of_regex_rest escaped (b ∷ rest) =
+    if b == 36 then (if escaped then suc (size_of_regex_rest false rest) else 1)
+    else (if b == 10 || b == 13 || (b == 35 && not escaped) then 0
+    else (if nat_eq (size_of_regex_rest (b == 92) rest) 0 then 0
+    else suc (size_of_regex_rest (b == 92) rest)))
+
+-- sudo reads a regular expression in the place of a word with which the bytes begin: it is as long as the word or longer.
 abbrev pub is_regex : List ℕ → Bool
-is_regex text = has_first_byte 94 text && has_last_byte 36 text && nat_lt 1 (length text)
+is_regex bytes = has_first_byte 94 bytes && nat_lt 0 (size_of_regex_rest false (drop 1 bytes)) && nat_le (size_as_word bytes) (suc (size_of_regex_rest false (drop 1 bytes)))
 
 -- A backslash and CR come behind so many bytes.
 abbrev pub has_return_behind : ℕ → List ℕ → Bool
 has_return_behind size rest = starts_with nat_eq (drop size rest) (92 ∷ 13 ∷ [])
 
--- A word of this size: sudo reads a path in its place, or less.
-abbrev pub form_of_word_reach : ℕ → ℕ → ℕ → Option Form
-form_of_word_reach path word size = if nat_lt 0 path && nat_le word path then Some form.SlashName else form_if (nat_lt word size) form.WordByte
+-- A word of this size: sudo reads a path in its place, or less. At a tab: it ends the line with a backslash and a tab.
+abbrev pub form_of_word_reach : Bool → ℕ → ℕ → ℕ → Option Form
+form_of_word_reach is_at_tab path word size =
+    if nat_lt 0 path && nat_le word path then Some form.SlashName
+    else (if is_at_tab && word + 2 == size then Some form.BlankContinuation
+    else form_if (nat_lt word size) form.WordByte)
 
 abbrev pub is_value_part : LinePart → Bool
 is_value_part part.OptionValue = true
@@ -91,15 +106,22 @@ form_of_word p option is_last is_at_return rest text =
     if is_value_part p && is_folder_option option then form_of_folder kind.Word rest text
     else (if has_return_behind (length text) rest then Some (form_of_return p is_last)
     else (if is_last && bytes_eq text (92 ∷ 32 ∷ []) then Some form.BlankContinuation
-    else form_or (form_of_word_reach (size_as_path rest) (size_as_word rest) (length text))
-    (form_or (form_if (is_regex text) form.RegexName) (form_of_member p option is_at_return kind.Word text))))
+    else form_or (form_of_word_reach (is_last && ends_with nat_eq text (92 ∷ 9 ∷ [])) (size_as_path rest) (size_as_word rest) (length text))
+    (form_or (form_if (is_regex rest) form.RegexName) (form_of_member p option is_at_return kind.Word text))))
 
 -- In quotes, sudo reads a backslash and a `"` as a pair, whatever stands before them.
 abbrev pub form_of_quoted : LinePart → List ℕ → List ℕ → List ℕ → Option Form
 form_of_quoted p option rest text =
     if ends_with nat_eq text (92 ∷ 34 ∷ []) then Some form.QuotedBackslash
+    else (if is_include p then form_of_include_quoted p text
     else (if is_value_part p && is_folder_option option then form_of_folder kind.Quoted rest text
-    else form_of_member p option false kind.Quoted text)
+    else form_of_member p option false kind.Quoted text))
+
+-- The word of an include line, or its name without quotes.
+abbrev pub form_of_word_of_include : LinePart → List ℕ → List ℕ → List ℕ → Option Form
+form_of_word_of_include p before rest text =
+    if is_empty before then form_if (has_return_behind (length text) rest) form.WordReturn
+    else form_of_include_word p rest text
 
 -- ---- arguments, comments and values
 
@@ -163,11 +185,27 @@ has_second_odd_run found odd (b ∷ rest) =
     else (if is_gap_byte b rest && not (found && odd) then has_second_odd_run (found || odd) false rest
     else found && odd)
 
+-- the bytes without the `!` that they begin with
+abbrev pub bytes_behind_marks : List ℕ → List ℕ
+bytes_behind_marks [] = []
+bytes_behind_marks (b ∷ rest) = if b == 33 then bytes_behind_marks rest else b ∷ rest
+
+-- A quote, and neither a word nor a number directly behind it: sudo sees no scope there.
+abbrev pub begins_bare_quote : List ℕ → Bool
+begins_bare_quote bytes = has_first_byte 34 bytes && nat_eq (size_as_word (drop 1 bytes)) 0 && not (is_numbered (drop 1 bytes))
+
+abbrev pub is_quote_of_scope : List ℕ → Bool
+is_quote_of_scope bytes = begins_bare_quote (bytes_behind_marks (drop (leading_blanks_size bytes) bytes))
+
+-- the sign of a scope of names, behind the word that begins its line
+abbrev pub form_of_sign : LinePart → List ℕ → List ℕ → Option Form
+form_of_sign p before rest = form_if (is_scope_of_names p && bytes_eq before (codes "Defaults") && is_quote_of_scope (drop 1 rest)) form.ScopeQuote
+
 abbrev pub form_of_mark : LinePart → List ℕ → List ℕ → List ℕ → List ℕ → Option Form
 form_of_mark p before gap rest text =
     if bytes_eq text (codes "!") then form_if (not (is_scope p) && not (bytes_eq before (codes "!")) && has_second_odd_run false false rest) form.SplitMarks
     else (if bytes_eq text (codes ":") && is_tag_word before then form_of_tag p gap
-    else None)
+    else form_of_sign p before rest)
 
 -- The sign of a scope stands directly before.
 abbrev pub is_behind_sign : List ℕ → List ℕ → Bool
@@ -188,13 +226,56 @@ abbrev pub is_split_scope : List ℕ → List ℕ → List ℕ → List ℕ → 
 is_split_scope second_before before gap text =
     if is_behind_sign second_before before then is_split_first_member gap else is_split_further_member before gap text
 
+-- ---- rows
+
+-- A row is a physical line. A blank stands directly before the token.
+abbrev pub ends_in_blank : List ℕ → Bool
+ends_in_blank gap = has_last_byte 32 gap || has_last_byte 9 gap
+
+-- sudo reads the word as the beginning of a line: `@include` anywhere, and as the first word of a row one of Defaults or aliases. Behind
+-- blanks, more may follow directly.
+abbrev pub is_line_word : List ℕ → List ℕ → List ℕ → Bool
+is_line_word before gap text =
+    if is_empty before then begins_with_first_word text && not (is_first_word text) && ends_in_blank gap
+    else is_at_include text || (has_byte 10 gap && (is_first_word text || (begins_with_first_word text && ends_in_blank gap)))
+
+-- The first token of a line. A comment of `#include` is an include line for sudo, if no blank stands before it.
+abbrev pub form_of_first_gap : LinePart → List ℕ → List ℕ → Option Form
+form_of_first_gap p gap text =
+    if is_comment_of_include text && not (ends_in_blank gap) then (if has_byte 10 gap then Some form.IncludeComment else Some form.HashInclude)
+    else (if is_include p && is_hash_include text && ends_in_blank gap then Some form.IndentedInclude
+    else (if has_byte 10 gap && (is_include p || is_first_word text) then Some form.FirstContinuation
+    else form_if (is_line_word [] gap text) form.LineWord))
+
+-- Arguments go on behind the token before.
+abbrev pub is_behind_command : TokenKind → List ℕ → Bool
+is_behind_command kind.Arg before = true
+is_behind_command kind.Path before = not (has_last_byte 47 before)
+is_behind_command k before = bytes_eq before (codes "sudoedit")
+
+-- A further token: in a row of its own, a comment of `#include` is an include line for sudo.
+abbrev pub form_of_row : LinePart → TokenKind → List ℕ → List ℕ → TokenKind → List ℕ → Option Form
+form_of_row p before_kind before gap k text =
+    if is_comment k then form_if (is_comment_of_include text && has_last_byte 10 gap && not (is_behind_command before_kind before)) form.IncludeComment
+    else form_if (is_word k && not (is_include p) && is_line_word before gap text) form.LineWord
+
+abbrev pub form_of_scope_gap : List ℕ → List ℕ → List ℕ → List ℕ → Option Form
+form_of_scope_gap second_before before gap text = form_if (not (is_empty second_before) && is_split_scope second_before before gap text) form.SplitScope
+
+abbrev pub form_of_parameter_gap : TokenKind → List ℕ → TokenKind → Option Form
+form_of_parameter_gap before_kind gap k = form_if (is_member_kind before_kind && not (is_comment k || has_blank gap)) form.ScopeEnd
+
+abbrev pub form_of_further_gap : LinePart → List ℕ → TokenKind → List ℕ → List ℕ → TokenKind → List ℕ → Option Form
+form_of_further_gap p second_before before_kind before gap k text =
+    if is_scope p then form_of_scope_gap second_before before gap text
+    else (if is_parameters p then form_of_parameter_gap before_kind gap k
+    else form_of_row p before_kind before gap k text)
+
 -- What stands before a token: the part of the token, the text of the second token before it, the kind and the text of the first one, and the
 -- bytes between.
 abbrev pub form_of_gap : LinePart → List ℕ → TokenKind → List ℕ → List ℕ → TokenKind → List ℕ → Option Form
 form_of_gap p second_before before_kind before gap k text =
-    if is_empty before then form_if (has_byte 10 gap && is_first_word text) form.FirstContinuation
-    else (if is_scope p then form_if (not (is_empty second_before) && is_split_scope second_before before gap text) form.SplitScope
-    else form_if (is_parameters p && is_member_kind before_kind && not (is_comment k || has_blank gap)) form.ScopeEnd)
+    if is_empty before then form_of_first_gap p gap text else form_of_further_gap p second_before before_kind before gap k text
 
 -- ---- tokens
 
@@ -204,7 +285,8 @@ abbrev pub form_of_text : LinePart → List ℕ → List ℕ → List ℕ → Li
 form_of_text p second_before before gap rest is_last is_at_return kind.Comment text = form_of_comment (is_empty before) text
 form_of_text p second_before before gap rest is_last is_at_return kind.Path text = form_of_path is_at_return rest text
 form_of_text p second_before before gap rest is_last is_at_return kind.Arg text = form_of_argument is_last is_at_return text
-form_of_text p second_before before gap rest is_last is_at_return kind.Word text = form_of_word p second_before is_last is_at_return rest text
+form_of_text p second_before before gap rest is_last is_at_return kind.Word text =
+    if is_include p then form_of_word_of_include p before rest text else form_of_word p second_before is_last is_at_return rest text
 form_of_text p second_before before gap rest is_last is_at_return kind.Quoted text = form_of_quoted p second_before rest text
 form_of_text p second_before before gap rest is_last is_at_return kind.Id text = form_of_name p kind.Id text
 form_of_text p second_before before gap rest is_last is_at_return kind.Digest text = form_if (not (is_digest_of_kind second_before text)) form.DigestSize
@@ -227,8 +309,10 @@ abbrev pub refused_if : ℕ → TokenWithBytes → Option Form → List RefusedF
 refused_if number t None = []
 refused_if number t (Some f) = record { at = record { line = number; start = t.start; stop = t.stop }; form = f } ∷ []
 
--- What follows is in a comment for sudo.
+-- What follows is in a comment for sudo, or in the name of an included file.
 abbrev pub is_begin_of_comment : Option Form → Bool
+is_begin_of_comment (Some form.IndentedInclude) = true
+is_begin_of_comment (Some form.IncludeEnd) = true
 is_begin_of_comment (Some form.ArgumentHash) = true
 is_begin_of_comment (Some form.NumberedComment) = true
 is_begin_of_comment f = false
@@ -247,9 +331,7 @@ forms_of_tokens number line p second_before before_kind before stop (t ∷ ts) =
 abbrev pub forms_of_line : ℕ → LinePart → List ℕ → List RefusedForm
 forms_of_line number p text = forms_of_tokens number text p [] kind.Punct [] 0 (tokens_with_bytes text (tokens_of_line (line_mode text) text))
 
--- Include lines are not looked at.
 abbrev pub forms_of_node : ℕ → List ℕ → Node → List RefusedForm
-forms_of_node number text (node.Include dir path) = []
 forms_of_node number text node.Blank = []
 forms_of_node number text n = forms_of_line number (first_part n) text
 

@@ -1,9 +1,9 @@
 -- What sudo takes as names and as values of options.
-use Rattle.std.specs.Prelude.{ℕ, ◌-◌, ◌==◌, ◌&&◌, ◌||◌, not, nat_le, nat_lt, Bool, true, false, List, length, drop, take, codes, Option, Some, None, if◌then◌else◌}
+use Rattle.std.specs.Prelude.{ℕ, ◌-◌, ◌==◌, ◌&&◌, ◌||◌, not, nat_le, nat_lt, Bool, true, false, List, [], ◌∷◌, length, drop, take, codes, Option, Some, None, if◌then◌else◌}
 use Rattle.std.specs.Str.{bytes_eq}
 use Rattle.sudoers_text.specs.declared.token.TokenKind.{TokenKind}
 use Rattle.sudoers_text.specs.declared.token.TokenKind.TheVariants as kind
-use Rattle.sudoers_text.specs.Unit.{is_empty}
+use Rattle.sudoers_text.specs.Unit.{is_empty, is_blank, begins_line_end}
 use Rattle.sudoers_text.specs.Word.{is_name}
 use Rattle.sudoers_grammar.specs.Piece.{has_first_byte, is_quoted}
 use Rattle.sudoers_defaults.specs.Values.{is_time}
@@ -35,9 +35,17 @@ is_scope_of_names p = false
 abbrev pub is_option_of_part : LinePart → List ℕ → Bool
 is_option_of_part p text = not (is_scope_of_names p) && is_known_option text
 
--- the content of a text that stands in quotes, or a text without
+-- The bytes without the continuations that they begin with, and the blanks behind these. Within: such a continuation stands before.
+abbrev pub bytes_behind_continuations : Bool → List ℕ → List ℕ
+bytes_behind_continuations within [] = []
+bytes_behind_continuations within (b ∷ rest) =
+    if b == 92 && begins_line_end rest then bytes_behind_continuations true rest
+    else (if within && (is_blank b || b == 13 || b == 10) then bytes_behind_continuations true rest
+    else b ∷ rest)
+
+-- the content of a text that stands in quotes, behind continuations, or a text without
 abbrev pub content_of_token : TokenKind → List ℕ → List ℕ
-content_of_token kind.Quoted text = take (length text - 2) (drop 1 text)
+content_of_token kind.Quoted text = bytes_behind_continuations false (take (length text - 2) (drop 1 text))
 content_of_token k text = text
 
 -- `%`, `%:` or `+` with no name behind it

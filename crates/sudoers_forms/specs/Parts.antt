@@ -5,6 +5,7 @@ use Rattle.sudoers_text.specs.declared.token.TokenKind.{TokenKind}
 use Rattle.sudoers_text.specs.declared.token.TokenKind.TheVariants as kind
 use Rattle.sudoers_text.specs.Unit.{is_empty}
 use Rattle.sudoers_forms.specs.Words.{is_option, is_tag_word, is_digest_kind}
+use Rattle.sudoers_forms.specs.HostMark.{has_host_mark}
 use Rattle.sudoers_grammar.specs.declared.node.Kind.{Kind}
 use Rattle.sudoers_grammar.specs.declared.node.Kind.TheVariants.{User, Runas, Host, Cmnd}
 use Rattle.sudoers_grammar.specs.Node.{Node, Scope}
@@ -33,6 +34,7 @@ first_part_of_defaults (Some s) = first_part_of_scope s.kind
 abbrev pub first_part : Node → LinePart
 first_part (node.Defaults scope params) = first_part_of_defaults scope
 first_part (node.Alias k defs) = first_part_of_alias k
+first_part (node.Include dir path) = if has_host_mark path then part.HostIncludeLine else part.IncludeLine
 first_part n = part.Users
 
 -- ---- a token

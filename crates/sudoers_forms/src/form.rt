@@ -67,12 +67,32 @@ pub enum Form {
     QuotedBackslash,
     /// Something stands between two `!`.
     SplitMarks,
-    /// A continuation before the first word of Defaults or aliases.
+    /// A continuation before the first word of Defaults, aliases or an include line.
     FirstContinuation,
+    /// A name that begins a line for sudo.
+    LineWord,
     /// Something ends a scope of Defaults.
     SplitScope,
     /// No blank follows Defaults or its scope.
     ScopeEnd,
+    /// A scope begins with a quoted name of a blank or a mark.
+    ScopeQuote,
+    /// A comment that begins with `#include`, in a row of its own.
+    IncludeComment,
+    /// A comment that begins with `#include`, alone in its line.
+    HashInclude,
+    /// Blanks stand before `#include`.
+    IndentedInclude,
+    /// The name of an included file goes on behind its end.
+    IncludeEnd,
+    /// The name of an included file ends before its end.
+    IncludeSpace,
+    /// A quoted name of an included file has an escape with `x`.
+    IncludeEscape,
+    /// The name of an included file has `%h`.
+    IncludeHost,
+    /// A quoted name of an included file begins with `%` or `+`.
+    IncludeSign,
 }
 
 impl Form {
@@ -86,6 +106,12 @@ impl Form {
                 | Form::PathArguments
                 | Form::PathQuote
                 | Form::BlankContinuation
+                | Form::HashInclude
+                | Form::IndentedInclude
+                | Form::IncludeEnd
+                | Form::IncludeSpace
+                | Form::IncludeEscape
+                | Form::IncludeHost
         )
     }
 }
@@ -108,6 +134,27 @@ pub fn words_of_form(form: Form) -> &'static str {
         Form::SplitScope =>
             "a blank or a continuation that ends the scope; write the scope without it",
         Form::ScopeEnd => "no blank behind Defaults or its scope",
+        Form::ScopeQuote =>
+            "a quoted name that begins with a blank or a mark; write a backslash before these, without quotes",
+        _ => words_of_include(form),
+    }
+}
+
+/// Returns the words of a form of an include line, or of another form.
+fn words_of_include(form: Form) -> &'static str {
+    match form {
+        Form::LineWord =>
+            "a name that begins a line of Defaults, aliases or includes; write it in quotes",
+        Form::IncludeComment | Form::HashInclude => {
+            "#include begins a row; write a blank behind #"
+        }
+        Form::IndentedInclude => "blanks before #include make it a comment; remove them",
+        Form::IncludeEnd =>
+            "# or a backslash directly behind a name is a part of it; write a blank before it",
+        Form::IncludeSpace => "a name ends at an unusual space; write it in quotes",
+        Form::IncludeEscape => "\\x in quotes is no escape; write the byte",
+        Form::IncludeHost => "%h is the name of the host; write the whole name",
+        Form::IncludeSign => "a quoted name that begins with % or +; write it without quotes",
         _ => words_of_command_or_name(form),
     }
 }

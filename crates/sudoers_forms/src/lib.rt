@@ -4,10 +4,12 @@
 mod address;
 mod digest_size;
 mod form;
+mod include_form;
 mod line_part;
 mod member_form;
 mod names;
 mod refused_form;
+mod row_form;
 mod spelling;
 mod text_form;
 mod token_form;

@@ -4,6 +4,7 @@ ghost use Rattle.std.specs.Prelude.{◌≡◌};
 ghost use Rattle.sudoers_line_rows.specs.View.{node_of_view};
 ghost use Rattle.sudoers_forms.specs.Parts.{first_part, first_part_of_alias, first_part_of_scope, is_member_kind, is_scope, part_after_command_mark, part_after_command_token, part_after_command_word, part_after_token, part_of_token};
 
+use crate::include_form::has_host_mark;
 use crate::words::{is_digest_kind, is_option, is_tag_word};
 use sudoers_grammar::Kind;
 use sudoers_line_rows::Node;
@@ -38,6 +39,10 @@ pub enum LinePart {
     CommandScope,
     /// Parameters of Defaults.
     Parameters,
+    /// An include line.
+    IncludeLine,
+    /// An include line whose name has `%h`.
+    HostIncludeLine,
 }
 
 /// Returns the part in which a line begins that says `node`.
@@ -51,6 +56,8 @@ pub fn find_first_part(node: &Node<'_>) -> LinePart
         } => find_first_part_of_scope(scope.kind),
         Node::Defaults { scope: None, .. } => LinePart::Parameters,
         Node::Alias { kind, .. } => find_first_part_of_alias(*kind),
+        Node::Include { path, .. } if has_host_mark(path) => LinePart::HostIncludeLine,
+        Node::Include { .. } => LinePart::IncludeLine,
         _ => LinePart::Users,
     }
 }

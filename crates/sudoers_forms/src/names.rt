@@ -1,7 +1,8 @@
 //! What sudo takes as names and as values of options.
 
-ghost use Rattle.std.specs.Prelude.{◌≡◌};
-ghost use Rattle.sudoers_forms.specs.Names.{begins_folder, content_of_token, form_if, form_of_bare_name, form_of_folder, form_of_name, form_of_plain_value, form_or, has_wrong_sign, is_bare_sign, is_folder, is_folder_option, is_hosts, is_option_of_part, is_plain_value, is_scope_of_names, text_without_first_backslash};
+ghost use Rattle.std.specs.Prelude.{◌≡◌, ◌==◌, ◌||◌, false};
+ghost use Rattle.sudoers_text.specs.Unit.{is_blank};
+ghost use Rattle.sudoers_forms.specs.Names.{begins_folder, bytes_behind_continuations, content_of_token, form_if, form_of_bare_name, form_of_folder, form_of_name, form_of_plain_value, form_or, has_wrong_sign, is_bare_sign, is_folder, is_folder_option, is_hosts, is_option_of_part, is_plain_value, is_scope_of_names, text_without_first_backslash};
 
 use crate::address::is_address;
 use crate::form::Form;
@@ -10,7 +11,7 @@ use crate::spelling::{size_of_path, size_of_word};
 use crate::words::{is_command_word, is_known_option};
 use sudoers_defaults::is_time;
 use sudoers_grammar::begins_with_byte;
-use sudoers_text::{TokenKind, is_name};
+use sudoers_text::{TokenKind, begins_line_end, is_name};
 
 /// The number of bytes that no path of the system has: PATH_MAX of Linux.
 pub const PATH_SIZE_LIMIT: usize = 4096;
@@ -32,15 +33,39 @@ pub fn choose_first_form(first: Option<Form>, second: Option<Form>) -> Option<Fo
     }
 }
 
-/// Returns the content of a token that stands in quotes, or its text.
-fn content_of_token(kind: TokenKind, text: &[u8]) -> &[u8]
+/// Returns the bytes of `content` without the continuations that it begins with, and the blanks behind these.
+fn skip_continuations(content: &[u8]) -> &[u8]
+    ensures { result.now ≡ bytes_behind_continuations false content.now }
+{
+    let mut rest = content;
+    let mut is_within = false;
+    while let Some((first, behind)) = rest.split_first() {
+        if *first == b'\\' && begins_line_end(behind) {
+            is_within = true;
+        } else if !(is_within && is_blank_or_line_end(*first)) {
+            break;
+        }
+        rest = behind;
+    }
+    rest
+}
+
+/// Returns whether `byte` is a blank, CR or LF.
+fn is_blank_or_line_end(byte: u8) -> bool
+    ensures { result ≡ (is_blank byte || byte == 13 || byte == 10) }
+{
+    byte == b' ' || byte == b'\t' || byte == b'\r' || byte == b'\n'
+}
+
+/// Returns the content of a token that stands in quotes, behind continuations, or its text.
+pub fn content_of_token(kind: TokenKind, text: &[u8]) -> &[u8]
     ensures { result.now ≡ content_of_token kind text.now }
 {
     if kind != TokenKind::Quoted {
         return text;
     }
     let behind = text.get(1..).unwrap_or(&[]);
-    &behind[..text.len().saturating_sub(2)]
+    skip_continuations(&behind[..text.len().saturating_sub(2)])
 }
 
 /// Returns whether `text` is a sign of a group or a netgroup alone.
@@ -70,7 +95,7 @@ impl LinePart {
     }
 
     /// Returns whether the part is a scope of names.
-    fn is_scope_of_names(self) -> bool
+    pub fn is_scope_of_names(self) -> bool
         ensures { result ≡ is_scope_of_names self }
     {
         matches!(self, LinePart::UserScope | LinePart::HostScope)

@@ -26,7 +26,7 @@ pub struct RefusedForm {
     pub form: Form,
 }
 
-/// Returns the forms in the lines of `policy` that sudo refuses, in the order of the lines. Include lines are not looked at.
+/// Returns the forms in the lines of `policy` that sudo refuses or reads otherwise, in the order of the lines.
 ///
 /// # Errors
 ///
@@ -54,7 +54,7 @@ fn append_forms_of_node(
     ensures { OnOk result (refused.new.items ≡ refused.old.items ++ forms_of_node number text.now (node_of_view node.now)) }
 {
     match node {
-        Node::Include { .. } | Node::Blank => Ok(()),
+        Node::Blank => Ok(()),
         _ => append_forms_of_line(alloc, number, find_first_part(node), text, refused),
     }
 }
@@ -114,11 +114,14 @@ fn is_at_return(is_last: bool, line: &[u8]) -> bool
     is_last && line.ends_with(b"\r\n")
 }
 
-/// Returns whether what follows is in a comment for sudo.
+/// Returns whether what follows is in a comment for sudo, or in the name of an included file.
 fn is_begin_of_comment(form: Option<Form>) -> bool
     ensures { result ≡ is_begin_of_comment form }
 {
-    matches!(form, Some(Form::ArgumentHash | Form::NumberedComment))
+    matches!(
+        form,
+        Some(Form::ArgumentHash | Form::NumberedComment | Form::IndentedInclude | Form::IncludeEnd)
+    )
 }
 
 /// A place in a line: the part that the token before it leads to, and what stands before it.

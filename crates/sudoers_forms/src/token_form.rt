@@ -1,22 +1,22 @@
 //! Why sudo refuses a token, by what stands before it.
 
-ghost use Rattle.std.specs.Prelude.{◌≡◌, false};
+ghost use Rattle.std.specs.Prelude.{◌≡◌, drop, false};
 ghost use Rattle.sudoers_text.specs.Unit.{is_empty};
 ghost use Rattle.sudoers_forms.specs.Names.{form_or};
-ghost use Rattle.sudoers_forms.specs.Forms.{form_of_gap, form_of_mark, form_of_tag, form_of_text, form_of_word, has_blank, has_second_odd_run, is_behind_sign, is_gap_byte, is_split_first_member, is_split_further_member, is_split_scope, rest_from_lf};
+ghost use Rattle.sudoers_forms.specs.Forms.{begins_bare_quote, bytes_behind_marks, form_of_further_gap, form_of_gap, form_of_mark, form_of_parameter_gap, form_of_scope_gap, form_of_sign, form_of_tag, form_of_text, form_of_word, has_blank, has_second_odd_run, is_behind_sign, is_gap_byte, is_quote_of_scope, is_split_first_member, is_split_further_member, is_split_scope, rest_from_lf};
 
 use crate::digest_size::is_digest_of_kind;
 use crate::form::Form;
 use crate::line_part::{LinePart, is_member_kind};
-use crate::member_form::{find_form_of_quoted, find_form_of_word};
+use crate::member_form::{find_form_of_quoted, find_form_of_word, find_form_of_word_of_include};
 use crate::names::{choose_first_form, choose_form_if};
-use crate::spelling::has_byte;
+use crate::spelling::{has_byte, is_numbered, size_of_word};
 use crate::text_form::{
     find_form_of_argument, find_form_of_comment, find_form_of_path, find_form_of_value,
 };
-use crate::words::{is_first_word, is_tag_word};
+use crate::words::is_tag_word;
 use sudoers_grammar::begins_with_byte;
-use sudoers_text::{TokenKind, begins_line_end};
+use sudoers_text::{TokenKind, begins_line_end, leading_blanks_len};
 
 /// A token, and what stands around it.
 #[derive(Clone, Copy)]
@@ -53,23 +53,50 @@ impl TokenInLine<'_> {
         ensures { result ≡ form_of_gap self.now.part self.now.second_before.now self.now.kind_before self.now.before.now self.now.gap.now self.now.kind self.now.text.now }
     {
         if self.before.is_empty() {
-            choose_form_if(
-                has_byte(b'\n', self.gap) && is_first_word(self.text),
-                Form::FirstContinuation,
-            )
-        } else if self.part.is_scope() {
-            choose_form_if(
-                !self.second_before.is_empty() && self.is_split_scope(),
-                Form::SplitScope,
-            )
+            self.part.find_form_of_first_gap(self.gap, self.text)
         } else {
-            choose_form_if(
-                self.part == LinePart::Parameters
-                    && is_member_kind(self.kind_before)
-                    && !(self.kind == TokenKind::Comment || has_blank(self.gap)),
-                Form::ScopeEnd,
+            self.find_form_of_further_gap()
+        }
+    }
+
+    /// Returns why sudo refuses what stands before the token, which is not the first of its line.
+    fn find_form_of_further_gap(&self) -> Option<Form>
+        ensures { result ≡ form_of_further_gap self.now.part self.now.second_before.now self.now.kind_before self.now.before.now self.now.gap.now self.now.kind self.now.text.now }
+    {
+        if self.part.is_scope() {
+            self.find_form_of_scope_gap()
+        } else if self.part == LinePart::Parameters {
+            self.find_form_of_parameter_gap()
+        } else {
+            self.part.find_form_of_row(
+                self.kind_before,
+                self.before,
+                self.gap,
+                self.kind,
+                self.text,
             )
         }
+    }
+
+    /// Returns why sudo refuses what stands before the token of a scope.
+    fn find_form_of_scope_gap(&self) -> Option<Form>
+        ensures { result ≡ form_of_scope_gap self.now.second_before.now self.now.before.now self.now.gap.now self.now.text.now }
+    {
+        choose_form_if(
+            !self.second_before.is_empty() && self.is_split_scope(),
+            Form::SplitScope,
+        )
+    }
+
+    /// Returns why sudo refuses what stands before the token among parameters.
+    fn find_form_of_parameter_gap(&self) -> Option<Form>
+        ensures { result ≡ form_of_parameter_gap self.now.kind_before self.now.gap.now self.now.kind }
+    {
+        choose_form_if(
+            is_member_kind(self.kind_before)
+                && !(self.kind == TokenKind::Comment || has_blank(self.gap)),
+            Form::ScopeEnd,
+        )
     }
 
     /// Returns whether the sign of a scope stands directly before the token.
@@ -110,6 +137,12 @@ impl TokenInLine<'_> {
             TokenKind::Comment => find_form_of_comment(is_empty(self.before), self.text),
             TokenKind::Path => find_form_of_path(self.is_at_return, self.rest, self.text),
             TokenKind::Arg => find_form_of_argument(self.is_last, self.is_at_return, self.text),
+            TokenKind::Word if self.part.is_include() => find_form_of_word_of_include(
+                self.part,
+                self.before,
+                self.rest,
+                self.text,
+            ),
             TokenKind::Word => self.find_form_of_word(),
             TokenKind::Quoted => find_form_of_quoted(self.part, option, self.rest, self.text),
             TokenKind::Id => self.part.find_form_of_name(self.kind, self.text),
@@ -151,7 +184,7 @@ impl TokenInLine<'_> {
         } else if self.text == b":".as_slice() && is_tag_word(self.before) {
             self.find_form_of_tag()
         } else {
-            None
+            find_form_of_sign(self.part, self.before, self.rest)
         }
     }
 
@@ -168,6 +201,56 @@ impl TokenInLine<'_> {
             choose_form_if(!self.part.has_commands(), Form::TagName)
         }
     }
+}
+
+/// Returns the bytes of `bytes` without the `!` that they begin with.
+fn skip_marks(bytes: &[u8]) -> &[u8]
+    ensures { result.now ≡ bytes_behind_marks bytes.now }
+{
+    let mut rest = bytes;
+    while let Some((first, behind)) = rest.split_first() {
+        if *first != b'!' {
+            break;
+        }
+        rest = behind;
+    }
+    rest
+}
+
+/// Returns whether `bytes` begin with a quote, and neither a word nor a number stands directly behind it.
+fn begins_bare_quote(bytes: &[u8]) -> bool
+    ensures { result ≡ begins_bare_quote bytes.now }
+{
+    match bytes {
+        [b'"', rest @ ..] => size_of_word(rest) == 0 && !is_numbered(rest),
+        _ => false,
+    }
+}
+
+/// Returns whether `bytes`, behind the sign of a scope, begin with a name in quotes that sudo sees no scope in.
+fn is_quote_of_scope(bytes: &[u8]) -> bool
+    ensures { result ≡ is_quote_of_scope bytes.now }
+{
+    begins_bare_quote(skip_marks(&bytes[leading_blanks_len(bytes)..]))
+}
+
+/// Returns the bytes behind the first one of `rest`.
+fn skip_sign(rest: &[u8]) -> &[u8]
+    ensures { result.now ≡ drop 1 rest.now }
+{
+    rest.get(1..).unwrap_or(&[])
+}
+
+/// Returns why sudo refuses the mark with which `rest` begins, behind the token `before`, if it is the sign of a scope.
+fn find_form_of_sign(part: LinePart, before: &[u8], rest: &[u8]) -> Option<Form>
+    ensures { result ≡ form_of_sign part before.now rest.now }
+{
+    choose_form_if(
+        part.is_scope_of_names()
+            && before == b"Defaults".as_slice()
+            && is_quote_of_scope(skip_sign(rest)),
+        Form::ScopeQuote,
+    )
 }
 
 /// Returns whether `gap`, behind the sign of a scope, ends the scope for sudo.
