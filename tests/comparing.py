@@ -299,7 +299,7 @@ GROWTHS = ("check --overruled --plain old", "check --overruled --plain many", "d
 
 
 def run_growths(stand):
-    """If a growth is refused, the answer comes, or the error of memory: behind the report of `check`, or alone.
+    """If a growth is refused, the answer comes, or the error of memory: behind the report of `check`, or alone. `diff` may name the policy.
 
     Before the command line is read, the program does not know the command, and the error of memory has the status 1.
     """
@@ -310,7 +310,8 @@ def run_growths(stand):
                 ample = stand.run(words, folder)
                 report = b"".join(ample.stdout.partition(REPORT_END)[:2]) if words.startswith("check") else b""
                 refused = Answer(report, NAME + b"NoMemory\n", ERROR_STATUS)
-                failed = {Answer(out, text, status) for out in (b"", report) for text in (refused.stderr, b"") for status in (1, ERROR_STATUS)}
+                named = (NAME + name + b": NoMemory\n" for name in (b"old", b"new", b"cycle"))
+                failed = {Answer(out, text, status) for out in (b"", report) for text in (refused.stderr, b"", *named) for status in (1, ERROR_STATUS)}
                 allowed = {ample, *failed}
                 case = Case(words, tuple(words.split(" ")), b"", stand_in(ample), folder=folder)
                 came = set()
