@@ -38,7 +38,7 @@ pub struct FlatRunasDefault<'a> {
 ///
 /// # Errors
 ///
-/// `TooLarge`: the list has more than `allowance` members then. `NoMemory`: memory ran out.
+/// `TooLarge`: these members are more than `allowance`, or the list has more than 65,536 then. `NoMemory`: memory ran out.
 pub fn flatten_scope(
     alloc: Global,
     source: &ExpansionSource<'_, '_>,
@@ -52,7 +52,7 @@ pub fn flatten_scope(
         return Ok(None);
     };
     let rows = rows_in(source.lines.tables.members.as_slice(), scope.members);
-    let members = flatten_counted_list(alloc, source, scope.kind, rows, allowance)?;
+    let members = flatten_counted_list(alloc, source, scope.kind, rows, rows.len(), allowance)?;
     Ok(Some(FlatScope {
         kind: scope.kind,
         members,
@@ -120,12 +120,12 @@ fn append_flat_defaults_of_node<'a>(
     append_flat_defaults_of_params(alloc, source, line, *scope, *params, allowance, settings)
 }
 
-/// Returns the settings of runas_default of the policy that `source` has, in file order, their scopes flat. Their members are
-/// taken from `allowance`, the number of members that all lists may have together.
+/// Returns the settings of runas_default of the policy that `source` has, in file order, their scopes flat. What a list has more
+/// than is written is taken from `allowance`.
 ///
 /// # Errors
 ///
-/// `TooLarge`: they have more than `allowance` members then. `NoMemory`: memory ran out.
+/// `TooLarge`: these members are more than `allowance`, or a list has more than 65,536 then. `NoMemory`: memory ran out.
 pub fn flatten_runas_defaults<'a>(
     alloc: Global,
     source: &ExpansionSource<'a, '_>,

@@ -22,6 +22,9 @@ use sudoers_match::CommandSettings;
 use sudoers_match_list::{ExpansionSource, FlattenSizeFault};
 use sudoers_tree::Kind;
 
+/// How many members of a list of a Runas_Spec are not counted. The others are counted for each command of which it holds.
+const FREE_RUNAS_MEMBERS: usize = 1;
+
 /// Returns a list of a Runas_Spec, flat. An empty one is absent. Its members are taken from `allowance`.
 fn flatten_runas_list(
     alloc: Global,
@@ -36,7 +39,14 @@ fn flatten_runas_list(
     if rows.is_empty() {
         return Ok(None);
     }
-    Ok(Some(flatten_counted_list(alloc, source, Kind::Runas, rows, allowance)?))
+    Ok(Some(flatten_counted_list(
+        alloc,
+        source,
+        Kind::Runas,
+        rows,
+        FREE_RUNAS_MEMBERS,
+        allowance,
+    )?))
 }
 
 /// Returns a Runas_Spec with its lists flat. Their members are taken from `allowance`.
@@ -73,7 +83,14 @@ fn flatten_command<'a>(
 {
     let runas = flatten_runas(alloc, source, runas, allowance)?;
     let member_row = std::slice::from_ref(member);
-    let members = flatten_counted_list(alloc, source, Kind::Cmnd, member_row, allowance)?;
+    let members = flatten_counted_list(
+        alloc,
+        source,
+        Kind::Cmnd,
+        member_row,
+        member_row.len(),
+        allowance,
+    )?;
     Ok(FlatCommand {
         start: member.start,
         runas,
@@ -119,7 +136,7 @@ fn flatten_host_group<'a>(
         ≡ placed_rows_of_host_group source.now.policy.now number users (host_group_in_tables source.now.lines.tables.now row.now)) }
 {
     let hosts = rows_in(source.lines.tables.members.as_slice(), row.hosts);
-    let hosts = flatten_counted_list(alloc, source, Kind::Host, hosts, allowance)?;
+    let hosts = flatten_counted_list(alloc, source, Kind::Host, hosts, hosts.len(), allowance)?;
     let commands = flatten_commands(alloc, source, row.commands, allowance)?;
     Ok(FlatHostGroup { hosts, commands })
 }
@@ -158,12 +175,12 @@ fn flatten_host_groups<'a>(
     Ok(groups)
 }
 
-/// Returns the user specifications of the policy that `source` has, in file order, with their lists flat. Their members are taken from `allowance`,
-/// the number of members that all lists may have together.
+/// Returns the user specifications of the policy that `source` has, in file order, with their lists flat. What a list has more than is written
+/// is taken from `allowance`. So are the members of a Runas_Spec but the first of each list, for each command of which it holds.
 ///
 /// # Errors
 ///
-/// `TooLarge`: they have more than `allowance` members then. `NoMemory`: memory ran out.
+/// `TooLarge`: these members are more than `allowance`, or a list has more than 65,536 then. `NoMemory`: memory ran out.
 pub fn flatten_specs<'a>(
     alloc: Global,
     source: &ExpansionSource<'a, '_>,
@@ -197,7 +214,7 @@ fn append_flat_spec<'a>(
     };
     let tables = source.lines.tables;
     let users = rows_in(tables.members.as_slice(), *users);
-    let users = flatten_counted_list(alloc, source, Kind::User, users, allowance)?;
+    let users = flatten_counted_list(alloc, source, Kind::User, users, users.len(), allowance)?;
     let groups = rows_in(tables.groups.as_slice(), *groups);
     let groups = flatten_host_groups(alloc, source, groups, allowance)?;
     specs.push(FlatSpec {

@@ -47,8 +47,8 @@ fn append_rows_with_marks(
 ///
 /// # Errors
 ///
-/// `Cycle`: a reachable alias of one of them is cyclic. `TooLarge`: the lists of one have more than 65,536 members together when their aliases
-/// are replaced, or the lines have more than 16 MiB. `NoMemory`: memory ran out.
+/// `Cycle`: a reachable alias of one of them is cyclic. `TooLarge`: in one of them more than 65,536 members come in the place of
+/// aliases, or the lines have more than 16 MiB. `NoMemory`: memory ran out.
 pub fn make_changes_text(alloc: Global, old: &Policy, new: &Policy) -> Result<Vec<u8>, CompareFault>
     ensures text { IfOk result (λ text. IsChangesText old.now new.now text.items) }
     ensures straight { IfOk result (λ text. (HasCyclicAliasReachedFromSpecOrDefaults old.now.walk.lines → ⊥) × (HasCyclicAliasReachedFromSpecOrDefaults new.now.walk.lines → ⊥)) }

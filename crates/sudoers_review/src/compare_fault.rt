@@ -8,7 +8,7 @@ use sudoers_match_list::{AskFault, FlattenSizeFault};
 pub enum CompareFault {
     /// A reachable alias is cyclic.
     Cycle,
-    /// The lists of a policy have more than 65,536 members when their aliases are replaced, or the text has more than 16 MiB.
+    /// More than 65,536 members come in the place of the aliases of a policy, or the text has more than 16 MiB.
     TooLarge,
     /// Memory ran out.
     NoMemory,

@@ -34,7 +34,7 @@ impl<'a> FlatPolicy<'a> {
     ///
     /// # Errors
     ///
-    /// `Cycle`: a reachable alias is cyclic. `TooLarge`: the lists have more than 65,536 members together when their aliases are replaced.
+    /// `Cycle`: a reachable alias is cyclic. `TooLarge`: more than 65,536 members come in the place of aliases.
     /// `NoMemory`: memory ran out.
     pub fn new(alloc: Global, policy: &'a Policy) -> Result<FlatPolicy<'a>, CompareFault>
         ensures policy { IfOk result (λ flat. flat.policy ≡ policy.entry) }

@@ -164,8 +164,8 @@ fn append_undecided_rows_line(
 ///
 /// # Errors
 ///
-/// `Cycle`: a reachable alias is cyclic. `TooLarge`: the lists have more than 65,536 members together when their aliases are replaced, or the
-/// lines have more than 16 MiB. `NoMemory`: memory ran out.
+/// `Cycle`: a reachable alias is cyclic. `TooLarge`: more than 65,536 members come in the place of aliases, or the lines have more than
+/// 16 MiB. `NoMemory`: memory ran out.
 pub fn make_overruled_text(alloc: Global, policy: &Policy) -> Result<Vec<u8>, CompareFault>
     ensures text { IfOk result (λ text. text.items ≡ overruled_text policy.now) }
     ensures straight { IfOk result (λ _. HasCyclicAliasReachedFromSpecOrDefaults policy.now.walk.lines → ⊥) }
