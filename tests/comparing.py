@@ -311,8 +311,8 @@ def run_growths(stand):
                 ample = stand.run(words, folder)
                 report = b"".join(ample.stdout.partition(REPORT_END)[:2]) if words.startswith("check") else b""
                 refused = Answer(report, NAME + b"NoMemory\n", ERROR_STATUS)
-                named = (NAME + name + b": NoMemory\n" for name in (b"old", b"new", b"cycle"))
-                failed = {Answer(out, text, status) for out in (b"", report) for text in (refused.stderr, b"", *named) for status in (1, ERROR_STATUS)}
+                told = (b"", refused.stderr, *(NAME + name + b": NoMemory\n" for name in (b"old", b"new", b"cycle")))
+                failed = {Answer(out, text, status) for out in (b"", report) for text in told for status in (1, ERROR_STATUS)}
                 allowed = {ample, *failed}
                 case = Case(words, tuple(words.split(" ")), b"", stand_in(ample), folder=folder)
                 came = set()
