@@ -3,14 +3,17 @@
 A row of a table has texts in which `<1>`, `<2>` mark places. They are taken out, and `{1}` in the expected output is the place FILE:LINE:COL.
 Then random policies are compared with texts that mean the same: as `convert` prints them, with aliases replaced or not, and with other
 names of aliases. `diff` has to print nothing. Two random policies are compared, too: where `list` answers a request otherwise, `diff` has
-to print a line.
+to print a line. Growths of memory are refused.
 """
 
 import random
 import re
 from dataclasses import dataclass
 
-from program import Wanted, fault
+from cases import Case
+from explaining import stand_in
+from preload import with_library
+from program import NAME, Answer, Wanted, fault
 from stand import Folder, Stand
 from tally import difference
 
@@ -149,8 +152,8 @@ def run_files(stand):
         stand.note("the dialect", "diff --dialect sudo dialect adapted", Wanted(b""), folder)
         stand.note("a cycle that is not reached", "diff idle idle", Wanted(b""), folder)
         stand.note("a cycle that is not reached", "check --overruled idle", Wanted(None, stdout_has=(b"idle: parsed OK\n",)), folder)
-        for words in ("diff cycle idle", "diff idle cycle"):
-            stand.note("a cycle", words, fault("Cycle", 3), folder)
+        for words in ("diff cycle idle", "diff idle cycle", "diff cycle cycle"):
+            stand.note("a cycle", words, fault("cycle: Cycle", 3), folder)
         wanted = Wanted(None, None, 3, stdout_has=(b"cycle: parsed OK\n",), stderr_has=(b"sudoers_tool: Cycle\n",))
         stand.note("a cycle", "check --overruled cycle", wanted, folder)
         stand.note("a cycle", "check --overruled --error-status 7 cycle", Wanted(None, None, 7, stdout_has=(b"cycle: parsed OK\n",)), folder)
@@ -282,6 +285,46 @@ def run_pairs(stand):
         stand.tally.note(f"{PART}: other policies {number}", problems + difference("status", bool(came.stdout), came.status == 1))
 
 
+# ---- refused growths of memory ---------------------------------------------------------------
+
+ERROR_STATUS = 3
+GROWN = {
+    "old": "@include inc\nDefaults:OPS runas_default=bob, use_pty\nOPS ALL=(R) RUN, /bin/b\nann ALL=NOPASSWD: ALL\nann, eve ALL=ALL\n",
+    "inc": "User_Alias OPS=ann, NIGHT : NIGHT=eve\nRunas_Alias R=root\nCmnd_Alias RUN=/bin/a, !/bin/b\n",
+    "new": "Defaults !insults\nann ALL=(root : adm) SETENV: /bin/a x, CWD=/x /bin/b\nann, eve ALL=ALL\n",
+    "cycle": "User_Alias A=B : B=A\nA ALL=/bin/a\n",
+    "many": "".join(f"u{number} ALL=/bin/a\n" for number in range(COMPARED + 2)),
+}
+REPORT_END = b"parsed OK\n"
+GROWTHS = ("check --overruled --plain old", "check --overruled --plain many", "diff --plain old new", "diff --plain old old", "diff --plain cycle new")
+
+
+def run_growths(stand):
+    """If a growth is refused, the answer comes, or the error of memory: behind the report of `check`, or alone. `diff` may name the policy.
+
+    Before the command line is read, the program does not know the command, and the error of memory has the status 1.
+    """
+
+    def check(library):
+        for words in GROWTHS:
+            with Folder(GROWN) as folder:
+                ample = stand.run(words, folder)
+                report = b"".join(ample.stdout.partition(REPORT_END)[:2]) if words.startswith("check") else b""
+                refused = Answer(report, NAME + b"NoMemory\n", ERROR_STATUS)
+                told = (b"", refused.stderr, *(NAME + name + b": NoMemory\n" for name in (b"old", b"new", b"cycle")))
+                failed = {Answer(out, text, status) for out in (b"", report) for text in told for status in (1, ERROR_STATUS)}
+                allowed = {ample, *failed}
+                case = Case(words, tuple(words.split(" ")), b"", stand_in(ample), folder=folder)
+                came = set()
+                for refusal in ("refuse_growth", "refuse_from"):
+                    for number, (answer, _) in enumerate(library.run_each(stand.program, case, refusal), 1):
+                        stand.tally.note(f"{PART}: {words}, {refusal} {number}", [] if answer in allowed else [f"came {answer}"])
+                        came.add(answer)
+                stand.tally.note(f"{PART}: {words}, answers", [] if {ample, refused} <= came else [f"came only {came}"])
+
+    with_library(stand.tally, check)
+
+
 def run_all(program, tally):
     """Runs all of it."""
     stand = Stand(PART, program, tally)
@@ -292,3 +335,4 @@ def run_all(program, tally):
     run_files(stand)
     run_limits(stand)
     run_pairs(stand)
+    run_growths(stand)

@@ -25,7 +25,7 @@ SECONDS = 60
 
 FILES = ("policy", "web team", "a file with blanks")
 FOLDER = "sub"
-COMMANDS = ("adapt", "apply", "check", "convert", "edit", "help", "list", "place", "plan", "show", "what", "who", "why")
+COMMANDS = ("adapt", "apply", "check", "convert", "diff", "edit", "help", "list", "place", "plan", "show", "what", "who", "why")
 WITH_OPTIONS = tuple(name for name in COMMANDS if name != "help")
 OPTIONS_OF_ADAPT = ("--error-status", "--explain", "-h", "--help", "--plain", "--root")
 OPTIONS_OF_APPLY = (
@@ -43,8 +43,9 @@ OPTIONS_OF_LIST = (
 )
 OPTIONS_OF_CHECK = (
     *("-h", "--help", "-q", "-s", "--root", "--skipped", "--installed", "--dialect", "--for", "--all", "--json"),
-    *("--error-status", "--explain", "--plain"),
+    *("--error-status", "--explain", "--overruled", "--plain"),
 )
+OPTIONS_OF_DIFF = ("--dialect", "--explain", "-h", "--help", "--new-root", "--old-root", "--plain")
 OPTIONS_OF_SHOW = ("--dialect", "--error-status", "--explain", "-h", "--help", "--json", "--members", "--plain", "--root")
 OPTIONS_OF_MACHINE = (
     *("--dialect", "--policy", "--passwd", "--group-file", "--host", "--moment", "--interfaces", "--json"),
@@ -107,6 +108,8 @@ ROWS = (
     (("who", "--dialect", "sudo", "w"), ("web team",)),
     (("check", "--json", "w"), ("web team",)),
     (("show", "--j"), ("--json",)),
+    (("check", "--o"), ("--overruled",)),
+    (("check", "--overruled", "w"), ("web team",)),
     (("check", "--r"), ("--root",)),
     (("check", "--root", ""), (FOLDER,)),
     (("check", "--root", "p"), ()),
@@ -161,6 +164,24 @@ ROWS = (
     (("convert", "-m", "user=bob", "p"), ("policy",)),
     (("convert", "-f", "json", "-m", "user=bob", "-p", ""), ALL_FILES),
     (("convert", "-f", "sudoers", "policy", ""), ()),
+    (("d",), ("diff",)),
+    (("diff", ""), ALL_FILES),
+    (("diff", "w"), ("web team",)),
+    (("diff", "-"), OPTIONS_OF_DIFF),
+    (("diff", "--d"), ("--dialect",)),
+    (("diff", "--dialect", ""), ("sudo",)),
+    (("diff", "--dialect", "sudo", "w"), ("web team",)),
+    (("diff", "--o"), ("--old-root",)),
+    (("diff", "--n"), ("--new-root",)),
+    (("diff", "--old-root", ""), (FOLDER,)),
+    (("diff", "--new-root", "p"), ()),
+    (("diff", "--new-root=s"), (FOLDER,)),
+    (("diff", "--old-root", "sub", "--new-root=sub", "p"), ("policy",)),
+    (("diff", "policy", ""), ALL_FILES),
+    (("diff", "policy", "w"), ("web team",)),
+    (("diff", "-", "p"), ("policy",)),
+    (("diff", "policy", "--pl"), ("--plain",)),
+    (("diff", "policy", "policy", "w"), ()),
     (("l",), ("list",)),
     (("list", "-"), OPTIONS_OF_LIST),
     (("list", "--o"), ("--other-user",)),
@@ -375,6 +396,7 @@ ROWS = (
     (("why", "root", "/bin/ls", "-"), ()),
     (("help", ""), WITH_OPTIONS),
     (("help", "a"), ("adapt", "apply")),
+    (("help", "d"), ("diff",)),
     (("help", "wh"), ("what", "who", "why")),
     (("help", "p"), ("place", "plan")),
     (("help", "s"), ("show",)),

@@ -331,23 +331,26 @@ BY_PROGRAM = {
         "undecided::list_undecided_members",
         "undecided::list_undecided_members_of_rights",
     ),
+    "comparing": (
+        "compare::choose_marks",
+        "compare::find_overrulings",
+        "compare::flatten_runas_defaults",
+        "compare::flatten_scope",
+        "compare::flatten_specs",
+        "compare::list_flat_rows",
+        "compare::mark_changed_rows",
+        "review::append_row",
+        "review::make_changes_text",
+        "review::make_overruled_text",
+    ),
 }
-
-# No program calls these yet, so nothing asks them.
-BY_NONE = (
-    "compare::find_overrulings",
-    "compare::flatten_runas_defaults",
-    "compare::flatten_specs",
-    "compare::list_flat_rows",
-    "compare::mark_changed_rows",
-)
 
 
 def note_public_calls(tally):
     """Notes the public calls that take memory and that nothing here asks, and what is asked here that is none."""
     asked = {name.partition(" ")[0] for name in QUESTIONS} | set(CHANGING.values())
     tally.note("calls by which others are met", difference("asked", set(), set(INNER.values()) - set(QUESTIONS) - asked))
-    public, known = list(public_calls()), asked | {*INNER, *itertools.chain(*BY_PROGRAM.values()), *BY_NONE}
+    public, known = list(public_calls()), asked | {*INNER, *itertools.chain(*BY_PROGRAM.values())}
     tally.note("public calls that take memory", difference("not asked", [], sorted(set(public) - known)))
     tally.note("calls that are asked", difference("no public call", [], sorted(known - set(public))))
     tally.note("calls that are asked or met by others", difference("both", set(), asked & set(INNER)))

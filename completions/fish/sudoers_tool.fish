@@ -15,8 +15,9 @@ function __sudoers_tool_plain_words
         else if test -z "$no_options"; and string match --quiet -- '-?*' $word
             # These options take the next word.
             contains -- "$plain[1]" adapt apply check convert edit list place plan show what who why; and contains -- $word --root --error-status; and set option $word
+            contains -- "$plain[1]" diff; and contains -- $word --old-root --new-root; and set option $word
             contains -- "$plain[1]" check convert; and contains -- $word --for; and set option $word
-            contains -- "$plain[1]" check convert list show what who why; and contains -- $word --dialect; and set option $word
+            contains -- "$plain[1]" check convert diff list show what who why; and contains -- $word --dialect; and set option $word
             contains -- "$plain[1]" apply plan; and contains -- $word --also --after --before; and set option $word
             contains -- "$plain[1]" apply; and contains -- $word --undo-file --wish; and set option $word
             contains -- convert $plain; and contains -- $word -f --form -m --match; and set option $word
@@ -36,11 +37,12 @@ function __sudoers_tool_plain_words
 end
 
 # Succeeds if the command line has one of these commands, and the next word is its first argument. For check it may be a later one, and
-# for apply without a wish the second one.
+# for diff, and for apply without a wish, the second one.
 function __sudoers_tool_argument_of
     set -l plain (__sudoers_tool_plain_words); or return 1
     contains -- "$plain[1]" $argv; or return 1
     test (count $plain) -eq 1; or test $plain[1] = check; and return 0
+    test $plain[1]:(count $plain) = diff:2; and return 0
     test $plain[1]:(count $plain) = apply:2; and not string match --quiet -- '--wish*' (commandline -opc)
 end
 
@@ -127,6 +129,7 @@ complete -c sudoers_tool -n __fish_use_subcommand -a adapt -d 'Print a policy th
 complete -c sudoers_tool -n __fish_use_subcommand -a apply -d 'Apply an edit script to a policy, and put the edited files in place, all or none'
 complete -c sudoers_tool -n __fish_use_subcommand -a check -d 'Check a policy with the files that it includes'
 complete -c sudoers_tool -n __fish_use_subcommand -a convert -d 'Print the rules of a policy and of the files that it includes anew, as one policy or as JSON'
+complete -c sudoers_tool -n __fish_use_subcommand -a diff -d 'Print the rules that went from a policy and those that came'
 complete -c sudoers_tool -n __fish_use_subcommand -a edit -d 'Apply an edit script to a policy'
 complete -c sudoers_tool -n __fish_use_subcommand -a help -d 'Print help'
 complete -c sudoers_tool -n __fish_use_subcommand -a list -d 'Print what a user may run on a host, or whether a command is allowed'
@@ -152,7 +155,8 @@ complete -c sudoers_tool -n '__fish_seen_subcommand_from check show' -l json -d 
 complete -c sudoers_tool -n '__fish_seen_subcommand_from check' -l skipped -d 'List the folders and the files in included folders that are not read'
 complete -c sudoers_tool -n '__fish_seen_subcommand_from check' -l installed -d 'List links, and what sudo refuses for its owner or mode'
 complete -c sudoers_tool -n '__fish_seen_subcommand_from check' -l for -x -a 'sudo sudo-rs' -d 'List Defaults, other forms and includes that this program refuses'
-complete -c sudoers_tool -n '__fish_seen_subcommand_from check convert show' -l dialect -x -a sudo -d 'Read the policy in this dialect'
+complete -c sudoers_tool -n '__fish_seen_subcommand_from check' -l overruled -d 'List the commands that never decide'
+complete -c sudoers_tool -n '__fish_seen_subcommand_from check convert diff show' -l dialect -x -a sudo -d 'Read the policy in this dialect'
 complete -c sudoers_tool -n __sudoers_tool_option_of_list -l dialect -x -a sudo -d 'Read the policy in this dialect'
 complete -c sudoers_tool -n '__sudoers_tool_option_of what who why' -l dialect -x -a sudo -d 'Read the policy in this dialect'
 complete -c sudoers_tool -n '__fish_seen_subcommand_from show' -l members -d 'Print each member of alias definitions and of rules, with its place and number'
@@ -161,6 +165,8 @@ complete -c sudoers_tool -n '__fish_seen_subcommand_from convert' -s f -l form -
 complete -c sudoers_tool -n '__fish_seen_subcommand_from convert' -l for -x -a sudo -d 'With -f sudoers, spell the output for this program'
 complete -c sudoers_tool -n '__fish_seen_subcommand_from convert' -s m -l match -x -a '(__sudoers_tool_filter)' -d 'Print only rules for some users, groups and hosts'
 complete -c sudoers_tool -n '__fish_seen_subcommand_from convert' -s p -l prune-matches -d 'With -m, drop other users and hosts from the lists'
+complete -c sudoers_tool -n '__fish_seen_subcommand_from diff' -l old-root -x -a '(__fish_complete_directories)' -d 'Folder that is the root for OLD and the files that it includes'
+complete -c sudoers_tool -n '__fish_seen_subcommand_from diff' -l new-root -x -a '(__fish_complete_directories)' -d 'Folder that is the root for NEW and the files that it includes'
 complete -c sudoers_tool -n '__fish_seen_subcommand_from edit' -l files -r -F -d 'Script for a policy and the files that it includes'
 complete -c sudoers_tool -n '__fish_seen_subcommand_from apply edit plan' -l also -r -F -d 'Further file, spelled as show spells it'
 complete -c sudoers_tool -n '__fish_seen_subcommand_from edit' -l undo -x -d 'Number of edits to take back after the script'
@@ -182,11 +188,11 @@ complete -c sudoers_tool -n '__fish_seen_subcommand_from adapt apply check conve
 complete -c sudoers_tool -n __sudoers_tool_option_of_list -l root -x -a '(__fish_complete_directories)' -d 'Folder that is the root for the policy and the files that it includes'
 complete -c sudoers_tool -n '__fish_seen_subcommand_from adapt check convert edit show' -l error-status -x -d 'Exit status of an error'
 complete -c sudoers_tool -n __sudoers_tool_option_of_list -l error-status -x -d 'Exit status of an error'
-complete -c sudoers_tool -n '__fish_seen_subcommand_from adapt apply check convert edit place plan show' -l explain -d 'Explain an error, also where standard error is no terminal'
+complete -c sudoers_tool -n '__fish_seen_subcommand_from adapt apply check convert diff edit place plan show' -l explain -d 'Explain an error, also where standard error is no terminal'
 complete -c sudoers_tool -n __sudoers_tool_option_of_list -l explain -d 'Explain an error, also where standard error is no terminal'
-complete -c sudoers_tool -n '__fish_seen_subcommand_from adapt apply check convert edit place plan show' -l plain -d 'Print an error alone, also on a terminal'
+complete -c sudoers_tool -n '__fish_seen_subcommand_from adapt apply check convert diff edit place plan show' -l plain -d 'Print an error alone, also on a terminal'
 complete -c sudoers_tool -n __sudoers_tool_option_of_list -l plain -d 'Print an error alone, also on a terminal'
-complete -c sudoers_tool -n '__sudoers_tool_argument_of adapt apply check convert edit list place plan show' -F
+complete -c sudoers_tool -n '__sudoers_tool_argument_of adapt apply check convert diff edit list place plan show' -F
 complete -c sudoers_tool -n __sudoers_tool_wish_of_plan -a '(__sudoers_tool_wishes)'
 complete -c sudoers_tool -n '__sudoers_tool_option_of who why' -s u -l user -x -a '(__fish_complete_users)' -d 'User as whom it would run'
 complete -c sudoers_tool -n '__sudoers_tool_option_of who why' -s g -l group -x -a '(__fish_complete_groups)' -d 'Group as which it would run'
@@ -208,4 +214,4 @@ complete -c sudoers_tool -n '__sudoers_tool_option_of what who why' -l plain -d 
 complete -c sudoers_tool -n __sudoers_tool_word_of_list -F
 complete -c sudoers_tool -n __sudoers_tool_word_of_question -F
 complete -c sudoers_tool -n '__sudoers_tool_argument_of what why' -a '(__fish_complete_users)'
-complete -c sudoers_tool -n '__sudoers_tool_argument_of help' -a 'adapt apply check convert edit list place plan show what who why'
+complete -c sudoers_tool -n '__sudoers_tool_argument_of help' -a 'adapt apply check convert diff edit list place plan show what who why'

@@ -13,6 +13,7 @@ use crate::terminal::print_error_line;
 use clap::{Arg, ArgMatches, Command};
 use std::alloc::{AllocError, Global};
 use sudoers_files::gather;
+use sudoers_match_list::{AskFault, has_reachable_cycle_in_policy};
 use sudoers_review::make_changes_text;
 use sudoers_run::{LayerFault, ToolFault};
 use sudoers_tree::Policy;
@@ -110,8 +111,30 @@ pub fn run_diff_command(rt: &HostRuntime, words: &ArgMatches<'_>) -> u8 {
     };
     match print_changes(rt, &old, &new) {
         Ok(status) => status,
-        Err(fault) => explain_error_of_both(rt, words, fault),
+        Err(fault) => {
+            let side = find_side_with_cycle(rt.alloc(), &fault, &old, &new);
+            explain_error_of_both(rt, words, side, fault)
+        }
     }
+}
+
+/// Returns the side that `fault` is about, if it is a cycle of aliases.
+fn find_side_with_cycle(
+    alloc: Global,
+    fault: &ToolFault,
+    old: &Policy,
+    new: &Policy,
+) -> Option<Side> {
+    if !matches!(fault, ToolFault::Layer(LayerFault::Ask(AskFault::Cycle))) {
+        return None;
+    }
+    if has_reachable_cycle_in_policy(alloc, old) == Ok(true) {
+        return Some(OLD_SIDE);
+    }
+    if has_reachable_cycle_in_policy(alloc, new) == Ok(true) {
+        return Some(NEW_SIDE);
+    }
+    None
 }
 
 /// Returns the files of a policy.
@@ -161,14 +184,20 @@ fn explain_error_of_side(
         Vec::new(rt.alloc())
     };
     let trouble = match fault {
-        ToolFault::Layer(LayerFault::Load(_)) => FileTrouble::from(fault),
+        ToolFault::Layer(LayerFault::Load(_) | LayerFault::NoMemory) => FileTrouble::from(fault),
         fault => FileTrouble::from_fault_in_file(rt.alloc(), file.as_bytes(), fault),
     };
     print_diff_error(rt, &trouble, explanation.as_slice())
 }
 
-/// Prints the error `fault` of comparing two policies, with the lines that explain it. Returns the exit status.
-fn explain_error_of_both(rt: &HostRuntime, words: &ArgMatches<'_>, fault: ToolFault) -> u8 {
+/// Prints the error `fault` of comparing two policies, with the lines that explain it. It is about `side`, if one is given. Returns the exit
+/// status.
+fn explain_error_of_both(
+    rt: &HostRuntime,
+    words: &ArgMatches<'_>,
+    side: Option<Side>,
+    fault: ToolFault,
+) -> u8 {
     let explanation = if are_errors_explained(rt, words)
         && let Ok(text) = explain_fault_of_words(rt, words, None, &fault)
     {
@@ -176,7 +205,14 @@ fn explain_error_of_both(rt: &HostRuntime, words: &ArgMatches<'_>, fault: ToolFa
     } else {
         Vec::new(rt.alloc())
     };
-    print_diff_error(rt, &FileTrouble::from(fault), explanation.as_slice())
+    let trouble = match side {
+        Some(side) => {
+            let file = words.get_str(side.file).unwrap_or("");
+            FileTrouble::from_fault_in_file(rt.alloc(), file.as_bytes(), fault)
+        }
+        None => FileTrouble::from(fault),
+    };
+    print_diff_error(rt, &trouble, explanation.as_slice())
 }
 
 /// Prints an error and the lines `explanation`. Returns the exit status.
