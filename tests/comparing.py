@@ -311,7 +311,7 @@ def run_growths(stand):
                 ample = stand.run(words, folder)
                 report = b"".join(ample.stdout.partition(REPORT_END)[:2]) if words.startswith("check") else b""
                 refused = Answer(report, NAME + b"NoMemory\n", ERROR_STATUS)
-                told = (b"", refused.stderr, *(NAME + name + b": NoMemory\n" for name in (b"old", b"new", b"cycle")))
+                told = (b"", refused.stderr, NAME + b"Cycle\n")
                 failed = {Answer(out, text, status) for out in (b"", report) for text in told for status in (1, ERROR_STATUS)}
                 allowed = {ample, *failed}
                 case = Case(words, tuple(words.split(" ")), b"", stand_in(ample), folder=folder)
