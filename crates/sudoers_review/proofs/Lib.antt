@@ -1,2 +1,3 @@
+mod OverruledRows
 mod RowTexts
 mod ShownRows
