@@ -1,3 +1,4 @@
 mod OverruledRows
 mod RowTexts
+mod SettingLines
 mod ShownRows
