@@ -1,3 +1,4 @@
+mod ChangesTexts
 mod OverruledRows
 mod RowTexts
 mod SettingLines
