@@ -3,3 +3,4 @@ mod OverruledRows
 mod RowTexts
 mod SettingLines
 mod ShownRows
+mod SilentChanges
