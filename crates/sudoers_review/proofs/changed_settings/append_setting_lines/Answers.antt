@@ -1,4 +1,4 @@
-use Rattle.std.proofs.Common.{◌≡◌, ◌++◌, ◌+◌, ℕ, List, codes, map, ap, subst, ◌∙◌}
+use Rattle.std.proofs.Common.{◌≡◌, ◌++◌, ℕ, List, codes, map, ap, subst, ◌∙◌}
 use Rattle.sudoers_list.specs.Reason.{place_text_on_walk_line}
 use Rattle.sudoers_compare.specs.declared.flat_defaults.FlatRunasDefault.{FlatRunasDefault as FlatRunasDefaultView}
 use Rattle.sudoers_compare.specs.FlatDefaults.{flat_runas_default_in_tables}

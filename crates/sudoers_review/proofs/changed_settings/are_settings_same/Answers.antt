@@ -1,4 +1,4 @@
-use Rattle.std.proofs.Common.{◌<◌, true, false, length, map, sym, ap, ◌∙◌, true≢false, arith}
+use Rattle.std.proofs.Common.{◌<◌, length, map, sym, ap, ◌∙◌, true≢false, arith}
 use Rattle.sudoers_compare.specs.FlatDefaults.{flat_runas_default_in_tables}
 use Rattle.sudoers_review.proofs.SettingLines.{one_more_setting_is_same, same_settings_have_same_items}
 use Rattle.sudoers_review.proofs.changed_settings.are_settings_same.Goals as goal

@@ -1,4 +1,4 @@
-use Rattle.std.proofs.Common.{◌≡◌, ◌+◌, ℕ, List, length, sym, ap, subst, ◌∙◌, arith}
+use Rattle.std.proofs.Common.{◌≡◌, ◌+◌, List, length, sym, ap, subst, ◌∙◌, arith}
 use Rattle.sudoers_compare.specs.FlatSpecs.{PlacedRow}
 use Rattle.sudoers_review.specs.declared.overruled.UndecidedRows.{UndecidedRows}
 use Rattle.sudoers_review.specs.Undecided.{AreCountedRows}
