@@ -1,2 +1,6 @@
+mod ChangesTexts
+mod OverruledRows
 mod RowTexts
+mod SettingLines
 mod ShownRows
+mod SilentChanges

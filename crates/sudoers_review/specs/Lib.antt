@@ -3,4 +3,5 @@ pub mod Faults
 pub mod OverruledText
 pub mod RowText
 pub mod RowViews
+pub mod Undecided
 pub mod Views

@@ -1,9 +1,10 @@
 //! What is printed of the rows in which two policies differ.
 
-ghost use Rattle.std.specs.Prelude.{◌≡◌, ◌++◌, ℕ, List, drop, get_or, false, codes, map, OnOk, IfOk};
+ghost use Rattle.std.specs.Prelude.{◌≡◌, ◌++◌, ℕ, List, drop, get_or, false, codes, map, OnOk, IfOk, IfErr};
 ghost use Rattle.std.specs.List.{flat_map};
 ghost use Rattle.sudoers_compare.specs.FlatSpecs.{placed_row_of_view};
 ghost use Rattle.sudoers_review.specs.ChangedText.{changed_row_line, changed_row_lines, marked_rows, marked_rows_in_front, rows_behind_first_unmarked, rows_with_marks};
+ghost use Rattle.sudoers_review.specs.Faults.{IsMemoryOrSizeFault};
 ghost use Rattle.sudoers_review.specs.Views.{marked_rows_of_view};
 
 use crate::compare_fault::CompareFault;
@@ -39,7 +40,8 @@ fn append_changed_row(
     policy: &Policy,
     placed: &PlacedFlatRow<'_>,
 ) -> Result<(), CompareFault>
-    ensures { OnOk result (out.new.items ≡ out.old.items ++ changed_row_line sign.now policy.now (placed_row_of_view placed.now)) }
+    ensures line { OnOk result (out.new.items ≡ out.old.items ++ changed_row_line sign.now policy.now (placed_row_of_view placed.now)) }
+    ensures fault { IfErr result IsMemoryOrSizeFault }
 {
     if has_long_lists(&placed.row) || out.len() > TEXT_LIMIT {
         return Err(CompareFault::TooLarge);
@@ -63,6 +65,7 @@ fn append_rows_in_front(
     ensures lines { OnOk result (out.new.items ≡ out.old.items
         ++ flat_map (changed_row_line (codes "+ ") new.now.policy.now) (marked_rows_in_front (drop from (marked_rows_of_view new.now)))) }
     ensures behind { IfOk result (λ number. drop number (marked_rows_of_view new.now) ≡ rows_behind_first_unmarked (drop from (marked_rows_of_view new.now))) }
+    ensures fault { IfErr result IsMemoryOrSizeFault }
 {
     let mut number = from;
     while number < new.rows.len() && is_marked(new.marks, number) {
@@ -82,8 +85,9 @@ fn append_marked_rows(
     new: &MarkedRows<'_, '_, '_, '_>,
     from: usize,
 ) -> Result<(), CompareFault>
-    ensures { OnOk result (out.new.items ≡ out.old.items
+    ensures lines { OnOk result (out.new.items ≡ out.old.items
         ++ flat_map (changed_row_line (codes "+ ") new.now.policy.now) (marked_rows (drop from (marked_rows_of_view new.now)))) }
+    ensures fault { IfErr result IsMemoryOrSizeFault }
 {
     for number in from..new.rows.len() {
         if is_marked(new.marks, number) {
@@ -100,8 +104,9 @@ pub fn append_changed_rows(
     old: &MarkedRows<'_, '_, '_, '_>,
     new: &MarkedRows<'_, '_, '_, '_>,
 ) -> Result<(), CompareFault>
-    ensures { OnOk result (out.new.items ≡ out.old.items
+    ensures lines { OnOk result (out.new.items ≡ out.old.items
         ++ changed_row_lines old.now.policy.now new.now.policy.now (marked_rows_of_view old.now) (marked_rows_of_view new.now)) }
+    ensures fault { IfErr result IsMemoryOrSizeFault }
 {
     let mut reached = 0;
     for number in 0..old.rows.len() {

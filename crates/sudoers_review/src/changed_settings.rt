@@ -1,9 +1,10 @@
 //! What is printed of the settings of runas_default in which two policies differ.
 
-ghost use Rattle.std.specs.Prelude.{◌≡◌, ◌↔◌, ◌++◌, ℕ, List, codes, map, true, OnOk};
+ghost use Rattle.std.specs.Prelude.{◌≡◌, ◌↔◌, ◌++◌, ℕ, List, codes, map, true, OnOk, IfErr};
 ghost use Rattle.std.specs.Option.{option_map};
 ghost use Rattle.sudoers_compare.specs.FlatDefaults.{flat_runas_default_in_tables, flat_scope_in_tables};
 ghost use Rattle.sudoers_review.specs.ChangedText.{printed_scope, printed_setting, AreSettingLines, IsSettingsText};
+ghost use Rattle.sudoers_review.specs.Faults.{IsMemoryOrSizeFault};
 
 use crate::compare_fault::CompareFault;
 use crate::flat_policy::FlatPolicy;
@@ -65,8 +66,9 @@ fn append_setting_lines(
     sign: &[u8],
     flat: &FlatPolicy<'_>,
 ) -> Result<(), CompareFault>
-    ensures { OnOk result ((lines : List ℕ) × (out.new.items ≡ out.old.items ++ lines)
+    ensures lines { OnOk result ((lines : List ℕ) × (out.new.items ≡ out.old.items ++ lines)
         × AreSettingLines sign.now (map (flat_runas_default_in_tables flat.now.tables.now) flat.now.settings.items) lines) }
+    ensures fault { IfErr result IsMemoryOrSizeFault }
 {
     for setting in flat.settings.as_slice() {
         if out.len() > TEXT_LIMIT {
@@ -105,8 +107,9 @@ pub fn append_changed_settings(
     old: &FlatPolicy<'_>,
     new: &FlatPolicy<'_>,
 ) -> Result<(), CompareFault>
-    ensures { OnOk result ((text : List ℕ) × (out.new.items ≡ out.old.items ++ text)
+    ensures text { OnOk result ((text : List ℕ) × (out.new.items ≡ out.old.items ++ text)
         × IsSettingsText (map (flat_runas_default_in_tables old.now.tables.now) old.now.settings.items) (map (flat_runas_default_in_tables new.now.tables.now) new.now.settings.items) text) }
+    ensures fault { IfErr result IsMemoryOrSizeFault }
 {
     if are_settings_same(old, new) {
         return Ok(());

@@ -5,6 +5,7 @@ ghost use Rattle.sudoers_check.specs.Chains.{HasCyclicAliasReachedFromSpecOrDefa
 ghost use Rattle.sudoers_review.specs.declared.compare_fault.CompareFault.TheVariants.{Cycle, NoMemory, TooLarge};
 ghost use Rattle.sudoers_compare.specs.FlatSpecs.{placed_row_of_view};
 ghost use Rattle.sudoers_review.specs.ChangedText.{changed_row_lines, rows_with_marks, IsChangesText};
+ghost use Rattle.sudoers_review.specs.Faults.{IsMemoryOrSizeFault};
 
 use crate::changed_rows::{MarkedRows, append_changed_rows};
 use crate::changed_settings::append_changed_settings;
@@ -25,8 +26,9 @@ fn append_rows_with_marks(
     new_rows: &[PlacedFlatRow<'_>],
     marks: &RowMarks,
 ) -> Result<(), CompareFault>
-    ensures { OnOk result (out.new.items ≡ out.old.items ++ changed_row_lines old.now new.now
+    ensures lines { OnOk result (out.new.items ≡ out.old.items ++ changed_row_lines old.now new.now
         (rows_with_marks marks.now.gone.items (map placed_row_of_view old_rows.now)) (rows_with_marks marks.now.came.items (map placed_row_of_view new_rows.now))) }
+    ensures fault { IfErr result IsMemoryOrSizeFault }
 {
     let gone = MarkedRows {
         policy: old,

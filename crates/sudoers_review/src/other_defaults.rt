@@ -1,6 +1,7 @@
 //! What is printed of the parameters of Defaults on which no answer depends, where two policies differ.
 
-ghost use Rattle.std.specs.Prelude.{◌≡◌, ◌++◌, ℕ, List, OnOk};
+ghost use Rattle.std.specs.Prelude.{◌≡◌, ◌≤◌, ◌++◌, ℕ, List, OnOk, IfErr};
+ghost use Rattle.sudoers_review.specs.Faults.{IsMemoryOrSizeFault};
 
 use crate::changed_settings::append_flat_scope;
 use crate::compare_fault::CompareFault;
@@ -59,7 +60,9 @@ fn make_scope_text(
     source: &ExpansionSource<'_, '_>,
     scope: Option<ScopeRow>,
     allowance: &mut usize,
-) -> Result<Vec<u8>, CompareFault> {
+) -> Result<Vec<u8>, CompareFault>
+    ensures { IfErr result IsMemoryOrSizeFault }
+{
     let scope: Option<FlatScope> = flatten_scope(alloc, source, scope, allowance)?;
     if let Some(scope) = &scope
         && count_member_bytes(0, scope.members.as_slice()) > MEMBER_BYTE_LIMIT
@@ -84,7 +87,9 @@ impl OtherDefaults {
         alloc: Global,
         source: &ExpansionSource<'_, '_>,
         allowance: &mut usize,
-    ) -> Result<OtherDefaults, CompareFault> {
+    ) -> Result<OtherDefaults, CompareFault>
+        ensures { IfErr result IsMemoryOrSizeFault }
+    {
         let mut others = OtherDefaults {
             list: Vec::new(alloc),
             left: TEXT_LIMIT,
@@ -106,7 +111,9 @@ impl OtherDefaults {
         line: usize,
         scope: &[u8],
         params: RowRange,
-    ) -> Result<(), CompareFault> {
+    ) -> Result<(), CompareFault>
+        ensures { IfErr result IsMemoryOrSizeFault }
+    {
         for row in rows_in(tables.params.as_slice(), params) {
             if read_runas_default_param(&tables.parameter_of_row(row)).is_none() {
                 let text = make_default_text(alloc, tables, scope, row)?;
@@ -137,7 +144,9 @@ fn append_default_line(
 }
 
 /// Returns the number of the first mark from `from` on that is not set.
-fn find_unset_mark(marks: &[bool], from: usize) -> usize {
+fn find_unset_mark(marks: &[bool], from: usize) -> usize
+    ensures { from ≤ result }
+{
     let mut number = from;
     while number < marks.len() && marks[number] {
         number += 1;
@@ -169,7 +178,8 @@ pub fn append_changed_other_defaults(
     old: &FlatPolicy<'_>,
     new: &FlatPolicy<'_>,
 ) -> Result<(), CompareFault>
-    ensures { OnOk result ((text : List ℕ) × (out.new.items ≡ out.old.items ++ text)) }
+    ensures text { OnOk result ((text : List ℕ) × (out.new.items ≡ out.old.items ++ text)) }
+    ensures fault { IfErr result IsMemoryOrSizeFault }
 {
     let lists = ComparedDefaults {
         old: old.others.list.as_slice(),

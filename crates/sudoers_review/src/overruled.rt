@@ -1,8 +1,13 @@
 //! What is printed of commands that never decide.
 
-ghost use Rattle.std.specs.Prelude.{◌≡◌, ◌⊎◌, ◌++◌, List, [], map, IfOk, IfErr, OnOk};
+ghost use Rattle.std.specs.Prelude.{◌≡◌, ◌⊎◌, ◌++◌, List, [], length, map, slice_get, option_and_then, IfOk, IfErr, OnOk};
+ghost use Rattle.std.specs.Borrow.{Bor};
+ghost use Rattle.std.specs.Option.{option_map};
 ghost use Rattle.sudoers_check.specs.Chains.{HasCyclicAliasReachedFromSpecOrDefaults};
-ghost use Rattle.sudoers_compare.specs.FlatSpecs.{placed_row_of_view};
+ghost use Rattle.sudoers_compare.specs.declared.flat_rows.PlacedFlatRow.{PlacedFlatRow as PlacedFlatRowOf};
+ghost use Rattle.sudoers_compare.specs.FlatSpecs.{PlacedRow, placed_row_of_view};
+ghost use Rattle.sudoers_review.specs.Faults.{IsMemoryOrSizeFault};
+ghost use Rattle.sudoers_review.specs.Undecided.{AreCountedRows};
 ghost use Rattle.sudoers_review.specs.declared.compare_fault.CompareFault.TheVariants.{Cycle, NoMemory, TooLarge};
 ghost use Rattle.sudoers_review.specs.OverruledText.{command_text_of_row, overruled_lines, overruled_row_line, overruled_row_line_if_any, overruled_text, place_text_of_row, text_of_overrulings, undecided_rows, undecided_rows_line, useless_or_overruled_words};
 
@@ -74,8 +79,13 @@ fn append_overruled_row_line(
 fn find_row<'r, 'f>(
     rows: &'r [PlacedFlatRow<'f>],
     number: Option<usize>,
-) -> Option<&'r PlacedFlatRow<'f>> {
-    rows.get(number?)
+) -> Option<&'r PlacedFlatRow<'f>>
+    ensures { option_map (λ (row : Bor PlacedFlatRowOf). placed_row_of_view row.now) result ≡ option_and_then (slice_get (map placed_row_of_view rows.now)) number }
+{
+    match number {
+        Some(number) => rows.get(number),
+        None => None,
+    }
 }
 
 /// Appends the line on `placed` to `out`, if `later` covers it.
@@ -85,7 +95,10 @@ fn append_line_of_overruling(
     policy: &Policy,
     placed: &PlacedFlatRow<'_>,
     later: Option<&PlacedFlatRow<'_>>,
-) -> Result<(), AllocError> {
+) -> Result<(), AllocError>
+    ensures { OnOk result (out.new.items ≡ out.old.items
+        ++ overruled_row_line_if_any policy.now (placed_row_of_view placed.now) (option_map (λ (row : Bor PlacedFlatRowOf). placed_row_of_view row.now) later.entry)) }
+{
     match later {
         Some(later) => append_overruled_row_line(alloc, out, policy, placed, later),
         None => Ok(()),
@@ -100,7 +113,8 @@ fn append_overruled_lines(
     rows: &[PlacedFlatRow<'_>],
     found: &[Overruling],
 ) -> Result<(), CompareFault>
-    ensures { OnOk result (out.new.items ≡ out.old.items ++ overruled_lines policy.now (map placed_row_of_view rows.now) (map placed_row_of_view rows.now) found.now) }
+    ensures lines { OnOk result (out.new.items ≡ out.old.items ++ overruled_lines policy.now (map placed_row_of_view rows.now) (map placed_row_of_view rows.now) found.now) }
+    ensures fault { IfErr result IsMemoryOrSizeFault }
 {
     for number in 0..rows.len().min(found.len()) {
         let later = find_row(rows, found[number].by);
@@ -120,7 +134,9 @@ struct UndecidedRows {
 }
 
 /// Returns the rows of which it is not decided whether a later one covers them.
-fn count_undecided_rows(found: &[Overruling]) -> UndecidedRows {
+fn count_undecided_rows(found: &[Overruling]) -> UndecidedRows
+    ensures { (rows : List PlacedRow) → length rows ≡ length found.now → AreCountedRows rows result (undecided_rows rows found.now) }
+{
     let mut undecided = UndecidedRows { first: 0, count: 0 };
     for number in 0..found.len() {
         if found[number].are_rows_left_out {
@@ -141,6 +157,7 @@ fn append_undecided_rows_line(
     rows: &[PlacedFlatRow<'_>],
     found: &[Overruling],
 ) -> Result<(), AllocError>
+    requires { length found.now ≡ length rows.now }
     ensures { OnOk result (out.new.items ≡ out.old.items ++ undecided_rows_line policy.now (undecided_rows (map placed_row_of_view rows.now) found.now)) }
 {
     let undecided = count_undecided_rows(found);

@@ -20,7 +20,7 @@ loop-number-preserved c =
           let row = placed_row_of_view (get_or old.rows.now number w.index-old-number.result) in
           let stands = held_row_stands old number w.index-old-number.result true c.is_marked.result c.loop-number-test.true w.if-is_marked.true c.is_marked.ensures in
           line_of_old_row_is_appended old.policy.now new.policy.now o c.if-is_marked.out.items (drop number olds) (drop (number + 1) olds) (drop reached news)
-          (drop c.if-is_marked.reached news) row stands (ap (λ (v : _). v.items) w.out-is ∙ w.in_ok-append_changed_row.ensures) (ap (λ (n : ℕ). drop n news) w.reached-is)
+          (drop c.if-is_marked.reached news) row stands (ap (λ (v : _). v.items) w.out-is ∙ w.in_ok-append_changed_row.ensures.line) (ap (λ (n : ℕ). drop n news) w.reached-is)
           ∙ c.loop-number.invariant
       | else-is_marked+in_ok-reached w ↦
           let found = held_row_without_mark_stands old number c.is_marked.result c.loop-number-test.true w.if-is_marked.false c.is_marked.ensures in
@@ -30,8 +30,8 @@ loop-number-preserved c =
           ∙ c.loop-number.invariant
     ]
 
-pub returns : goal.returns
-returns c =
+pub returns-clause-lines : goal.returns-clause-lines
+returns-clause-lines c =
     let old = c.args.old.now in
     let new = c.args.new.now in
     let number = c.loop-number.number in
@@ -40,4 +40,4 @@ returns c =
     on_ok_weaker c.append_marked_rows.result (λ e.
     e ∙ lines_of_last_new_rows_are_left old.policy.now new.policy.now o (drop number (marked_rows_of_view old)) (drop c.loop-number.reached (marked_rows_of_view new))
     (no_held_row_stands_behind_last old number end)
-    ∙ c.loop-number.invariant) c.append_marked_rows.ensures
+    ∙ c.loop-number.invariant) c.append_marked_rows.ensures.lines

@@ -18,7 +18,7 @@ loop-number-preserved c =
           let row = placed_row_of_view (get_or new.rows.now number w.index-new-number.result) in
           let stands = held_row_stands new number w.index-new-number.result true c.is_marked.result c.loop-number-test.true w.if-is_marked.true c.is_marked.ensures in
           marked_line_is_appended line o c.if-is_marked.out.items (drop number rows) (drop (number + 1) rows) row stands
-          (ap (λ (v : _). v.items) w.out-is ∙ w.in_ok-append_changed_row.ensures)
+          (ap (λ (v : _). v.items) w.out-is ∙ w.in_ok-append_changed_row.ensures.line)
           ∙ c.loop-number.invariant
       | else-is_marked w ↦
           let found = held_row_without_mark_stands new number c.is_marked.result c.loop-number-test.true w.if-is_marked.false c.is_marked.ensures in
@@ -26,8 +26,8 @@ loop-number-preserved c =
           ∙ c.loop-number.invariant
     ]
 
-pub returns : goal.returns
-returns c =
+pub returns-clause-lines : goal.returns-clause-lines
+returns-clause-lines c =
     let new = c.args.new.now in
     let number = c.loop-number.number in
     let end : length new.rows.now ≤ number = omega (arith, c.loop-number-test.false) in

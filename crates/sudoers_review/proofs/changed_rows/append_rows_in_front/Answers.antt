@@ -14,7 +14,7 @@ loop-number-preserved c =
     let line = changed_row_line (codes "+ ") new.policy.now in
     let row = placed_row_of_view (get_or new.rows.now number c.index-new-number.result) in
     let stands = held_row_stands new number c.index-new-number.result true c.is_marked.result c.loop-number-test.true c.if-is_marked.true c.is_marked.ensures in (
-      marked_line_in_front_is_appended line c.loop-number.out.items c.append_changed_row.new.out.items (drop number rows) (drop (number + 1) rows) row stands c.in_ok-append_changed_row.ensures
+      marked_line_in_front_is_appended line c.loop-number.out.items c.append_changed_row.new.out.items (drop number rows) (drop (number + 1) rows) row stands c.in_ok-append_changed_row.ensures.line
           ∙ c.loop-number.invariant.0,
       rows_behind_marked_row_are_same (drop number rows) (drop (number + 1) rows) row stands ∙ c.loop-number.invariant.1,
     )
