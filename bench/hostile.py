@@ -4,6 +4,7 @@ Each is a legal policy within the limits, as people never write it.
 """
 
 import os
+import random
 from dataclasses import dataclass
 
 import people
@@ -97,6 +98,17 @@ def chain_to_user():
     return links + b"User_Alias A%d = u, x\nA1 ALL = /b\n" % KIND_LIMIT
 
 
+def one_command(order=1):
+    """Rules of one command, each for another user, in this order or in the other one."""
+    return b"".join([b"u%d ALL=/a\n" % n for n in range(65_536)][::order])
+
+
+def shuffled_lists():
+    """Rules of one command for the same 9,000 users, each time in another order."""
+    draw, users = random.Random(1), [b"n%d" % n for n in range(9_000)]
+    return b"".join(b", ".join(draw.sample(users, len(users))) + b" ALL=/a\n" for _ in range(16))
+
+
 def one_pattern(pattern):
     """A rule whose arguments are a pattern."""
     return b"u ALL=/b *" + pattern + b"\n"
@@ -150,6 +162,13 @@ def planning(folder, name, policy, wish):
     return ["plan", path, wish], ["plan", plain, wish]
 
 
+def comparing(folder, name, old, new):
+    """The comparison of two policies, and of an ordinary policy with itself."""
+    paths = file_in(folder, f"{name}-old", old), file_in(folder, f"{name}-new", new)
+    plain = file_in(folder, f"{name}-plain", b"".join(policies.policy(len(old))))
+    return ["diff", *paths], ["diff", plain, plain]
+
+
 def including(folder, name, count):
     """`check` of lines that include one empty folder, and of an ordinary policy; and the size of both."""
     included = os.path.join(folder, name)
@@ -168,6 +187,8 @@ def commands(folder):
     values = ",".join(f"user=x{n}" for n in range(1, 65))
     unknown, escapes, leaver = unknown_parameters(), unknown_escapes(), chain_to_user()
     equals, quotes = plain_equals(), quoted_arguments()
+    rules, shuffled = one_command(), shuffled_lists()
+    turned = one_command(-1)
     made = (
         ("`convert -e`, a chain of 4,096 and 65,400 mentions", 0, chain, converting(folder, "chain", chain, ("-e",), ("-e",), len(chain))),
         ("`convert -m`, 64 values and 16,384 aliases", 0, many, converting(folder, "values", many, ("-m", values), ("-m", "user=x1"), len(many))),
@@ -181,6 +202,9 @@ def commands(folder):
         ("`check --dialect sudo`, 315,000 `=` of arguments", 0, equals, running(folder, "dialect", equals, "check", "--dialect", "sudo")),
         ("`convert --for sudo`, 157,000 quoted arguments", 0, quotes, running(folder, "quotes", quotes, "convert", "-f", "sudoers", "--for", "sudo")),
         ("`plan 'no-user u'`, a chain of 4,096 aliases", 0, leaver, planning(folder, "leaver", leaver, "no-user u")),
+        ("`check --overruled`, 65,536 rules of one command", 0, rules, running(folder, "rules", rules, "check", "--overruled")),
+        ("`check --overruled`, 16 rules of 9,000 users in another order", 0, shuffled, running(folder, "shuffled", shuffled, "check", "--overruled")),
+        ("`diff`, 65,536 rules in the other order", 1, rules, comparing(folder, "turned", rules, turned)),
         ("`list COMMAND`, `*` and 30,000 `[`", 0, unclosed, listing(folder, "unclosed", unclosed, b"", (), ("/b", "[" * 60_000))),
     )
     for name, status, policy, (words, ordinary) in made:
