@@ -15,7 +15,7 @@ from stand import write
 from tally import difference
 from way_back import policy_of
 
-PEOPLE = {"passwd": "root:x:0:0:::\nbob:x:1000:1000:::\n", "group": "adm:x:4:bob\n"}
+PEOPLE = {"passwd": "root:x:0:0:::\nbob:x:1000:1000:::\n", "group": "adm:x:4:bob\n", "none": ""}
 LIST = ("list", "--passwd", "../people/passwd", "--group-file", "../people/group", "--host", "h1", "--moment", "2026010100Z", "-U", "bob")
 MACHINE = ("--passwd", "../people/passwd", "--group-file", "../people/group", "--host", "h1", "--moment", "2026010100Z", "--policy")
 ARGUMENT = "a" * 65_536
@@ -23,6 +23,8 @@ ARGUMENT = "a" * 65_536
 # The words of each command before the policy and after it.
 COMMANDS = (
     *((words, ()) for words in (("show",), ("show", "--json"), ("check",), ("check", "-s"), ("check", "--all", "--json"))),
+    (("check", "--overruled"), ()),
+    (("diff", "../people/none"), ()),
     *((("convert", "-f", form, *more), ()) for form in ("sudoers", "json") for more in ((), ("-e",))),
     *((("convert", "-f", "sudoers", *more, "-m", "user=bob,host=h1"), ()) for more in ((), ("-e", "-p"))),
     *((LIST, words) for words in ((), ("/bin/a",), ("/a", ARGUMENT))),
