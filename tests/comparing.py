@@ -94,7 +94,7 @@ class Change:
     lines: str = ""
 
 
-HEADING = "Defaults on which no answer depends:\n"
+HEADING = "Defaults that this program does not weigh:\n"
 CHANGES = (
     Change("the same", "ann ALL=/bin/a\n", "# a comment\nann  ALL = /bin/a\n"),
     Change("a rule that came", "ann ALL=/bin/a\n", "ann ALL=/bin/a\nbob ALL = (root) NOPASSWD: <1>/bin/b -l\n", "+ bob ALL = (root) NOPASSWD: /bin/b -l  {1}\n"),
@@ -114,14 +114,30 @@ CHANGES = (
 )
 
 
-def run_change(stand, row):
-    """Runs one row."""
+GRANTED = (
+    Change("the same", "ann ALL=/bin/a\n", "ann  ALL = /bin/a # x\n"),
+    Change("a rule that came", "ann ALL=/bin/a\n", "ann ALL=/bin/a\nbob ALL=<1>/bin/b\n", "+ bob ALL = /bin/b  {1}\n"),
+    Change("a rule that went", "ann ALL=/bin/a, /bin/b\n", "ann ALL=/bin/a\n"),
+    Change("a denial that came", "ann ALL=ALL\n", "ann ALL=ALL, !/bin/b\n"),
+    Change("a denial that went", "ann ALL=ALL, !<1>/bin/b\n", "ann ALL=ALL\n", "- ann ALL = !/bin/b  {1}\n"),
+    Change("a denial before its rule", "ann ALL=ALL, !<1>/bin/b\n", "ann ALL=!/bin/b, <2>ALL\n", "+ ann ALL = ALL  {2}\n"),
+    Change("another tag", "ann ALL=/bin/a\n", "ann ALL=NOPASSWD: <1>/bin/a\n", "+ ann ALL = NOPASSWD: /bin/a  {1}\n"),
+    Change("a member less", "ann, bob ALL=/bin/a\n", "ann ALL=<1>/bin/a\n", "+ ann ALL = /bin/a  {1}\n"),
+    Change("runas_default", "ann ALL=/bin/a\n", "<1>Defaults runas_default=bob\nann ALL=/bin/a\n", "+ Defaults runas_default=bob  {1}\n"),
+)
+WEIGHED_NOT = (
+    Change("a parameter", "ann ALL=/bin/a\n", "<1>Defaults !authenticate\nann ALL=/bin/a\n", HEADING + "+ Defaults !authenticate  {1}\n"),
+)
+
+
+def run_change(stand, row, words="diff", status=1):
+    """Runs one row with these words. The status is that one where lines are printed."""
     places = {}
     old, new = without_marks("old", row.old, places), without_marks("new", row.new, places)
     lines = filled_in(row.lines, places)
     with Folder({"old": old, "new": new}) as folder:
-        stand.note(row.name, "diff old new", Wanted(lines.encode(), status=1 if lines else 0), folder)
-        stand.note(row.name, "diff new new", Wanted(b""), folder)
+        stand.note(row.name, f"{words} old new", Wanted(lines.encode(), status=status if lines else 0), folder)
+        stand.note(row.name, f"{words} new new", Wanted(b""), folder)
 
 
 # ---- files, errors and limits ------------------------------------------------------------
@@ -134,6 +150,7 @@ TREES = {
     "after/etc/sudoers.d/b": "eve ALL=ALL\n",
     "cycle": "User_Alias A=B : B=A\nA ALL=/bin/a\n",
     "idle": "User_Alias A=B : B=A\nann ALL=/bin/a\n",
+    "broken/etc/sudoers": "ann ALL\n",
     "wrong": "ann ALL\n",
     "lost": "@include none\n",
     "dialect": "ann ALL=/bin/a x=y\n",
@@ -152,8 +169,14 @@ def run_files(stand):
         stand.note("the dialect", "diff --dialect sudo dialect adapted", Wanted(b""), folder)
         stand.note("a cycle that is not reached", "diff idle idle", Wanted(b""), folder)
         stand.note("a cycle that is not reached", "check --overruled idle", Wanted(None, stdout_has=(b"idle: parsed OK\n",)), folder)
-        for words in ("diff cycle idle", "diff idle cycle", "diff cycle cycle"):
+        for words in ("diff cycle idle", "diff idle cycle", "diff --granted idle cycle"):
             stand.note("a cycle", words, fault("cycle: Cycle", 3), folder)
+        stand.note("a cycle", "diff cycle cycle", fault("OLD: cycle: Cycle", 3), folder)
+        for words, label in (("--old-root after --new-root broken", "NEW"), ("--old-root broken --new-root after", "OLD")):
+            named = f"{label}: /etc/sudoers:1:8: syntax error: EndOfLine"
+            stand.note("an error of an image", f"diff --plain {words} /etc/sudoers /etc/sudoers", fault(named, 3), folder)
+        wanted = Wanted(b"", None, 3, stderr_has=(b"cycle: Cycle\n", b"`check` prints the aliases of the circle"))
+        stand.note("a cycle is explained", "diff --explain cycle idle", wanted, folder)
         wanted = Wanted(None, None, 3, stdout_has=(b"cycle: parsed OK\n",), stderr_has=(b"sudoers_tool: Cycle\n",))
         stand.note("a cycle", "check --overruled cycle", wanted, folder)
         stand.note("a cycle", "check --overruled --error-status 7 cycle", Wanted(None, None, 7, stdout_has=(b"cycle: parsed OK\n",)), folder)
@@ -170,6 +193,7 @@ def run_files(stand):
 
 WRONG_WORDS = (
     ("diff old", b"<NEW>"),
+    ("diff --granted old", b"<NEW>"),
     ("diff", b"<OLD>"),
     ("diff - -", b"standard input can be one policy only"),
     ("diff --old-root none old new", b"invalid value 'none' for '--old-root <DIR>'"),
@@ -194,9 +218,11 @@ def run_limits(stand):
     more = 4095
     for name, count, is_read in (("as many members as there may be", MEMBER_LIMIT // more, True), ("too many members", MEMBER_LIMIT // more + 1, False)):
         text = users + "U ALL=/bin/a\n" * count + "ann ALL=/bin/b\n"
-        wanted = Wanted(None, status=0) if is_read else fault("TooLarge", 3)
+        wanted = Wanted(None, status=0) if is_read else fault("OLD: main: TooLarge", 3)
         with Folder({"main": text, "none": ""}) as folder:
             stand.note(name, "diff main main", wanted, folder, seconds=WORST_SECONDS)
+            if not is_read:
+                stand.note(name, "diff none main", fault("main: TooLarge", 3), folder, seconds=WORST_SECONDS)
             if is_read:
                 stand.note(name, "check --overruled main", Wanted(None, stdout_has=(b"main:2:7: useless /bin/a: main:3:7 decides\n",)), folder)
     for name, count, is_decided in (("as many later rows as are compared", COMPARED, True), ("more later rows", COMPARED + 1, False)):
@@ -255,6 +281,17 @@ def renamed(text):
     return text.replace("\n", " # note\n")
 
 
+def narrowed(draw, text):
+    """Returns the policy with a rule less or a denial more."""
+    lines = text.splitlines(keepends=True)
+    rules = [number for number, line in enumerate(lines) if " = " in line and "_Alias" not in line and "!" not in line and "C1" not in line and "C2" not in line]
+    if rules and draw.random() < 0.5:
+        del lines[draw.choice(rules)]
+    else:
+        lines.insert(draw.randint(4, len(lines)), f"{draw.choice(USERS)} ALL = !/bin/b\n")
+    return "".join(lines)
+
+
 REQUESTS = [(user, command) for user in ("ann", "bob", "eve", "dan") for command in ("/bin/a", "/bin/a x", "/bin/b", "/bin/c", "/bin/d")]
 PASSWD = "root:x:0:0::/:\nann:x:1:1::/:\nbob:x:2:2::/:\neve:x:3:3::/:\ndan:x:4:4::/:\n"
 PEOPLE = {"passwd": PASSWD, "group": "adm:x:9:eve\n"}
@@ -280,9 +317,20 @@ def run_pairs(stand):
         old, new = random_policy(draw), random_policy(draw)
         with Folder({"old": old, "new": new, **PEOPLE}) as folder:
             came = stand.run("diff old new", folder)
-            is_other = answers(stand, folder, "old") != answers(stand, folder, "new")
-        problems = ["nothing is printed"] if is_other and came.status == 0 else []
+            granted = stand.run("diff --granted old new", folder)
+            before, behind = answers(stand, folder, "old"), answers(stand, folder, "new")
+        problems = ["nothing is printed"] if before != behind and came.status == 0 else []
         stand.tally.note(f"{PART}: other policies {number}", problems + difference("status", bool(came.stdout), came.status == 1))
+        is_more = any(was and not now for was, now in zip(before, behind))
+        stand.tally.note(f"{PART}: what is granted {number}", ["status 0, but something is granted"] if is_more and granted.status == 0 else [])
+    for number in range(PAIRS // 5):
+        old = random_policy(draw)
+        new = narrowed(draw, old)
+        with Folder({"old": old, "new": new, **PEOPLE}) as folder:
+            granted = stand.run("diff --granted old new", folder)
+            before, behind = answers(stand, folder, "old"), answers(stand, folder, "new")
+        is_more = any(was and not now for was, now in zip(before, behind))
+        stand.tally.note(f"{PART}: a narrower policy {number}", difference("status", 0, granted.status) + (["something is granted"] if is_more else []))
 
 
 # ---- refused growths of memory ---------------------------------------------------------------
@@ -296,7 +344,7 @@ GROWN = {
     "many": "".join(f"u{number} ALL=/bin/a\n" for number in range(COMPARED + 2)),
 }
 REPORT_END = b"parsed OK\n"
-GROWTHS = ("check --overruled --plain old", "check --overruled --plain many", "diff --plain old new", "diff --plain old old", "diff --plain cycle new")
+GROWTHS = ("check --overruled --plain old", "check --overruled --plain many", "diff --plain old new", "diff --plain old old", "diff --plain --granted old new", "diff --plain cycle new")
 
 
 def run_growths(stand):
@@ -332,6 +380,10 @@ def run_all(program, tally):
         run_overruled(stand, row)
     for row in CHANGES:
         run_change(stand, row)
+    for row in GRANTED:
+        run_change(stand, row, "diff --granted")
+    for row in WEIGHED_NOT:
+        run_change(stand, row, "diff --granted", 0)
     run_files(stand)
     run_limits(stand)
     run_pairs(stand)

@@ -45,7 +45,7 @@ OPTIONS_OF_CHECK = (
     *("-h", "--help", "-q", "-s", "--root", "--skipped", "--installed", "--dialect", "--for", "--all", "--json"),
     *("--error-status", "--explain", "--overruled", "--plain"),
 )
-OPTIONS_OF_DIFF = ("--dialect", "--explain", "-h", "--help", "--new-root", "--old-root", "--plain")
+OPTIONS_OF_DIFF = ("--dialect", "--explain", "--granted", "-h", "--help", "--new-root", "--old-root", "--plain")
 OPTIONS_OF_SHOW = ("--dialect", "--error-status", "--explain", "-h", "--help", "--json", "--members", "--plain", "--root")
 OPTIONS_OF_MACHINE = (
     *("--dialect", "--policy", "--passwd", "--group-file", "--host", "--moment", "--interfaces", "--json"),

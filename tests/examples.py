@@ -122,25 +122,69 @@ def run_tasks(program, tally):
     tally.note("ansible-tasks.yml, visudo", [] if seen == ["visudo", "-c"] else [f"it calls {seen}"])
 
 
-def run_job(program, tally):
-    """The commands of the job accept a policy that is as it should be, and no other."""
+def commands_of_jobs():
+    """Returns the commands of each job of ci-job.yml but those that install the program, by the name of the job."""
+    jobs = {}
     with open(os.path.join(FOLDER, "ci-job.yml"), encoding="utf-8") as file:
-        lines = [line.partition("run: ")[2].strip() for line in file if line.strip().startswith("run: sudoers_tool ")]
+        for line in file:
+            if line.startswith("  ") and not line.startswith("   "):
+                commands = jobs.setdefault(line.strip().rstrip(":"), [])
+            command = line.partition(" run: ")[2].strip()
+            if command and not command.startswith("sudo "):
+                commands.append(command)
+    return jobs
+
+
+def statuses_of(commands, folder, program, more=()):
+    """Runs the commands in the folder, and returns their exit statuses."""
+    tools = os.path.join(folder, "tools")
+    os.makedirs(tools, exist_ok=True)
+    if not os.path.lexists(os.path.join(tools, "sudoers_tool")):
+        os.symlink(program, os.path.join(tools, "sudoers_tool"))
+    env = {"PATH": tools + ":" + os.environ["PATH"], **dict(more)}
+    return [subprocess.run(["sh", "-c", line], cwd=folder, env=env, check=False, capture_output=True).returncode for line in commands]
+
+
+def run_job(program, tally):
+    """The commands of the first job accept a policy that is as it should be, and no other."""
+    lines = commands_of_jobs()["sudoers"]
     with tempfile.TemporaryDirectory() as folder:
         shutil.copytree(os.path.join(FOLDER, SITE), os.path.join(folder, "image", "etc"))
-        os.symlink(program, os.path.join(folder, "sudoers_tool"))
         for wishes, statuses in (("has user ADMINS ann\n", [0, 0]), ("lacks user ADMINS ann\n", [0, 1]), ("has user NONE ann\n", [0, 3])):
             with open(os.path.join(folder, "wishes"), "w", encoding="utf-8") as file:
                 file.write(wishes)
-            path = {"PATH": folder + ":" + os.environ["PATH"]}
-            came = [subprocess.run(["sh", "-c", line], cwd=folder, env=path, check=False, capture_output=True).returncode for line in lines]
+            came = statuses_of(lines, folder, program)
             tally.note(f"ci-job.yml, {wishes!r}", [] if came == statuses else [f"wanted {statuses}, came {came}"])
+
+
+def run_grants(program, tally):
+    """The commands of the second job refuse a commit that may grant something, and accept others."""
+    lines = commands_of_jobs()["grants"]
+    changes = (
+        ("a comment", "# nothing\n", 0),
+        ("a rule", "eve ALL = ALL\n", 1),
+        ("a denial", "bob ALL = !/usr/bin/su\n", 0),
+        ("another target", "Defaults:bob runas_default = oper\n", 1),
+        ("an error", "eve ALL\n", 3),
+    )
+    git = ["git", "-c", "user.name=x", "-c", "user.email=x@localhost", "-c", "init.defaultBranch=main"]
+    for name, text, status in changes:
+        with tempfile.TemporaryDirectory() as top:
+            folder = os.path.join(top, "checkout")
+            shutil.copytree(os.path.join(FOLDER, SITE), os.path.join(folder, "image", "etc"))
+            for words in (["init", "-q"], ["add", "image"], ["commit", "-q", "-m", "before"], ["update-ref", "refs/remotes/origin/main", "HEAD"]):
+                subprocess.run([*git, *words], cwd=folder, check=True, capture_output=True)
+            with open(os.path.join(folder, "image", "etc", "sudoers"), "a", encoding="utf-8") as file:
+                file.write(text)
+            came = statuses_of(lines, folder, program, {"GITHUB_BASE_REF": "main"}.items())
+            tally.note(f"ci-job.yml, {name}", [] if came == [0, status] else [f"wanted {[0, status]}, came {came}"])
 
 
 def run_all(program, tally):
     """Runs each example, the demonstration and the trial."""
     run_tasks(program, tally)
     run_job(program, tally)
+    run_grants(program, tally)
     run_demo(program, tally)
     run_try(tally)
     visudo = shutil.which("visudo", path=os.environ.get("PATH", "") + ":/usr/sbin")

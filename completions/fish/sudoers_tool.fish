@@ -165,6 +165,7 @@ complete -c sudoers_tool -n '__fish_seen_subcommand_from convert' -s f -l form -
 complete -c sudoers_tool -n '__fish_seen_subcommand_from convert' -l for -x -a sudo -d 'With -f sudoers, spell the output for this program'
 complete -c sudoers_tool -n '__fish_seen_subcommand_from convert' -s m -l match -x -a '(__sudoers_tool_filter)' -d 'Print only rules for some users, groups and hosts'
 complete -c sudoers_tool -n '__fish_seen_subcommand_from convert' -s p -l prune-matches -d 'With -m, drop other users and hosts from the lists'
+complete -c sudoers_tool -n '__fish_seen_subcommand_from diff' -l granted -d 'Print only what may grant something'
 complete -c sudoers_tool -n '__fish_seen_subcommand_from diff' -l old-root -x -a '(__fish_complete_directories)' -d 'Folder that is the root for OLD and the files that it includes'
 complete -c sudoers_tool -n '__fish_seen_subcommand_from diff' -l new-root -x -a '(__fish_complete_directories)' -d 'Folder that is the root for NEW and the files that it includes'
 complete -c sudoers_tool -n '__fish_seen_subcommand_from edit' -l files -r -F -d 'Script for a policy and the files that it includes'

@@ -9,3 +9,4 @@ mod ComputedContents
 pub mod SameAtoms
 mod DecidedCovers
 mod ComputedEffects
+mod NoMore

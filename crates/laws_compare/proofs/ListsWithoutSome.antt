@@ -7,7 +7,7 @@ use Rattle.laws_compare.specs.Covers.{IsListWithoutSome, nothing_left, item_kept
 use Rattle.laws_compare.specs.Granted.{AreAllItemsWith, no_item_more, item_with, item_without}
 
 module _ {X : Type 0} (P : X → Type 0) where
-  abbrev Not : X → Type 0
+  abbrev pub Not : X → Type 0
   Not x = P x → ⊥
 
   pub no_element_has_property_that_none_has : (xs : List X) → AllByRecursion Not xs → (x : X) → ListHasElement xs x → P x → ⊥
@@ -16,7 +16,7 @@ module _ {X : Type 0} (P : X → Type 0) where
   no_element_has_property_that_none_has (y ∷ xs) none x (inr has) p = no_element_has_property_that_none_has xs none.1 x has p
 
   -- The last of a list stands behind the first item, or it is that item.
-  last_is_behind_first_or_is_first : (x : X) (xs : List X) (a : Option X) → IsLastItemWith P (x ∷ xs) a
+  pub last_is_behind_first_or_is_first : (x : X) (xs : List X) (a : Option X) → IsLastItemWith P (x ∷ xs) a
       → (IsLastItemWith P xs a × (Not x ⊎ ((y : X) × (a ≡ Some y)))) ⊎ ((a ≡ Some x) × P x × AllByRecursion Not xs)
   last_is_behind_first_or_is_first x xs None l = inl (l.1, inl l.0)
   last_is_behind_first_or_is_first x xs (Some y) ([], after, e, p, none) =

@@ -39,7 +39,7 @@ none_has_equivalent_property : {X : Type 0} (P Q : X → Type 0) → ((x : X) �
 none_has_equivalent_property P Q back [] none = tt
 none_has_equivalent_property P Q back (x ∷ xs) none = (λ has. none.0 (back x has), none_has_equivalent_property P Q back xs none.1)
 
-last_has_equivalent_property : {X : Type 0} (P Q : X → Type 0) → ((x : X) → P x → Q x) → ((x : X) → Q x → P x) → (xs : List X) (a : Option X)
+pub last_has_equivalent_property : {X : Type 0} (P Q : X → Type 0) → ((x : X) → P x → Q x) → ((x : X) → Q x → P x) → (xs : List X) (a : Option X)
     → IsLastItemWith P xs a → IsLastItemWith Q xs a
 last_has_equivalent_property P Q to back xs None l = none_has_equivalent_property P Q back xs l
 last_has_equivalent_property P Q to back xs (Some x) l = (l.0, l.1, l.2, to x l.3, none_has_equivalent_property P Q back l.1 l.4)
@@ -50,7 +50,7 @@ flat_runas_spec_allows_with_same_default : (IsDefaultName IsOtherName : List ℕ
 flat_runas_spec_allows_with_same_default IsDefaultName IsOtherName to user target group None p = (p.0, to p.0 p.1, p.2, p.3)
 flat_runas_spec_allows_with_same_default IsDefaultName IsOtherName to user target group (Some r) p = p
 
-grant_fits_with_same_default : (IsDefaultName IsOtherName : List ℕ → Type 0) → ((name : List ℕ) → IsDefaultName name → IsOtherName name)
+pub grant_fits_with_same_default : (IsDefaultName IsOtherName : List ℕ → Type 0) → ((name : List ℕ) → IsDefaultName name → IsOtherName name)
     → (request : Request) (grant : Grant)
     → GrantFitsRequest IsDefaultName request grant → GrantFitsRequest IsOtherName request grant
 grant_fits_with_same_default IsDefaultName IsOtherName to request grant fits = record {

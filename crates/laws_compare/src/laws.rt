@@ -1,6 +1,6 @@
 //! Laws of rows that never decide, and of policies that are compared. Each is the contract of a function that does nothing.
 
-ghost use Rattle.std.specs.Prelude.{◌≡◌, ◌↔◌, ℕ, true, List, Option};
+ghost use Rattle.std.specs.Prelude.{◌≡◌, ◌↔◌, ℕ, true, List, Option, Some};
 ghost use Rattle.sudoers_check.specs.Chains.{HasCyclicAliasReachedFromSpecOrDefaults};
 ghost use Rattle.sudoers_tree.specs.Line.{Line as LineOf};
 ghost use Rattle.sudoers_tree.specs.Policy.{AreValidWalkLines};
@@ -16,6 +16,7 @@ ghost use Rattle.laws_compare.specs.Covers.{AreRowsWithoutSomeOverruled, RowCove
 ghost use Rattle.laws_compare.specs.Decided.{is_covering_grant, is_covering_row};
 ghost use Rattle.laws_compare.specs.Effective.{effect_of_lines, grants_for_user_on_host};
 ghost use Rattle.laws_compare.specs.Granted.{AreGrantsForUserOnHost};
+ghost use Rattle.laws_compare.specs.NoMore.{GrantsNoMore};
 
 use sudoers_match::laws::{alike_defaults_are_same, alike_rows_answer, one_runas_default};
 use sudoers_match_list::laws::{
@@ -94,6 +95,19 @@ pub fn equal_effects_answer_same()
 {
     effect_is();
     same_effect_answers_same();
+}
+
+/// A policy allows nothing that another does not allow, if its rows are those of the other without some that allow, and with some more that
+/// deny. Both have the same settings of runas_default.
+pub fn policy_that_grants_no_more_allows_no_more()
+    ensures { (lines others : List LineOf) (old new : PolicyContent) → IsContentOfPolicy lines old → IsContentOfPolicy others new
+        → old.runas_defaults ≡ new.runas_defaults → GrantsNoMore old.rows new.rows → (request : RequestOf) (answer : AnswerOf) (other : Option AnswerOf)
+        → IsAnswerToRequest others request (Some answer) → answer.allow ≡ true → IsAnswerToRequest lines request other
+        → (allowed : AnswerOf) × (other ≡ Some allowed) × (allowed.allow ≡ true) }
+{
+    one_flat();
+    same_flat_lists_are_alike();
+    alike_defaults_are_same();
 }
 
 /// Policies that grant a user the same on a host answer each of his requests there the same, numbers aside. He has the same runas_default

@@ -26,7 +26,7 @@ pub use flat_row::{FlatRow, FlatRunasView};
 pub use flat_rows::{PlacedFlatRow, list_flat_rows};
 pub use flat_specs::{FlatCommand, FlatHostGroup, FlatRunas, FlatSpec};
 pub use flattening::flatten_specs;
-pub use marks::{RowMarks, mark_changed_rows};
+pub use marks::{RowMarks, find_unmarked, mark_changed_rows};
 pub use overruled::{Overruling, find_overrulings};
 pub use proposed_marks::{ComparedLists, choose_marks};
 pub use same_row::{has_same_effect, is_same_row};

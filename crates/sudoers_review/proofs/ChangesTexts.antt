@@ -7,6 +7,7 @@ use Rattle.laws_compare.specs.Computed.{content_of_lines}
 use Rattle.sudoers_compare.specs.declared.flat_rows.PlacedFlatRow.{PlacedFlatRow}
 use Rattle.sudoers_compare.specs.FlatSpecs.{PlacedRow, placed_row_of_view, placed_rows_of_policy, row_of_placed_view}
 use Rattle.sudoers_compare.specs.Marked.{unmarked_items}
+use Rattle.sudoers_review.specs.declared.changed_rows.ShownChanges.{ShownChanges}
 use Rattle.sudoers_review.specs.ChangedText.{changed_row_lines, row_of_placed, rows_with_marks, AreChangeMarks, IsChangesText, IsSettingsText}
 use Rattle.sudoers_review.proofs.OverruledRows.{rows_of_placed_are_rows_of_views}
 
@@ -32,19 +33,18 @@ marks_of_views_are_marks olds news placed placed_too gone came e e_too are =
       quiet = λ (equal : map row_of_placed placed ≡ map row_of_placed placed_too). are.quiet (left ∙ equal ∙ sym right);
     }
 
-pub changes_text_has_its_parts : (old new : LoadedPolicy) (olds news : List PlacedFlatRow) (gone came : List Bool) (first second text settings others : List ℕ)
+pub changes_text_has_its_parts : (shown : ShownChanges) (old new : LoadedPolicy) (olds news : List PlacedFlatRow) (gone came : List Bool) (first text settings : List ℕ)
     → map placed_row_of_view olds ≡ placed_rows_of_policy old.walk.lines → map placed_row_of_view news ≡ placed_rows_of_policy new.walk.lines → AreMarksOfViews olds news gone came
-    → first ≡ changed_row_lines old new (rows_with_marks gone (map placed_row_of_view olds)) (rows_with_marks came (map placed_row_of_view news))
-    → second ≡ first ++ settings → IsSettingsText (content_of_lines old.walk.lines).runas_defaults (content_of_lines new.walk.lines).runas_defaults settings
-    → text ≡ second ++ others → IsChangesText old new text
-changes_text_has_its_parts old new olds news gone came first second text settings others e e_too are lines behind is last =
-    let printed : List PlacedRow → List PlacedRow → List ℕ = λ (placed placed_too : List PlacedRow). changed_row_lines old new (rows_with_marks gone placed) (rows_with_marks came placed_too) in
+    → first ≡ changed_row_lines shown old new (rows_with_marks gone (map placed_row_of_view olds)) (rows_with_marks came (map placed_row_of_view news))
+    → text ≡ first ++ settings → IsSettingsText (content_of_lines old.walk.lines).runas_defaults (content_of_lines new.walk.lines).runas_defaults settings
+    → IsChangesText shown old new text
+changes_text_has_its_parts shown old new olds news gone came first text settings e e_too are lines behind is =
+    let printed : List PlacedRow → List PlacedRow → List ℕ = λ (placed placed_too : List PlacedRow). changed_row_lines shown old new (rows_with_marks gone placed) (rows_with_marks came placed_too) in
     record {
       gone = gone;
       came = came;
       are_marks = marks_of_views_are_marks olds news (placed_rows_of_policy old.walk.lines) (placed_rows_of_policy new.walk.lines) gone came e e_too are;
       settings = settings;
       are_settings = is;
-      others = others;
-      text_is = last ∙ ap (λ (t : List ℕ). t ++ others) (behind ∙ ap (λ (t : List ℕ). t ++ settings) (lines ∙ ap₂ printed e e_too));
+      text_is = behind ∙ ap (λ (t : List ℕ). t ++ settings) (lines ∙ ap₂ printed e e_too);
     }

@@ -4,3 +4,4 @@ mod RowTexts
 mod SettingLines
 mod ShownRows
 mod SilentChanges
+mod SilentGrants

@@ -7,11 +7,11 @@ ghost use Rattle.sudoers_compare.specs.FlatSpecs.{placed_row_of_view};
 ghost use Rattle.sudoers_review.specs.ChangedText.{changed_row_lines, rows_with_marks, IsChangesText};
 ghost use Rattle.sudoers_review.specs.Faults.{IsMemoryOrSizeFault};
 
-use crate::changed_rows::{MarkedRows, append_changed_rows};
+use crate::changed_rows::{MarkedRows, ShownChanges, append_changed_rows};
 use crate::changed_settings::append_changed_settings;
 use crate::compare_fault::CompareFault;
 use crate::flat_policy::FlatPolicy;
-use crate::other_defaults::append_changed_other_defaults;
+use crate::other_defaults::make_changed_other_defaults_text;
 use std::alloc::Global;
 use sudoers_compare::{PlacedFlatRow, RowMarks, mark_changed_rows};
 use sudoers_tree::Policy;
@@ -20,13 +20,14 @@ use sudoers_tree::Policy;
 fn append_rows_with_marks(
     alloc: Global,
     out: &mut Vec<u8>,
+    shown: ShownChanges,
     old: &Policy,
     old_rows: &[PlacedFlatRow<'_>],
     new: &Policy,
     new_rows: &[PlacedFlatRow<'_>],
     marks: &RowMarks,
 ) -> Result<(), CompareFault>
-    ensures lines { OnOk result (out.new.items ≡ out.old.items ++ changed_row_lines old.now new.now
+    ensures lines { OnOk result (out.new.items ≡ out.old.items ++ changed_row_lines shown old.now new.now
         (rows_with_marks marks.now.gone.items (map placed_row_of_view old_rows.now)) (rows_with_marks marks.now.came.items (map placed_row_of_view new_rows.now))) }
     ensures fault { IfErr result IsMemoryOrSizeFault }
 {
@@ -40,19 +41,34 @@ fn append_rows_with_marks(
         rows: new_rows,
         marks: marks.came.as_slice(),
     };
-    append_changed_rows(alloc, out, &gone, &came)
+    append_changed_rows(alloc, out, shown, &gone, &came)
+}
+
+/// What is printed of two policies that differ.
+#[derive(Drop)]
+pub struct ChangesText {
+    /// The lines on rows and on settings of runas_default. On these the answers depend.
+    pub answers: Vec<u8>,
+    /// The lines on other parameters of Defaults, behind a heading. No answer depends on them.
+    pub others: Vec<u8>,
 }
 
 /// Returns the lines on what `old` and `new` grant otherwise, the aliases replaced: each row that went behind `-`, and each that came behind `+`,
-/// with its place; then their settings of runas_default, if they differ; then the other parameters of Defaults, on which no answer depends.
-/// Without a line each request has the same answer, tags and options in both.
+/// with its place, as far as `shown` has them; then their settings of runas_default, if they differ. Apart come the lines on the other parameters
+/// of Defaults, on which no answer depends. Without a line each request has the same answer, tags and options in both. If `shown` has only
+/// rows that may grant something, `old` then allows each request that `new` allows.
 ///
 /// # Errors
 ///
 /// `Cycle`: a reachable alias of one of them is cyclic. `TooLarge`: in one of them more than 65,536 members come in the place of
 /// aliases, or the lines have more than 16 MiB. `NoMemory`: memory ran out.
-pub fn make_changes_text(alloc: Global, old: &Policy, new: &Policy) -> Result<Vec<u8>, CompareFault>
-    ensures text { IfOk result (λ text. IsChangesText old.now new.now text.items) }
+pub fn make_changes_text(
+    alloc: Global,
+    shown: ShownChanges,
+    old: &Policy,
+    new: &Policy,
+) -> Result<ChangesText, CompareFault>
+    ensures text { IfOk result (λ text. IsChangesText shown old.now new.now text.answers.items) }
     ensures straight { IfOk result (λ text. (HasCyclicAliasReachedFromSpecOrDefaults old.now.walk.lines → ⊥) × (HasCyclicAliasReachedFromSpecOrDefaults new.now.walk.lines → ⊥)) }
     ensures fault { IfErr result (λ fault. (fault ≡ NoMemory) ⊎ ((fault ≡ TooLarge) ⊎ ((fault ≡ Cycle)
         × (HasCyclicAliasReachedFromSpecOrDefaults old.now.walk.lines ⊎ HasCyclicAliasReachedFromSpecOrDefaults new.now.walk.lines)))) }
@@ -62,17 +78,18 @@ pub fn make_changes_text(alloc: Global, old: &Policy, new: &Policy) -> Result<Ve
     let old_rows = old_flat.list_rows(alloc)?;
     let new_rows = new_flat.list_rows(alloc)?;
     let marks = mark_changed_rows(alloc, old_rows.as_slice(), new_rows.as_slice())?;
-    let mut text = Vec::new(alloc);
+    let mut answers = Vec::new(alloc);
     append_rows_with_marks(
         alloc,
-        &mut text,
+        &mut answers,
+        shown,
         old,
         old_rows.as_slice(),
         new,
         new_rows.as_slice(),
         &marks,
     )?;
-    append_changed_settings(alloc, &mut text, &old_flat, &new_flat)?;
-    append_changed_other_defaults(alloc, &mut text, &old_flat, &new_flat)?;
-    Ok(text)
+    append_changed_settings(alloc, &mut answers, &old_flat, &new_flat)?;
+    let others = make_changed_other_defaults_text(alloc, &old_flat, &new_flat)?;
+    Ok(ChangesText { answers, others })
 }

@@ -1,6 +1,6 @@
-//! What is printed of the parameters of Defaults on which no answer depends, where two policies differ.
+//! What is printed of the parameters of Defaults that no answer depends on, where two policies differ.
 
-ghost use Rattle.std.specs.Prelude.{◌≡◌, ◌≤◌, ◌++◌, ℕ, List, OnOk, IfErr};
+ghost use Rattle.std.specs.Prelude.{IfErr};
 ghost use Rattle.sudoers_review.specs.Faults.{IsMemoryOrSizeFault};
 
 use crate::changed_settings::append_flat_scope;
@@ -9,7 +9,7 @@ use crate::flat_policy::FlatPolicy;
 use crate::overruled::TEXT_LIMIT;
 use crate::row_text::{MEMBER_BYTE_LIMIT, count_member_bytes};
 use std::alloc::{AllocError, Global};
-use sudoers_compare::{ComparedLists, FlatScope, choose_marks, flatten_scope};
+use sudoers_compare::{ComparedLists, FlatScope, choose_marks, find_unmarked, flatten_scope};
 use sudoers_cvt_spell::append_param;
 use sudoers_line_rows::{NodeRow, ParamRow, RowRange, ScopeRow, Tables, rows_in};
 use sudoers_list::append_place_on_walk_line;
@@ -143,17 +143,6 @@ fn append_default_line(
     out.extend_from_slice(b"\n")
 }
 
-/// Returns the number of the first mark from `from` on that is not set.
-fn find_unset_mark(marks: &[bool], from: usize) -> usize
-    ensures { from ≤ result }
-{
-    let mut number = from;
-    while number < marks.len() && marks[number] {
-        number += 1;
-    }
-    number
-}
-
 /// Appends to `out` the lines on the parameters from number `from` up to `to`, behind `sign`.
 fn append_default_lines(
     alloc: Global,
@@ -171,34 +160,31 @@ fn append_default_lines(
     Ok(())
 }
 
-/// Appends to `out` a heading and the lines on the parameters in which the policies differ, or nothing if these are the same in both.
-pub fn append_changed_other_defaults(
+/// Returns a heading and the lines on the parameters in which the policies differ, or nothing if these are the same in both.
+pub fn make_changed_other_defaults_text(
     alloc: Global,
-    out: &mut Vec<u8>,
     old: &FlatPolicy<'_>,
     new: &FlatPolicy<'_>,
-) -> Result<(), CompareFault>
-    ensures text { OnOk result ((text : List ℕ) × (out.new.items ≡ out.old.items ++ text)) }
-    ensures fault { IfErr result IsMemoryOrSizeFault }
-{
+) -> Result<Vec<u8>, AllocError> {
     let lists = ComparedDefaults {
         old: old.others.list.as_slice(),
         new: new.others.list.as_slice(),
     };
     let marks = choose_marks(alloc, &lists, lists.old.len(), lists.new.len())?;
     let mut text = Vec::new(alloc);
+    text.extend_from_slice(b"Defaults that this program does not weigh:\n")?;
+    let heading = text.len();
     let (mut i, mut j) = (0, 0);
     while i < lists.old.len() || j < lists.new.len() {
-        let old_end = find_unset_mark(marks.gone.as_slice(), i);
-        let new_end = find_unset_mark(marks.came.as_slice(), j);
+        let old_end = find_unmarked(marks.gone.as_slice(), i);
+        let new_end = find_unmarked(marks.came.as_slice(), j);
         append_default_lines(alloc, &mut text, b"- ", old, i, old_end)?;
         append_default_lines(alloc, &mut text, b"+ ", new, j, new_end)?;
         i = old_end.saturating_add(1);
         j = new_end.saturating_add(1);
     }
-    if !text.is_empty() {
-        out.extend_from_slice(b"Defaults on which no answer depends:\n")?;
-        out.extend_from_slice(text.as_slice())?;
+    if text.len() == heading {
+        text.truncate(0);
     }
-    Ok(())
+    Ok(text)
 }

@@ -2,19 +2,18 @@
 
 use crate::dialect_option::make_dialect_option;
 use crate::explaining::{
-    add_explaining_options, are_errors_explained, explain_fault_of_words, explain_policy,
-    print_explanation,
+    add_explaining_options, are_errors_explained, explain_policy, print_explanation,
 };
 use crate::file_trouble::FileTrouble;
 use crate::files::{KeptDisk, open_kept_files};
 use crate::json_output::write_document;
 use crate::overruled_notes::fault_of_comparison;
 use crate::terminal::print_error_line;
-use clap::{Arg, ArgMatches, Command};
+use clap::{Arg, ArgAction, ArgMatches, Command};
 use std::alloc::{AllocError, Global};
+use sudoers_explain::append_help;
 use sudoers_files::gather;
-use sudoers_match_list::{AskFault, has_reachable_cycle_in_policy};
-use sudoers_review::make_changes_text;
+use sudoers_review::{ChangesText, CompareFault, ShownChanges, make_changes_text};
 use sudoers_run::{LayerFault, ToolFault};
 use sudoers_tree::Policy;
 
@@ -33,6 +32,9 @@ pub const OLD_TOP: &str = "OLD_DIR";
 /// The option with the folder below which absolute names of the new policy are read.
 pub const NEW_TOP: &str = "NEW_DIR";
 
+/// The option that leaves out what cannot grant anything.
+const GRANTED: &str = "granted";
+
 /// The exit status where the policies differ.
 const OTHER_STATUS: u8 = 1;
 
@@ -41,25 +43,29 @@ const ERROR_STATUS: u8 = 3;
 
 /// What help prints last.
 const EXIT_STATUS: &str =
-    "Exit status: 0 the policies grant the same; 1 they differ, or may; 2 a wrong command line; 3 an error. See sudoers_tool(8).";
+    "Exit status: 0 the policies grant the same, or with --granted NEW allows nothing more; 1 they differ, or may; 2 a wrong command line; 3 an error. See sudoers_tool(8).";
 
 /// One of the policies: the words that name its file, and the folder below which it is read.
 #[derive(Clone, Copy)]
 struct Side {
     file: &'static str,
     top: &'static str,
+    /// What stands before an error that does not say which policy it is about.
+    label: &'static [u8],
 }
 
 /// The policy before the change.
 const OLD_SIDE: Side = Side {
     file: OLD,
     top: OLD_TOP,
+    label: b"OLD: ",
 };
 
 /// The policy after the change.
 const NEW_SIDE: Side = Side {
     file: NEW,
     top: NEW_TOP,
+    label: b"NEW: ",
 };
 
 /// Returns the command line of `diff`.
@@ -72,6 +78,12 @@ pub fn make_diff_subcommand<'a>(alloc: Global) -> Result<Command<'a>, AllocError
         .long("new-root")
         .value_name("DIR")
         .help("Read NEW and its included files as a system does whose root is this folder");
+    let granted = Arg::new(alloc, GRANTED)
+        .long(GRANTED)
+        .action(ArgAction::SetTrue)
+        .help(
+            "Print only what may grant something: rules that came and allow, rules that went and deny, and settings of runas_default",
+        );
     let old = Arg::new(alloc, OLD)
         .required(true)
         .help("Policy file before the change, or `-` for standard input");
@@ -83,6 +95,7 @@ pub fn make_diff_subcommand<'a>(alloc: Global) -> Result<Command<'a>, AllocError
             "Print the rules that went from a policy and those that came, with their aliases replaced, one for each command; print nothing if each request has the same answer, tags and options",
         )
         .after_help(EXIT_STATUS)
+        .arg(granted)?
         .arg(old_top)?
         .arg(new_top)?
         .arg(make_dialect_option(alloc))?
@@ -95,11 +108,11 @@ pub fn make_diff_subcommand<'a>(alloc: Global) -> Result<Command<'a>, AllocError
 pub fn run_diff_command(rt: &HostRuntime, words: &ArgMatches<'_>) -> u8 {
     let mut old_files = match open_side(rt, words, OLD_SIDE) {
         Ok(files) => files,
-        Err(fault) => return print_diff_error(rt, &FileTrouble::from(fault), &[]),
+        Err(fault) => return print_diff_error(rt, &FileTrouble::from(fault), b"", &[]),
     };
     let mut new_files = match open_side(rt, words, NEW_SIDE) {
         Ok(files) => files,
-        Err(fault) => return print_diff_error(rt, &FileTrouble::from(fault), &[]),
+        Err(fault) => return print_diff_error(rt, &FileTrouble::from(fault), b"", &[]),
     };
     let old = match load_side(rt, words, OLD_SIDE, &mut old_files) {
         Ok(policy) => policy,
@@ -109,32 +122,49 @@ pub fn run_diff_command(rt: &HostRuntime, words: &ArgMatches<'_>) -> u8 {
         Ok(policy) => policy,
         Err(fault) => return explain_error_of_side(rt, words, NEW_SIDE, &mut new_files, fault),
     };
-    match print_changes(rt, &old, &new) {
-        Ok(status) => status,
+    match make_changes_text(rt.alloc(), choose_shown_changes(words), &old, &new) {
+        Ok(changes) => print_changes(rt, words, changes),
         Err(fault) => {
-            let side = find_side_with_cycle(rt.alloc(), &fault, &old, &new);
-            explain_error_of_both(rt, words, side, fault)
+            let side = find_side_of_fault(rt.alloc(), fault, &old, &new);
+            explain_comparison_fault(rt, words, side, fault)
         }
     }
 }
 
-/// Returns the side that `fault` is about, if it is a cycle of aliases.
-fn find_side_with_cycle(
+/// Returns which changes `words` ask for.
+fn choose_shown_changes(words: &ArgMatches<'_>) -> ShownChanges {
+    if words.get_flag(GRANTED) {
+        ShownChanges::Granting
+    } else {
+        ShownChanges::All
+    }
+}
+
+/// Returns the side that `fault` is about, if it is about one: that policy cannot be compared with itself.
+fn find_side_of_fault(
     alloc: Global,
-    fault: &ToolFault,
+    fault: CompareFault,
     old: &Policy,
     new: &Policy,
 ) -> Option<Side> {
-    if !matches!(fault, ToolFault::Layer(LayerFault::Ask(AskFault::Cycle))) {
+    if fault == CompareFault::NoMemory {
         return None;
     }
-    if has_reachable_cycle_in_policy(alloc, old) == Ok(true) {
+    if is_fault_of_policy(alloc, fault, old) {
         return Some(OLD_SIDE);
     }
-    if has_reachable_cycle_in_policy(alloc, new) == Ok(true) {
+    if is_fault_of_policy(alloc, fault, new) {
         return Some(NEW_SIDE);
     }
     None
+}
+
+/// Returns whether `policy` cannot be compared with itself because of `fault`.
+fn is_fault_of_policy(alloc: Global, fault: CompareFault, policy: &Policy) -> bool {
+    match make_changes_text(alloc, ShownChanges::Granting, policy, policy) {
+        Ok(_) => false,
+        Err(found) => found == fault,
+    }
 }
 
 /// Returns the files of a policy.
@@ -157,14 +187,22 @@ fn load_side(
     Ok(policy)
 }
 
-/// Prints in what the policies differ. Returns the exit status.
-fn print_changes(rt: &HostRuntime, old: &Policy, new: &Policy) -> Result<u8, ToolFault> {
-    let text = make_changes_text(rt.alloc(), old, new).map_err(fault_of_comparison)?;
-    if text.is_empty() {
-        return Ok(0);
+/// Prints in what the policies differ. Returns the exit status: 0 if nothing differs, or with `--granted` if `words` have it and nothing may be
+/// granted.
+fn print_changes(rt: &HostRuntime, words: &ArgMatches<'_>, changes: ChangesText) -> u8 {
+    let mut text = changes.answers;
+    let may_differ = !text.is_empty();
+    let has_other_defaults = !changes.others.is_empty();
+    let printed = match text.extend_from_slice(changes.others.as_slice()) {
+        Ok(()) if text.is_empty() => Ok(()),
+        Ok(()) => write_document(rt, text.as_slice()),
+        Err(error) => Err(ToolFault::from(error)),
+    };
+    match printed {
+        Ok(()) if may_differ || (has_other_defaults && !words.get_flag(GRANTED)) => OTHER_STATUS,
+        Ok(()) => 0,
+        Err(fault) => print_diff_error(rt, &FileTrouble::from(fault), b"", &[]),
     }
-    write_document(rt, text.as_slice())?;
-    Ok(OTHER_STATUS)
 }
 
 /// Prints the error `fault` of one policy, with the lines that explain it. Returns the exit status.
@@ -187,38 +225,83 @@ fn explain_error_of_side(
         ToolFault::Layer(LayerFault::Load(_) | LayerFault::NoMemory) => FileTrouble::from(fault),
         fault => FileTrouble::from_fault_in_file(rt.alloc(), file.as_bytes(), fault),
     };
-    print_diff_error(rt, &trouble, explanation.as_slice())
+    print_diff_error(
+        rt,
+        &trouble,
+        label_of_side(words, side),
+        explanation.as_slice(),
+    )
 }
 
-/// Prints the error `fault` of comparing two policies, with the lines that explain it. It is about `side`, if one is given. Returns the exit
-/// status.
-fn explain_error_of_both(
+/// Returns what tells an error of `side` from one of the other side, if `words` have one name for both.
+fn label_of_side(words: &ArgMatches<'_>, side: Side) -> &'static [u8] {
+    if words.get_str(OLD) == words.get_str(NEW) {
+        side.label
+    } else {
+        b""
+    }
+}
+
+/// Prints why policies are not compared, with the lines that explain it. It is about `side`, if one is given. Returns the exit status.
+fn explain_comparison_fault(
     rt: &HostRuntime,
     words: &ArgMatches<'_>,
     side: Option<Side>,
-    fault: ToolFault,
+    fault: CompareFault,
 ) -> u8 {
     let explanation = if are_errors_explained(rt, words)
-        && let Ok(text) = explain_fault_of_words(rt, words, None, &fault)
+        && let Ok(text) = advice_of_comparison(rt.alloc(), fault, side)
     {
         text
     } else {
         Vec::new(rt.alloc())
     };
-    let trouble = match side {
+    let fault = fault_of_comparison(fault);
+    match side {
         Some(side) => {
             let file = words.get_str(side.file).unwrap_or("");
-            FileTrouble::from_fault_in_file(rt.alloc(), file.as_bytes(), fault)
+            let trouble = FileTrouble::from_fault_in_file(rt.alloc(), file.as_bytes(), fault);
+            print_diff_error(
+                rt,
+                &trouble,
+                label_of_side(words, side),
+                explanation.as_slice(),
+            )
         }
-        None => FileTrouble::from(fault),
-    };
-    print_diff_error(rt, &trouble, explanation.as_slice())
+        None => print_diff_error(rt, &FileTrouble::from(fault), b"", explanation.as_slice()),
+    }
 }
 
-/// Prints an error and the lines `explanation`. Returns the exit status.
-fn print_diff_error(rt: &HostRuntime, trouble: &FileTrouble, explanation: &[u8]) -> u8 {
+/// Returns the lines that explain why policies are not compared. That is about `side`, if one is given.
+fn advice_of_comparison(
+    alloc: Global,
+    fault: CompareFault,
+    side: Option<Side>,
+) -> Result<Vec<u8>, AllocError> {
+    let advice: &[u8] = match fault {
+        CompareFault::Cycle => {
+            b"an alias leads back to itself: `check` prints the aliases of the circle"
+        }
+        CompareFault::TooLarge if side.is_some() => {
+            b"more than 65536 members come in the place of its aliases, or its Defaults have more than 16 MiB then"
+        }
+        CompareFault::TooLarge => b"the lines that differ have more than 16 MiB",
+        CompareFault::NoMemory => return Ok(Vec::new(alloc)),
+    };
+    let mut text = Vec::new(alloc);
+    append_help(&mut text, &[advice])?;
+    Ok(text)
+}
+
+/// Prints an error with `label` before it, and the lines `explanation`. Returns the exit status.
+fn print_diff_error(
+    rt: &HostRuntime,
+    trouble: &FileTrouble,
+    label: &[u8],
+    explanation: &[u8],
+) -> u8 {
     if let Ok(text) = trouble.text(rt.alloc())
-        && print_error_line(rt, &[text.as_slice()]).is_ok()
+        && print_error_line(rt, &[label, text.as_slice()]).is_ok()
     {
         print_explanation(rt, explanation);
     }

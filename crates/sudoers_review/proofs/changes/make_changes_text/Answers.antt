@@ -28,14 +28,13 @@ returns-clause-text c =
           ∙ ap (λ (held : List PlacedFlatRow). unmarked_items came (map row_of_placed_view held)) value_too;
       quiet = λ equal. marks.silent (ap (map row_of_placed_view) value ∙ equal ∙ sym (ap (map row_of_placed_view) value_too));
     } in
-    let lines : List PlacedFlatRow → List PlacedFlatRow → List ℕ = λ (held other : List PlacedFlatRow). changed_row_lines old new
+    let lines : List PlacedFlatRow → List PlacedFlatRow → List ℕ = λ (held other : List PlacedFlatRow). changed_row_lines c.args.shown old new
     (rows_with_marks gone (map placed_row_of_view held)) (rows_with_marks came (map placed_row_of_view other)) in
     let first : c.append_rows_with_marks.new.out.items ≡ lines olds news =
-    c.in_ok-append_rows_with_marks.ensures.lines ∙ ap₂ (λ (o text : List ℕ). o ++ text) c.new-text.ensures.items (ap₂ lines c.as_slice-3.ensures.value c.as_slice-4.ensures.value) in
+    c.in_ok-append_rows_with_marks.ensures.lines ∙ ap₂ (λ (o text : List ℕ). o ++ text) c.new-answers.ensures.items (ap₂ lines c.as_slice-3.ensures.value c.as_slice-4.ensures.value) in
     let settings = c.in_ok-append_changed_settings.ensures.text in
-    let others = c.in_ok-append_changed_other_defaults.ensures.text in
     let is : IsSettingsText (content_of_lines old.walk.lines).runas_defaults (content_of_lines new.walk.lines).runas_defaults settings.0 =
     subst (λ (list : List FlatRunasDefault). IsSettingsText (content_of_lines old.walk.lines).runas_defaults list settings.0) c.in_ok-new_flat.ensures.settings
     (subst (λ (list : List FlatRunasDefault). IsSettingsText list (map (flat_runas_default_in_tables c.in_ok-new_flat.new_flat.tables.now) c.in_ok-new_flat.new_flat.settings.items) settings.0) c.in_ok-old_flat.ensures.settings settings.2) in
-    changes_text_has_its_parts old new olds news gone came c.append_rows_with_marks.new.out.items c.append_changed_settings.new.out.items c.append_changed_other_defaults.new.out.items settings.0 others.0
-    (c.in_ok-old_rows.ensures ∙ c.in_ok-old_flat.ensures.rows) (c.in_ok-new_rows.ensures ∙ c.in_ok-new_flat.ensures.rows) are first settings.1 is others.1
+    changes_text_has_its_parts c.args.shown old new olds news gone came c.append_rows_with_marks.new.out.items c.append_changed_settings.new.out.items settings.0
+    (c.in_ok-old_rows.ensures ∙ c.in_ok-old_flat.ensures.rows) (c.in_ok-new_rows.ensures ∙ c.in_ok-new_flat.ensures.rows) are first settings.1 is
