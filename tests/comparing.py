@@ -122,7 +122,15 @@ GRANTED = (
     Change("a denial that went", "ann ALL=ALL, !<1>/bin/b\n", "ann ALL=ALL\n", "- ann ALL = !/bin/b  {1}\n"),
     Change("a denial before its rule", "ann ALL=ALL, !<1>/bin/b\n", "ann ALL=!/bin/b, <2>ALL\n", "+ ann ALL = ALL  {2}\n"),
     Change("another tag", "ann ALL=/bin/a\n", "ann ALL=NOPASSWD: <1>/bin/a\n", "+ ann ALL = NOPASSWD: /bin/a  {1}\n"),
-    Change("a member less", "ann, bob ALL=/bin/a\n", "ann ALL=<1>/bin/a\n", "+ ann ALL = /bin/a  {1}\n"),
+    Change("a member less", "ann, bob ALL=/bin/a\n", "ann ALL=/bin/a\n"),
+    Change("a member less in an alias", "User_Alias OPS=ann, bob\nOPS ALL=/bin/a, NOPASSWD: /bin/b\n", "User_Alias OPS=ann\nOPS ALL=/bin/a, NOPASSWD: /bin/b\n"),
+    Change("a member more", "ann ALL=/bin/a\n", "ann, bob ALL=<1>/bin/a\n", "+ ann, bob ALL = /bin/a  {1}\n"),
+    Change("a member less of a denial", "ann ALL=ALL\nann, bob ALL=!<1>/bin/a\n", "ann ALL=ALL\nann ALL=!/bin/a\n", "- ann, bob ALL = !/bin/a  {1}\n"),
+    Change("a member less and another tag", "ann, bob ALL=/bin/a\n", "ann ALL=NOPASSWD: <1>/bin/a\n", "+ ann ALL = NOPASSWD: /bin/a  {1}\n"),
+    Change("arguments", "ann ALL=/bin/a\n", "ann ALL=/bin/a -l\n"),
+    Change("a target less", "ann ALL=(ALL) /bin/a\n", "ann ALL=(root) /bin/a\n"),
+    Change("a host in the place of all", "ann ALL=/bin/a\nbob ALL=/bin/b\n", "ann h1=/bin/a\nbob h1=/bin/b\n"),
+    Change("a wider rule behind", "ann ALL=/bin/a -l\n", "ann ALL=<1>/bin/a\n", "+ ann ALL = /bin/a  {1}\n"),
     Change("runas_default", "ann ALL=/bin/a\n", "<1>Defaults runas_default=bob\nann ALL=/bin/a\n", "+ Defaults runas_default=bob  {1}\n"),
 )
 WEIGHED_NOT = (
@@ -282,11 +290,17 @@ def renamed(text):
 
 
 def narrowed(draw, text):
-    """Returns the policy with a rule less or a denial more."""
+    """Returns the policy with a rule less, a user less or a denial more."""
     lines = text.splitlines(keepends=True)
     rules = [number for number, line in enumerate(lines) if " = " in line and "_Alias" not in line and "!" not in line and "C1" not in line and "C2" not in line]
-    if rules and draw.random() < 0.5:
+    chance = draw.random()
+    if rules and chance < 0.3:
         del lines[draw.choice(rules)]
+    elif rules and chance < 0.6:
+        number = draw.choice(rules)
+        users, rest = lines[number].split(" ALL = ", 1) if " ALL = " in lines[number] else ("", "")
+        if ", " in users:
+            lines[number] = users.partition(", ")[2] + " ALL = " + rest
     else:
         lines.insert(draw.randint(4, len(lines)), f"{draw.choice(USERS)} ALL = !/bin/b\n")
     return "".join(lines)

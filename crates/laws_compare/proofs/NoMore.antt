@@ -15,9 +15,10 @@ use Rattle.sudoers_match.specs.Rows.{PrivilegeRow}
 use Rattle.sudoers_match.proofs.Alike.{AreOptionsRelated, last_alike}
 use Rattle.sudoers_match.proofs.OneAnswer.{FlatListIsUnique, rows_one}
 use Rattle.laws_compare.specs.Content.{FlatPrivilegeRow, IsFlatRowOf, IsContentOfPolicy, PolicyContent}
-use Rattle.laws_compare.specs.NoMore.{GrantsNoMore, no_row_is_left, row_stays, allowing_row_goes, denying_row_comes}
-use Rattle.laws_compare.proofs.FittingRows.{GrantFitsRequest, grant_of_fitting_row_fits, row_of_fitting_grant_fits, flat_list_has_verdict_of_list, list_has_verdict_of_flat_list}
-use Rattle.laws_compare.proofs.ListVerdicts.{verdict_of_flat_list}
+use Rattle.laws_compare.specs.Covers.{RowCoversRow}
+use Rattle.laws_compare.specs.NoMore.{GrantsNoMore, no_row_is_left, row_stays, allowing_row_is_narrowed, allowing_row_goes, denying_row_comes}
+use Rattle.laws_compare.proofs.FittingRows.{GrantFitsRequest, covering_grant_fits_request, grant_of_fitting_row_fits, row_of_fitting_grant_fits, flat_list_has_verdict_of_list, list_has_verdict_of_flat_list}
+use Rattle.laws_compare.proofs.ListVerdicts.{verdict_of_flat_list, wider_list_allows}
 use Rattle.laws_compare.proofs.ListsWithoutSome.{Not, last_is_behind_first_or_is_first}
 use Rattle.laws_compare.proofs.SameGrants.{grant_fits_with_same_default, last_has_equivalent_property}
 
@@ -41,7 +42,7 @@ true_is_not_false e = absurd cc
 
 -- ---- lists of rows
 
-module _ (P : FlatPrivilegeRow → Type 0) where
+module _ (P : FlatPrivilegeRow → Type 0) (wider : (row other : FlatPrivilegeRow) → RowCoversRow row other → P other → P row) where
   -- the row that is the last with the property, and allows
   abbrev IsAllowing : Option FlatPrivilegeRow → Type 0
   IsAllowing l = (row : FlatPrivilegeRow) × (l ≡ Some row) × (row_allows row ≡ true)
@@ -54,13 +55,17 @@ module _ (P : FlatPrivilegeRow → Type 0) where
     | inl s ↦ last_old_row_allows_if_no_new_row_fits more rest row is none.1 s.0
     | inr s ↦ absurd (none.0 s.1)
   ]
+  last_old_row_allows_if_no_new_row_fits olds news row (allowing_row_is_narrowed x other more rest x_allows covers is) none l = elim (last_is_behind_first_or_is_first P x more (Some row) l) [
+    | inl s ↦ last_old_row_allows_if_no_new_row_fits more rest row is none.1 s.0
+    | inr s ↦ same_row_allows_same row x s.0 ∙ x_allows
+  ]
   last_old_row_allows_if_no_new_row_fits olds news row (allowing_row_goes x more rest allows is) none l = elim (last_is_behind_first_or_is_first P x more (Some row) l) [
     | inl s ↦ last_old_row_allows_if_no_new_row_fits more rest row is none s.0
     | inr s ↦ same_row_allows_same row x s.0 ∙ allows
   ]
   last_old_row_allows_if_no_new_row_fits olds news row (denying_row_comes x more rest denies is) none l = last_old_row_allows_if_no_new_row_fits more rest row is none.1 l
 
-  -- The new row is the first of the new ones, and no other has the property.
+  -- The old row is the first of the old ones, and no new row behind its place has the property.
   last_old_row_allows_if_first_row_does : (x : FlatPrivilegeRow) (olds news : List FlatPrivilegeRow) (l : Option FlatPrivilegeRow) → GrantsNoMore olds news
       → row_allows x ≡ true → P x → AllByRecursion (Not P) news → IsLastItemWith P (x ∷ olds) l → IsAllowing l
   last_old_row_allows_if_first_row_does x olds news None is allows fits none l = absurd (l.0 fits)
@@ -79,6 +84,13 @@ module _ (P : FlatPrivilegeRow → Type 0) where
     ]
     | inr s ↦ last_old_row_allows_if_first_row_does x more rest l is (sym (same_row_allows_same row x s.0) ∙ allows) s.1 s.2 old
   ]
+  last_old_row_allows olds news row l (allowing_row_is_narrowed x other more rest x_allows covers is) new allows old = elim (last_is_behind_first_or_is_first P other rest (Some row) new) [
+    | inl s ↦ elim (last_is_behind_first_or_is_first P x more l old) [
+      | inl t ↦ last_old_row_allows more rest row l is s.0 allows t.0
+      | inr t ↦ (x, t.0, x_allows)
+    ]
+    | inr s ↦ last_old_row_allows_if_first_row_does x more rest l is x_allows (wider x other covers s.1) s.2 old
+  ]
   last_old_row_allows olds news row l (allowing_row_goes x more rest x_allows is) new allows old = elim (last_is_behind_first_or_is_first P x more l old) [
     | inl t ↦ last_old_row_allows more rest row l is new allows t.0
     | inr t ↦ (x, t.0, x_allows)
@@ -95,6 +107,14 @@ pub record FlatRowFitsRequest (IsDefaultName : List ℕ → Type 0) (request : R
   pub user : verdict_of_flat_list (is_user_atom_match request.who.user) row.users ≡ Allow
   pub host : verdict_of_flat_list (is_host_atom_match request.who) row.hosts ≡ Allow
   pub grant : GrantFitsRequest IsDefaultName request row.grant
+
+covering_flat_row_fits_request : (IsDefaultName : List ℕ → Type 0) (request : Request) (row other : FlatPrivilegeRow) → RowCoversRow row other
+    → FlatRowFitsRequest IsDefaultName request other → FlatRowFitsRequest IsDefaultName request row
+covering_flat_row_fits_request IsDefaultName request row other covers fits = record {
+  user = wider_list_allows (is_user_atom_match request.who.user) refl row.users other.users covers.users fits.user;
+  host = wider_list_allows (is_host_atom_match request.who) refl row.hosts other.hosts covers.hosts fits.host;
+  grant = covering_grant_fits_request IsDefaultName request row.grant other.grant covers.grant fits.grant;
+}
 
 flat_row_fits_with_same_default : (IsDefaultName IsOtherName : List ℕ → Type 0) → ((name : List ℕ) → IsDefaultName name → IsOtherName name)
     → (request : Request) (row : FlatPrivilegeRow) → FlatRowFitsRequest IsDefaultName request row → FlatRowFitsRequest IsOtherName request row
@@ -159,5 +179,5 @@ policy_that_grants_no_more_allows_no_more law lines others old new f g no_more r
     let old_last = last_fitting_row_has_last_flat_row law lines request old f is_other.rows is_other.answers.last (rows_one law lines is_other.rows f.rows is_other.are_rows f.are_rows) is_other.answers.is_last in
     let found = allowing_answer_has_allowing_row others answer is.answers.last new_last.0 is.answers.says allows new_last.2 in
     let last_new : IsLastItemWith (RowFitsInPolicy law lines request) new.rows (Some found.0) = subst (IsLastItemWith (RowFitsInPolicy law lines request) new.rows) found.1 moved in
-    let stands = last_old_row_allows (RowFitsInPolicy law lines request) old.rows new.rows found.0 old_last.0 no_more last_new found.2 old_last.1 in
+    let stands = last_old_row_allows (RowFitsInPolicy law lines request) (covering_flat_row_fits_request (IsRunasDefault lines request.who) request) old.rows new.rows found.0 old_last.0 no_more last_new found.2 old_last.1 in
     allowing_row_gives_allowing_answer lines other is_other.answers.last old_last.0 stands.0 is_other.answers.says old_last.2 stands.1 stands.2

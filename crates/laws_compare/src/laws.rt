@@ -98,7 +98,7 @@ pub fn equal_effects_answer_same()
 }
 
 /// A policy allows nothing that another does not allow, if its rows are those of the other without some that allow, and with some more that
-/// deny. Both have the same settings of runas_default.
+/// deny. In the place of some that allow, rows may stand that they cover. Both have the same settings of runas_default.
 pub fn policy_that_grants_no_more_allows_no_more()
     ensures { (lines others : List LineOf) (old new : PolicyContent) → IsContentOfPolicy lines old → IsContentOfPolicy others new
         → old.runas_defaults ≡ new.runas_defaults → GrantsNoMore old.rows new.rows → (request : RequestOf) (answer : AnswerOf) (other : Option AnswerOf)

@@ -1,12 +1,14 @@
 -- Whether two rows say the same, decided. That they are the same if this says so is proved, and so is the converse.
-use Rattle.std.specs.Prelude.{ℕ, ◌&&◌, Bool, true, false, List, Option, Some, None}
+use Rattle.std.specs.Prelude.{ℕ, ◌&&◌, ◌||◌, Bool, true, false, List, Option, Some, None}
 use Rattle.std.specs.Str.{bytes_eq}
 use Rattle.sudoers_line_rows.specs.Alike.{is_same_bool}
 use Rattle.sudoers_match_list.specs.Flat.{SignedAtom}
 use Rattle.sudoers_match.specs.declared.tags.CommandTags.{CommandTags}
 use Rattle.sudoers_match.specs.Values.{OptionValues}
 use Rattle.laws_compare.specs.Content.{FlatRunasSpec, Grant, FlatPrivilegeRow}
-use Rattle.laws_compare.specs.Decided.{is_same_flat_list, is_same_signed_atom}
+use Rattle.laws_compare.specs.Decided.{is_covering_row, is_same_flat_list, is_same_signed_atom}
+use Rattle.sudoers_compare.specs.declared.same_row.CountedChanges.{CountedChanges}
+use Rattle.sudoers_compare.specs.declared.same_row.CountedChanges.TheVariants as counted
 
 -- both are absent, or both are there and alike
 abbrev pub are_options_alike : {X : Type 0} → (X → X → Bool) → Option X → Option X → Bool
@@ -54,3 +56,12 @@ is_same_flat_row a b = is_same_flat_list a.users b.users && is_same_flat_list a.
 -- What the grants say of a command is the same: the sign, the tags and the options.
 abbrev pub have_same_effect : Grant → Grant → Bool
 have_same_effect a b = is_same_bool a.atom.allow b.atom.allow && are_same_tags a.tags b.tags && are_same_option_values a.options b.options
+
+-- The old row allows all that the new one says something of, with the same sign, tags and options.
+abbrev pub is_narrowed_row : FlatPrivilegeRow → FlatPrivilegeRow → Bool
+is_narrowed_row old new = old.grant.atom.allow && have_same_effect old.grant new.grant && is_covering_row old new
+
+-- The new row is the old one. If only changes count that may grant something, the old one may also be narrowed.
+abbrev pub is_unchanged_row : CountedChanges → FlatPrivilegeRow → FlatPrivilegeRow → Bool
+is_unchanged_row counted.All old new = is_same_flat_row old new
+is_unchanged_row counted.Granting old new = is_same_flat_row old new || is_narrowed_row old new

@@ -1,6 +1,6 @@
 //! Laws of rows at their places. Each is the contract of a function that does nothing.
 
-ghost use Rattle.std.specs.Prelude.{◌≡◌, ◌↔◌, ℕ, ◌<◌, true, false, List, map, Option, Some, None, slice_get};
+ghost use Rattle.std.specs.Prelude.{◌≡◌, ◌↔◌, ◌⊎◌, ℕ, ◌<◌, true, false, List, map, Option, Some, None, slice_get};
 ghost use Rattle.sudoers_check.specs.Chains.{HasCyclicAliasReachedFromSpecOrDefaults};
 ghost use Rattle.sudoers_tree.specs.Line.{Line as LineOf};
 ghost use Rattle.sudoers_tree.specs.Policy.{AreValidWalkLines};
@@ -11,12 +11,15 @@ ghost use Rattle.sudoers_match.specs.Answer.{Answer as AnswerOf, IsAnswerToReque
 ghost use Rattle.sudoers_match.specs.Default.{IsRunasDefault};
 ghost use Rattle.laws_compare.specs.Computed.{content_of_lines};
 ghost use Rattle.laws_compare.specs.Content.{FlatPrivilegeRow};
+ghost use Rattle.laws_compare.specs.Covers.{RowCoversRow};
 ghost use Rattle.laws_compare.specs.Decided.{is_covering_row};
 ghost use Rattle.sudoers_compare.specs.declared.overruled.Overruling.{Overruling as OverrulingOf};
 ghost use Rattle.sudoers_compare.specs.Overruled.{overrulings_of_rows};
+ghost use Rattle.sudoers_compare.specs.SameRow.{is_unchanged_row};
+ghost use Rattle.sudoers_compare.specs.declared.same_row.CountedChanges.TheVariants as counted;
 ghost use Rattle.sudoers_compare.specs.FlatSpecs.{PlacedRow, placed_rows_of_policy};
 
-use laws_compare::laws::{content_is, same_effect_answers_same};
+use laws_compare::laws::{content_is, decided_is_covered, same_effect_answers_same};
 
 /// The rows of a policy at their places are those of its content, in the same order.
 pub fn placed_rows_are_content()
@@ -50,4 +53,11 @@ pub fn equal_rows_and_settings_answer_same()
 {
     content_is();
     same_effect_answers_same();
+}
+
+/// A row that is unchanged but for what does not count is the other, or it is narrowed: the other allows, and covers it.
+pub fn unchanged_row_is_same_or_covered()
+    ensures { (old new : FlatPrivilegeRow) → is_unchanged_row counted.Granting old new ≡ true → (old ≡ new) ⊎ ((old.grant.atom.allow ≡ true) × RowCoversRow old new) }
+{
+    decided_is_covered();
 }

@@ -6,7 +6,7 @@ use Rattle.sudoers_tree.specs.Load.{LoadedPolicy}
 use Rattle.sudoers_compare.specs.declared.flat_rows.PlacedFlatRow.{PlacedFlatRow}
 use Rattle.sudoers_compare.specs.FlatSpecs.{PlacedRow, placed_row_of_view}
 use Rattle.sudoers_review.specs.declared.changed_rows.MarkedRows.{MarkedRows}
-use Rattle.sudoers_review.specs.declared.changed_rows.ShownChanges.{ShownChanges}
+use Rattle.sudoers_compare.specs.declared.same_row.CountedChanges.{CountedChanges}
 use Rattle.sudoers_review.specs.ChangedText.{changed_row_lines, line_of_new_row, line_of_old_row, marked_rows, marked_rows_in_front, rows_behind_first_unmarked, rows_with_marks}
 use Rattle.sudoers_review.specs.Views.{marked_rows_of_view}
 
@@ -100,22 +100,22 @@ no_row_is_behind_last rows end = end ∙ ap rows_behind_first_unmarked (sym end)
 
 -- ---- the lines of both policies
 
-pub line_of_old_row_is_appended : (shown : ShownChanges) (old new : LoadedPolicy) (o next : List ℕ) (before rest news reached : List (Bool × PlacedRow)) (row : PlacedRow)
-    → before ≡ (true, row) ∷ rest → next ≡ o ++ line_of_old_row shown old row → reached ≡ news
-    → next ++ changed_row_lines shown old new rest reached ≡ o ++ changed_row_lines shown old new before news
-line_of_old_row_is_appended shown old new o next before rest news reached row stands e same =
-    ap₂ (λ (text : List ℕ) (rows : List (Bool × PlacedRow)). text ++ changed_row_lines shown old new rest rows) e same
-    ∙ append_assoc o (line_of_old_row shown old row) (changed_row_lines shown old new rest news)
-    ∙ ap (λ (rows : List (Bool × PlacedRow)). o ++ changed_row_lines shown old new rows news) (sym stands)
+pub line_of_old_row_is_appended : (which : CountedChanges) (old new : LoadedPolicy) (o next : List ℕ) (before rest news reached : List (Bool × PlacedRow)) (row : PlacedRow)
+    → before ≡ (true, row) ∷ rest → next ≡ o ++ line_of_old_row which old row → reached ≡ news
+    → next ++ changed_row_lines which old new rest reached ≡ o ++ changed_row_lines which old new before news
+line_of_old_row_is_appended which old new o next before rest news reached row stands e same =
+    ap₂ (λ (text : List ℕ) (rows : List (Bool × PlacedRow)). text ++ changed_row_lines which old new rest rows) e same
+    ∙ append_assoc o (line_of_old_row which old row) (changed_row_lines which old new rest news)
+    ∙ ap (λ (rows : List (Bool × PlacedRow)). o ++ changed_row_lines which old new rows news) (sym stands)
 
-pub lines_of_new_rows_are_appended : (shown : ShownChanges) (old new : LoadedPolicy) (o next : List ℕ) (before rest news reached : List (Bool × PlacedRow)) (row : PlacedRow)
-    → before ≡ (false, row) ∷ rest → next ≡ o ++ flat_map (line_of_new_row shown new) (marked_rows_in_front news) → reached ≡ rows_behind_first_unmarked news
-    → next ++ changed_row_lines shown old new rest reached ≡ o ++ changed_row_lines shown old new before news
-lines_of_new_rows_are_appended shown old new o next before rest news reached row stands e behind =
-    ap₂ (λ (text : List ℕ) (rows : List (Bool × PlacedRow)). text ++ changed_row_lines shown old new rest rows) e behind
-    ∙ append_assoc o (flat_map (line_of_new_row shown new) (marked_rows_in_front news)) (changed_row_lines shown old new rest (rows_behind_first_unmarked news))
-    ∙ ap (λ (rows : List (Bool × PlacedRow)). o ++ changed_row_lines shown old new rows news) (sym stands)
+pub lines_of_new_rows_are_appended : (which : CountedChanges) (old new : LoadedPolicy) (o next : List ℕ) (before rest news reached : List (Bool × PlacedRow)) (row : PlacedRow)
+    → before ≡ (false, row) ∷ rest → next ≡ o ++ flat_map (line_of_new_row which new) (marked_rows_in_front news) → reached ≡ rows_behind_first_unmarked news
+    → next ++ changed_row_lines which old new rest reached ≡ o ++ changed_row_lines which old new before news
+lines_of_new_rows_are_appended which old new o next before rest news reached row stands e behind =
+    ap₂ (λ (text : List ℕ) (rows : List (Bool × PlacedRow)). text ++ changed_row_lines which old new rest rows) e behind
+    ∙ append_assoc o (flat_map (line_of_new_row which new) (marked_rows_in_front news)) (changed_row_lines which old new rest (rows_behind_first_unmarked news))
+    ∙ ap (λ (rows : List (Bool × PlacedRow)). o ++ changed_row_lines which old new rows news) (sym stands)
 
-pub lines_of_last_new_rows_are_left : (shown : ShownChanges) (old new : LoadedPolicy) (o : List ℕ) (rows news : List (Bool × PlacedRow)) → rows ≡ []
-    → o ++ flat_map (line_of_new_row shown new) (marked_rows news) ≡ o ++ changed_row_lines shown old new rows news
-lines_of_last_new_rows_are_left shown old new o rows news end = ap (λ (left : List (Bool × PlacedRow)). o ++ changed_row_lines shown old new left news) (sym end)
+pub lines_of_last_new_rows_are_left : (which : CountedChanges) (old new : LoadedPolicy) (o : List ℕ) (rows news : List (Bool × PlacedRow)) → rows ≡ []
+    → o ++ flat_map (line_of_new_row which new) (marked_rows news) ≡ o ++ changed_row_lines which old new rows news
+lines_of_last_new_rows_are_left which old new o rows news end = ap (λ (left : List (Bool × PlacedRow)). o ++ changed_row_lines which old new left news) (sym end)

@@ -11,9 +11,9 @@ use Rattle.sudoers_cvt_spell.specs.Parameters.{defaults_scope_mark, printed_para
 use Rattle.laws_compare.specs.Computed.{content_of_lines}
 use Rattle.laws_compare.specs.Content.{FlatPrivilegeRow, FlatRunasDefault}
 use Rattle.sudoers_compare.specs.FlatSpecs.{PlacedRow, placed_rows_of_policy}
-use Rattle.sudoers_compare.specs.Marked.{unmarked_items}
-use Rattle.sudoers_review.specs.declared.changed_rows.ShownChanges.{ShownChanges}
-use Rattle.sudoers_review.specs.declared.changed_rows.ShownChanges.TheVariants as which
+use Rattle.sudoers_compare.specs.Marked.{unmarked_items, AreUnchangedRows}
+use Rattle.sudoers_compare.specs.declared.same_row.CountedChanges.{CountedChanges}
+use Rattle.sudoers_compare.specs.declared.same_row.CountedChanges.TheVariants as counted
 use Rattle.sudoers_review.specs.OverruledText.{place_text_of_row}
 use Rattle.sudoers_review.specs.RowText.{members_of_signed_atoms, printed_row}
 
@@ -24,14 +24,14 @@ abbrev pub changed_row_line : List ℕ → LoadedPolicy → PlacedRow → List �
 changed_row_line sign policy placed = sign ++ printed_row placed.row ++ codes "  " ++ place_text_of_row policy placed ++ codes "\n"
 
 -- The line on a row that went. Of the rows that may grant something, a row has one only if it denies.
-abbrev pub line_of_old_row : ShownChanges → LoadedPolicy → PlacedRow → List ℕ
-line_of_old_row which.All policy placed = changed_row_line (codes "- ") policy placed
-line_of_old_row which.Granting policy placed = if placed.row.grant.atom.allow then [] else changed_row_line (codes "- ") policy placed
+abbrev pub line_of_old_row : CountedChanges → LoadedPolicy → PlacedRow → List ℕ
+line_of_old_row counted.All policy placed = changed_row_line (codes "- ") policy placed
+line_of_old_row counted.Granting policy placed = if placed.row.grant.atom.allow then [] else changed_row_line (codes "- ") policy placed
 
 -- The line on a row that came. Of the rows that may grant something, a row has one only if it allows.
-abbrev pub line_of_new_row : ShownChanges → LoadedPolicy → PlacedRow → List ℕ
-line_of_new_row which.All policy placed = changed_row_line (codes "+ ") policy placed
-line_of_new_row which.Granting policy placed = if placed.row.grant.atom.allow then changed_row_line (codes "+ ") policy placed else []
+abbrev pub line_of_new_row : CountedChanges → LoadedPolicy → PlacedRow → List ℕ
+line_of_new_row counted.All policy placed = changed_row_line (codes "+ ") policy placed
+line_of_new_row counted.Granting policy placed = if placed.row.grant.atom.allow then changed_row_line (codes "+ ") policy placed else []
 
 -- each row with its mark; a row without one counts as not marked
 abbrev pub rows_with_marks : List Bool → List PlacedRow → List (Bool × PlacedRow)
@@ -58,17 +58,17 @@ rows_behind_first_unmarked ((false, row) ∷ items) = items
 
 -- The lines on the marked rows of both policies. The rows without a mark are the same in both, so they say which lines belong together:
 -- first those that went, then those that came.
-abbrev pub changed_row_lines : ShownChanges → LoadedPolicy → LoadedPolicy → List (Bool × PlacedRow) → List (Bool × PlacedRow) → List ℕ
-changed_row_lines shown old new [] news = flat_map (line_of_new_row shown new) (marked_rows news)
-changed_row_lines shown old new ((true, row) ∷ olds) news = line_of_old_row shown old row ++ changed_row_lines shown old new olds news
-changed_row_lines shown old new ((false, row) ∷ olds) news =
-    flat_map (line_of_new_row shown new) (marked_rows_in_front news) ++ changed_row_lines shown old new olds (rows_behind_first_unmarked news)
+abbrev pub changed_row_lines : CountedChanges → LoadedPolicy → LoadedPolicy → List (Bool × PlacedRow) → List (Bool × PlacedRow) → List ℕ
+changed_row_lines which old new [] news = flat_map (line_of_new_row which new) (marked_rows news)
+changed_row_lines which old new ((true, row) ∷ olds) news = line_of_old_row which old row ++ changed_row_lines which old new olds news
+changed_row_lines which old new ((false, row) ∷ olds) news =
+    flat_map (line_of_new_row which new) (marked_rows_in_front news) ++ changed_row_lines which old new olds (rows_behind_first_unmarked news)
 
--- Both lists are marked. What has no mark is the same in both, in the same order; and equal lists have no mark.
-pub record AreChangeMarks {X : Type 0} (olds news : List X) (gone came : List Bool) : Type 0 where
+-- Both lists are marked. What has no mark is the same in both, in the same order, but for what does not count; and equal lists have no mark.
+pub record AreChangeMarks (which : CountedChanges) (olds news : List FlatPrivilegeRow) (gone came : List Bool) : Type 0 where
   pub each_old : length gone ≡ length olds
   pub each_new : length came ≡ length news
-  pub same : unmarked_items gone olds ≡ unmarked_items came news
+  pub same : AreUnchangedRows which (unmarked_items gone olds) (unmarked_items came news)
   pub quiet : olds ≡ news → (list_any (λ m. m) gone ≡ false) × (list_any (λ m. m) came ≡ false)
 
 -- ---- settings of runas_default
@@ -99,12 +99,12 @@ pub data IsSettingsText (olds news : List FlatRunasDefault) : List ℕ → Type 
 abbrev pub row_of_placed : PlacedRow → FlatPrivilegeRow
 row_of_placed placed = placed.row
 
--- What is printed of two policies: of their rows those that are marked and shown, and their settings of runas_default.
-pub record IsChangesText (shown : ShownChanges) (old new : LoadedPolicy) (text : List ℕ) : Type 0 where
+-- What is printed of two policies: of their rows those that are marked and count, and their settings of runas_default.
+pub record IsChangesText (which : CountedChanges) (old new : LoadedPolicy) (text : List ℕ) : Type 0 where
   pub gone : List Bool
   pub came : List Bool
-  pub are_marks : AreChangeMarks (map row_of_placed (placed_rows_of_policy old.walk.lines)) (map row_of_placed (placed_rows_of_policy new.walk.lines)) gone came
+  pub are_marks : AreChangeMarks which (map row_of_placed (placed_rows_of_policy old.walk.lines)) (map row_of_placed (placed_rows_of_policy new.walk.lines)) gone came
   pub settings : List ℕ
   pub are_settings : IsSettingsText (content_of_lines old.walk.lines).runas_defaults (content_of_lines new.walk.lines).runas_defaults settings
-  pub text_is : text ≡ changed_row_lines shown old new (rows_with_marks gone (placed_rows_of_policy old.walk.lines)) (rows_with_marks came (placed_rows_of_policy new.walk.lines))
+  pub text_is : text ≡ changed_row_lines which old new (rows_with_marks gone (placed_rows_of_policy old.walk.lines)) (rows_with_marks came (placed_rows_of_policy new.walk.lines))
       ++ settings

@@ -8,20 +8,11 @@ ghost use Rattle.sudoers_review.specs.Faults.{IsMemoryOrSizeFault};
 ghost use Rattle.sudoers_review.specs.Views.{marked_rows_of_view};
 
 use crate::compare_fault::CompareFault;
-use crate::overruled::{TEXT_LIMIT, append_place_of_row};
-use crate::row_text::{append_row, has_long_lists};
+use crate::overruled::append_place_of_row;
+use crate::row_text::{TEXT_LIMIT, append_row, has_long_lists};
 use std::alloc::Global;
-use sudoers_compare::PlacedFlatRow;
+use sudoers_compare::{CountedChanges, PlacedFlatRow};
 use sudoers_tree::Policy;
-
-/// Which of the rows that went or came have a line.
-#[derive(Clone, Copy)]
-pub enum ShownChanges {
-    /// All of them.
-    All,
-    /// Those that may grant something: rows that came and allow, and rows that went and deny.
-    Granting,
-}
 
 /// The rows of a policy, and which of them are marked. A row without a mark is not marked.
 #[derive(Clone, Copy)]
@@ -63,57 +54,57 @@ fn append_changed_row(
     Ok(())
 }
 
-/// Appends to `out` the line on `placed`, a row of `policy` that went, if `shown` has one.
+/// Appends to `out` the line on `placed`, a row of `policy` that went, if it counts.
 fn append_old_row(
     alloc: Global,
     out: &mut Vec<u8>,
-    shown: ShownChanges,
+    counted: CountedChanges,
     policy: &Policy,
     placed: &PlacedFlatRow<'_>,
 ) -> Result<(), CompareFault>
-    ensures line { OnOk result (out.new.items ≡ out.old.items ++ line_of_old_row shown policy.now (placed_row_of_view placed.now)) }
+    ensures line { OnOk result (out.new.items ≡ out.old.items ++ line_of_old_row counted policy.now (placed_row_of_view placed.now)) }
     ensures fault { IfErr result IsMemoryOrSizeFault }
 {
-    match shown {
-        ShownChanges::Granting if !placed.row.member.negated => Ok(()),
+    match counted {
+        CountedChanges::Granting if !placed.row.member.negated => Ok(()),
         _ => append_changed_row(alloc, out, b"- ", policy, placed),
     }
 }
 
-/// Appends to `out` the line on `placed`, a row of `policy` that came, if `shown` has one.
+/// Appends to `out` the line on `placed`, a row of `policy` that came, if it counts.
 fn append_new_row(
     alloc: Global,
     out: &mut Vec<u8>,
-    shown: ShownChanges,
+    counted: CountedChanges,
     policy: &Policy,
     placed: &PlacedFlatRow<'_>,
 ) -> Result<(), CompareFault>
-    ensures line { OnOk result (out.new.items ≡ out.old.items ++ line_of_new_row shown policy.now (placed_row_of_view placed.now)) }
+    ensures line { OnOk result (out.new.items ≡ out.old.items ++ line_of_new_row counted policy.now (placed_row_of_view placed.now)) }
     ensures fault { IfErr result IsMemoryOrSizeFault }
 {
-    match shown {
-        ShownChanges::Granting if placed.row.member.negated => Ok(()),
+    match counted {
+        CountedChanges::Granting if placed.row.member.negated => Ok(()),
         _ => append_changed_row(alloc, out, b"+ ", policy, placed),
     }
 }
 
-/// Appends to `out` the lines that `shown` has on the marked rows of `new` from row `from` on, up to the first row that has no mark. Returns the number of the
-/// row behind that one.
+/// Appends to `out` the lines on the marked rows of `new` that count, from row `from` on up to the first row that has no mark. Returns the number
+/// of the row behind that one.
 fn append_rows_in_front(
     alloc: Global,
     out: &mut Vec<u8>,
-    shown: ShownChanges,
+    counted: CountedChanges,
     new: &MarkedRows<'_, '_, '_, '_>,
     from: usize,
 ) -> Result<usize, CompareFault>
     ensures lines { OnOk result (out.new.items ≡ out.old.items
-        ++ flat_map (line_of_new_row shown new.now.policy.now) (marked_rows_in_front (drop from (marked_rows_of_view new.now)))) }
+        ++ flat_map (line_of_new_row counted new.now.policy.now) (marked_rows_in_front (drop from (marked_rows_of_view new.now)))) }
     ensures behind { IfOk result (λ number. drop number (marked_rows_of_view new.now) ≡ rows_behind_first_unmarked (drop from (marked_rows_of_view new.now))) }
     ensures fault { IfErr result IsMemoryOrSizeFault }
 {
     let mut number = from;
     while number < new.rows.len() && is_marked(new.marks, number) {
-        append_new_row(alloc, out, shown, new.policy, &new.rows[number])?;
+        append_new_row(alloc, out, counted, new.policy, &new.rows[number])?;
         number += 1;
     }
     if number < new.rows.len() {
@@ -122,45 +113,45 @@ fn append_rows_in_front(
     Ok(number)
 }
 
-/// Appends to `out` the lines that `shown` has on the marked rows of `new` from row `from` on.
+/// Appends to `out` the lines on the marked rows of `new` that count, from row `from` on.
 fn append_marked_rows(
     alloc: Global,
     out: &mut Vec<u8>,
-    shown: ShownChanges,
+    counted: CountedChanges,
     new: &MarkedRows<'_, '_, '_, '_>,
     from: usize,
 ) -> Result<(), CompareFault>
     ensures lines { OnOk result (out.new.items ≡ out.old.items
-        ++ flat_map (line_of_new_row shown new.now.policy.now) (marked_rows (drop from (marked_rows_of_view new.now)))) }
+        ++ flat_map (line_of_new_row counted new.now.policy.now) (marked_rows (drop from (marked_rows_of_view new.now)))) }
     ensures fault { IfErr result IsMemoryOrSizeFault }
 {
     for number in from..new.rows.len() {
         if is_marked(new.marks, number) {
-            append_new_row(alloc, out, shown, new.policy, &new.rows[number])?;
+            append_new_row(alloc, out, counted, new.policy, &new.rows[number])?;
         }
     }
     Ok(())
 }
 
-/// Appends to `out` the lines that `shown` has on the marked rows of `old` and `new`. The rows without a mark are the same in both.
+/// Appends to `out` the lines on the marked rows of `old` and `new` that count. Of the rows without a mark, each is one in both.
 pub fn append_changed_rows(
     alloc: Global,
     out: &mut Vec<u8>,
-    shown: ShownChanges,
+    counted: CountedChanges,
     old: &MarkedRows<'_, '_, '_, '_>,
     new: &MarkedRows<'_, '_, '_, '_>,
 ) -> Result<(), CompareFault>
     ensures lines { OnOk result (out.new.items ≡ out.old.items
-        ++ changed_row_lines shown old.now.policy.now new.now.policy.now (marked_rows_of_view old.now) (marked_rows_of_view new.now)) }
+        ++ changed_row_lines counted old.now.policy.now new.now.policy.now (marked_rows_of_view old.now) (marked_rows_of_view new.now)) }
     ensures fault { IfErr result IsMemoryOrSizeFault }
 {
     let mut reached = 0;
     for number in 0..old.rows.len() {
         if is_marked(old.marks, number) {
-            append_old_row(alloc, out, shown, old.policy, &old.rows[number])?;
+            append_old_row(alloc, out, counted, old.policy, &old.rows[number])?;
         } else {
-            reached = append_rows_in_front(alloc, out, shown, new, reached)?;
+            reached = append_rows_in_front(alloc, out, counted, new, reached)?;
         }
     }
-    append_marked_rows(alloc, out, shown, new, reached)
+    append_marked_rows(alloc, out, counted, new, reached)
 }

@@ -8,7 +8,7 @@ ghost use Rattle.sudoers_review.specs.Faults.{IsMemoryOrSizeFault};
 
 use crate::compare_fault::CompareFault;
 use crate::flat_policy::FlatPolicy;
-use crate::overruled::TEXT_LIMIT;
+use crate::row_text::TEXT_LIMIT;
 use std::alloc::{AllocError, Global};
 use sudoers_compare::{FlatRunasDefault, FlatScope, is_same_runas_default};
 use sudoers_cvt_spell::{append_param, append_printed_member_list, mark_of_defaults_scope};

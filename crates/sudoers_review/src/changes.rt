@@ -7,27 +7,27 @@ ghost use Rattle.sudoers_compare.specs.FlatSpecs.{placed_row_of_view};
 ghost use Rattle.sudoers_review.specs.ChangedText.{changed_row_lines, rows_with_marks, IsChangesText};
 ghost use Rattle.sudoers_review.specs.Faults.{IsMemoryOrSizeFault};
 
-use crate::changed_rows::{MarkedRows, ShownChanges, append_changed_rows};
+use crate::changed_rows::{MarkedRows, append_changed_rows};
 use crate::changed_settings::append_changed_settings;
 use crate::compare_fault::CompareFault;
 use crate::flat_policy::FlatPolicy;
 use crate::other_defaults::make_changed_other_defaults_text;
 use std::alloc::Global;
-use sudoers_compare::{PlacedFlatRow, RowMarks, mark_changed_rows};
+use sudoers_compare::{CountedChanges, PlacedFlatRow, RowMarks, mark_changed_rows};
 use sudoers_tree::Policy;
 
 /// Appends to `out` the lines on the rows of `old` and `new` that are marked.
 fn append_rows_with_marks(
     alloc: Global,
     out: &mut Vec<u8>,
-    shown: ShownChanges,
+    counted: CountedChanges,
     old: &Policy,
     old_rows: &[PlacedFlatRow<'_>],
     new: &Policy,
     new_rows: &[PlacedFlatRow<'_>],
     marks: &RowMarks,
 ) -> Result<(), CompareFault>
-    ensures lines { OnOk result (out.new.items ≡ out.old.items ++ changed_row_lines shown old.now new.now
+    ensures lines { OnOk result (out.new.items ≡ out.old.items ++ changed_row_lines counted old.now new.now
         (rows_with_marks marks.now.gone.items (map placed_row_of_view old_rows.now)) (rows_with_marks marks.now.came.items (map placed_row_of_view new_rows.now))) }
     ensures fault { IfErr result IsMemoryOrSizeFault }
 {
@@ -41,7 +41,7 @@ fn append_rows_with_marks(
         rows: new_rows,
         marks: marks.came.as_slice(),
     };
-    append_changed_rows(alloc, out, shown, &gone, &came)
+    append_changed_rows(alloc, out, counted, &gone, &came)
 }
 
 /// What is printed of two policies that differ.
@@ -54,9 +54,9 @@ pub struct ChangesText {
 }
 
 /// Returns the lines on what `old` and `new` grant otherwise, the aliases replaced: each row that went behind `-`, and each that came behind `+`,
-/// with its place, as far as `shown` has them; then their settings of runas_default, if they differ. Apart come the lines on the other parameters
-/// of Defaults, on which no answer depends. Without a line each request has the same answer, tags and options in both. If `shown` has only
-/// rows that may grant something, `old` then allows each request that `new` allows.
+/// with its place, as far as it counts; then their settings of runas_default, if they differ. Apart come the lines on the other parameters of
+/// Defaults, on which no answer depends. If all changes count, then without a line each request has the same answer, tags and options in both. If
+/// only those count that may grant something, then without a line `old` allows each request that `new` allows.
 ///
 /// # Errors
 ///
@@ -64,11 +64,11 @@ pub struct ChangesText {
 /// aliases, or the lines have more than 16 MiB. `NoMemory`: memory ran out.
 pub fn make_changes_text(
     alloc: Global,
-    shown: ShownChanges,
+    counted: CountedChanges,
     old: &Policy,
     new: &Policy,
 ) -> Result<ChangesText, CompareFault>
-    ensures text { IfOk result (λ text. IsChangesText shown old.now new.now text.answers.items) }
+    ensures text { IfOk result (λ text. IsChangesText counted old.now new.now text.answers.items) }
     ensures straight { IfOk result (λ text. (HasCyclicAliasReachedFromSpecOrDefaults old.now.walk.lines → ⊥) × (HasCyclicAliasReachedFromSpecOrDefaults new.now.walk.lines → ⊥)) }
     ensures fault { IfErr result (λ fault. (fault ≡ NoMemory) ⊎ ((fault ≡ TooLarge) ⊎ ((fault ≡ Cycle)
         × (HasCyclicAliasReachedFromSpecOrDefaults old.now.walk.lines ⊎ HasCyclicAliasReachedFromSpecOrDefaults new.now.walk.lines)))) }
@@ -77,12 +77,12 @@ pub fn make_changes_text(
     let new_flat = FlatPolicy::new(alloc, new)?;
     let old_rows = old_flat.list_rows(alloc)?;
     let new_rows = new_flat.list_rows(alloc)?;
-    let marks = mark_changed_rows(alloc, old_rows.as_slice(), new_rows.as_slice())?;
+    let marks = mark_changed_rows(alloc, counted, old_rows.as_slice(), new_rows.as_slice())?;
     let mut answers = Vec::new(alloc);
     append_rows_with_marks(
         alloc,
         &mut answers,
-        shown,
+        counted,
         old,
         old_rows.as_slice(),
         new,

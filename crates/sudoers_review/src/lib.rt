@@ -11,7 +11,6 @@ mod other_defaults;
 mod overruled;
 mod row_text;
 
-pub use changed_rows::ShownChanges;
 pub use changes::{ChangesText, make_changes_text};
 pub use compare_fault::CompareFault;
 pub use overruled::make_overruled_text;

@@ -6,8 +6,7 @@ ghost use Rattle.sudoers_review.specs.Faults.{IsMemoryOrSizeFault};
 use crate::changed_settings::append_flat_scope;
 use crate::compare_fault::CompareFault;
 use crate::flat_policy::FlatPolicy;
-use crate::overruled::TEXT_LIMIT;
-use crate::row_text::{MEMBER_BYTE_LIMIT, count_member_bytes};
+use crate::row_text::{TEXT_LIMIT, count_member_bytes};
 use std::alloc::{AllocError, Global};
 use sudoers_compare::{ComparedLists, FlatScope, choose_marks, find_unmarked, flatten_scope};
 use sudoers_cvt_spell::append_param;
@@ -65,7 +64,7 @@ fn make_scope_text(
 {
     let scope: Option<FlatScope> = flatten_scope(alloc, source, scope, allowance)?;
     if let Some(scope) = &scope
-        && count_member_bytes(0, scope.members.as_slice()) > MEMBER_BYTE_LIMIT
+        && count_member_bytes(0, scope.members.as_slice()) > TEXT_LIMIT
     {
         return Err(CompareFault::TooLarge);
     }

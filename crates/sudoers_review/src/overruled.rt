@@ -13,15 +13,13 @@ ghost use Rattle.sudoers_review.specs.OverruledText.{command_text_of_row, overru
 
 use crate::compare_fault::CompareFault;
 use crate::flat_policy::FlatPolicy;
+use crate::row_text::TEXT_LIMIT;
 use std::alloc::{AllocError, Global};
 use sudoers_compare::{Overruling, PlacedFlatRow, find_overrulings, has_same_effect};
 use sudoers_cvt_spell::append_member;
 use sudoers_list::append_place_on_walk_line;
 use sudoers_text::append_decimal_number;
 use sudoers_tree::{Kind, Policy};
-
-/// How many bytes a text has at most that is printed of a comparison.
-pub const TEXT_LIMIT: usize = 16_777_216;
 
 /// Returns what is said of a command that never decides.
 fn choose_words(is_useless: bool) -> &'static [u8]

@@ -16,8 +16,8 @@ use sudoers_line_rows::{MemberRow, RowsOfTable, RunasSpec, Tables};
 use sudoers_match::CommandSettings;
 use sudoers_tree::Kind;
 
-/// How many bytes the members of a row have at most that is printed.
-pub const MEMBER_BYTE_LIMIT: usize = 16_777_216;
+/// How many bytes a text may have before another row is printed. The members of a row that is printed have at most as many.
+pub const TEXT_LIMIT: usize = 16_777_216;
 
 /// Returns how many bytes the members of `rows` have where they are written, and `before` more.
 pub fn count_member_bytes(before: usize, rows: &[MemberRow]) -> usize {
@@ -44,7 +44,7 @@ pub fn has_long_lists(row: &FlatRow<'_>) -> bool {
         count = count_bytes_of_optional_list(count, &runas.users);
         count = count_bytes_of_optional_list(count, &runas.groups);
     }
-    count > MEMBER_BYTE_LIMIT
+    count > TEXT_LIMIT
 }
 
 /// Returns a list of a Runas_Spec. An absent one has no members.

@@ -11,9 +11,10 @@ use crate::overruled_notes::fault_of_comparison;
 use crate::terminal::print_error_line;
 use clap::{Arg, ArgAction, ArgMatches, Command};
 use std::alloc::{AllocError, Global};
+use sudoers_compare::CountedChanges;
 use sudoers_explain::append_help;
 use sudoers_files::gather;
-use sudoers_review::{ChangesText, CompareFault, ShownChanges, make_changes_text};
+use sudoers_review::{ChangesText, CompareFault, make_changes_text};
 use sudoers_run::{LayerFault, ToolFault};
 use sudoers_tree::Policy;
 
@@ -122,7 +123,7 @@ pub fn run_diff_command(rt: &HostRuntime, words: &ArgMatches<'_>) -> u8 {
         Ok(policy) => policy,
         Err(fault) => return explain_error_of_side(rt, words, NEW_SIDE, &mut new_files, fault),
     };
-    match make_changes_text(rt.alloc(), choose_shown_changes(words), &old, &new) {
+    match make_changes_text(rt.alloc(), choose_counted_changes(words), &old, &new) {
         Ok(changes) => print_changes(rt, words, changes),
         Err(fault) => {
             let side = find_side_of_fault(rt.alloc(), fault, &old, &new);
@@ -131,12 +132,12 @@ pub fn run_diff_command(rt: &HostRuntime, words: &ArgMatches<'_>) -> u8 {
     }
 }
 
-/// Returns which changes `words` ask for.
-fn choose_shown_changes(words: &ArgMatches<'_>) -> ShownChanges {
+/// Returns which changes count by `words`.
+fn choose_counted_changes(words: &ArgMatches<'_>) -> CountedChanges {
     if words.get_flag(GRANTED) {
-        ShownChanges::Granting
+        CountedChanges::Granting
     } else {
-        ShownChanges::All
+        CountedChanges::All
     }
 }
 
@@ -161,7 +162,7 @@ fn find_side_of_fault(
 
 /// Returns whether `policy` cannot be compared with itself because of `fault`.
 fn is_fault_of_policy(alloc: Global, fault: CompareFault, policy: &Policy) -> bool {
-    match make_changes_text(alloc, ShownChanges::Granting, policy, policy) {
+    match make_changes_text(alloc, CountedChanges::Granting, policy, policy) {
         Ok(_) => false,
         Err(found) => found == fault,
     }

@@ -19,12 +19,12 @@ loop-number-preserved c =
       | then-is_marked+in_ok-append_old_row w ↦
           let row = placed_row_of_view (get_or old.rows.now number w.index-old-number.result) in
           let stands = held_row_stands old number w.index-old-number.result true c.is_marked.result c.loop-number-test.true w.if-is_marked.true c.is_marked.ensures in
-          line_of_old_row_is_appended c.args.shown old.policy.now new.policy.now o c.if-is_marked.out.items (drop number olds) (drop (number + 1) olds) (drop reached news)
+          line_of_old_row_is_appended c.args.counted old.policy.now new.policy.now o c.if-is_marked.out.items (drop number olds) (drop (number + 1) olds) (drop reached news)
           (drop c.if-is_marked.reached news) row stands (ap (λ (v : _). v.items) w.out-is ∙ w.in_ok-append_old_row.ensures.line) (ap (λ (n : ℕ). drop n news) w.reached-is)
           ∙ c.loop-number.invariant
       | else-is_marked+in_ok-reached w ↦
           let found = held_row_without_mark_stands old number c.is_marked.result c.loop-number-test.true w.if-is_marked.false c.is_marked.ensures in
-          lines_of_new_rows_are_appended c.args.shown old.policy.now new.policy.now o c.if-is_marked.out.items (drop number olds) (drop (number + 1) olds) (drop reached news)
+          lines_of_new_rows_are_appended c.args.counted old.policy.now new.policy.now o c.if-is_marked.out.items (drop number olds) (drop (number + 1) olds) (drop reached news)
           (drop c.if-is_marked.reached news) found.0 found.1 (ap (λ (v : _). v.items) w.out-is ∙ w.in_ok-reached.ensures.lines)
           (ap (λ (n : ℕ). drop n news) w.reached-is ∙ w.in_ok-reached.ensures.behind)
           ∙ c.loop-number.invariant
@@ -38,6 +38,6 @@ returns-clause-lines c =
     let o = c.loop-number.out.items in
     let end : length old.rows.now ≤ number = omega (arith, c.loop-number-test.false) in
     on_ok_weaker c.append_marked_rows.result (λ e.
-    e ∙ lines_of_last_new_rows_are_left c.args.shown old.policy.now new.policy.now o (drop number (marked_rows_of_view old)) (drop c.loop-number.reached (marked_rows_of_view new))
+    e ∙ lines_of_last_new_rows_are_left c.args.counted old.policy.now new.policy.now o (drop number (marked_rows_of_view old)) (drop c.loop-number.reached (marked_rows_of_view new))
     (no_held_row_stands_behind_last old number end)
     ∙ c.loop-number.invariant) c.append_marked_rows.ensures.lines

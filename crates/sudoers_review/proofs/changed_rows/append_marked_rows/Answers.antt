@@ -12,7 +12,7 @@ loop-number-preserved c =
     let rows = marked_rows_of_view new in
     let number = c.loop-number.number in
     let o = c.loop-number.out.items in
-    let line = line_of_new_row c.args.shown new.policy.now in
+    let line = line_of_new_row c.args.counted new.policy.now in
     elim c.if-is_marked.branch [
       | then-is_marked+in_ok-append_new_row w ↦
           let row = placed_row_of_view (get_or new.rows.now number w.index-new-number.result) in
@@ -31,5 +31,5 @@ returns-clause-lines c =
     let new = c.args.new.now in
     let number = c.loop-number.number in
     let end : length new.rows.now ≤ number = omega (arith, c.loop-number-test.false) in
-    no_line_is_left (line_of_new_row c.args.shown new.policy.now) c.loop-number.out.items (drop number (marked_rows_of_view new)) (no_held_row_stands_behind_last new number end)
+    no_line_is_left (line_of_new_row c.args.counted new.policy.now) c.loop-number.out.items (drop number (marked_rows_of_view new)) (no_held_row_stands_behind_last new number end)
     ∙ c.loop-number.invariant
