@@ -127,6 +127,7 @@ GRANTED = (
     Change("a member more", "ann ALL=/bin/a\n", "ann, bob ALL=<1>/bin/a\n", "+ ann, bob ALL = /bin/a  {1}\n"),
     Change("a member less of a denial", "ann ALL=ALL\nann, bob ALL=!<1>/bin/a\n", "ann ALL=ALL\nann ALL=!/bin/a\n", "- ann, bob ALL = !/bin/a  {1}\n"),
     Change("a member less and another tag", "ann, bob ALL=/bin/a\n", "ann ALL=NOPASSWD: <1>/bin/a\n", "+ ann ALL = NOPASSWD: /bin/a  {1}\n"),
+    Change("a rule less before a member less", "ann ALL=/bin/x\nann, bob ALL=/bin/a\n", "ann ALL=/bin/a\n"),
     Change("arguments", "ann ALL=/bin/a\n", "ann ALL=/bin/a -l\n"),
     Change("a target less", "ann ALL=(ALL) /bin/a\n", "ann ALL=(root) /bin/a\n"),
     Change("a host in the place of all", "ann ALL=/bin/a\nbob ALL=/bin/b\n", "ann h1=/bin/a\nbob h1=/bin/b\n"),

@@ -9,6 +9,9 @@ use sudoers_line_rows::{MemberRow, RowsOfTable};
 /// How many pairs of members are compared at most to find the rows that are narrowed.
 const MOST_COMPARED: usize = 16_777_216;
 
+/// How many rows that went are looked at for a row that came.
+const MOST_SKIPPED: usize = 16;
+
 /// Returns how many members the list `list` has, if it is there.
 fn count_members(list: &Option<RowsOfTable<'_, MemberRow>>) -> usize {
     match list {
@@ -39,20 +42,43 @@ fn count_pairs(old: &FlatRow<'_>, new: &FlatRow<'_>) -> usize {
         .saturating_add(1)
 }
 
-/// Returns whether row `number` is marked, and removes its mark if `is_unmarked`.
-fn take_mark(marks: &mut Vec<bool>, number: usize, is_unmarked: bool) -> bool {
-    match marks.get_mut(number) {
-        Some(mark) => {
-            let was = *mark;
-            *mark = was && !is_unmarked;
-            was
-        }
-        None => false,
+/// Returns whether the row with the number `number` is there and marked.
+fn is_marked(marks: &[bool], number: usize) -> bool {
+    matches!(marks.get(number), Some(true))
+}
+
+/// Removes the mark of the row with the number `number`.
+fn remove_mark(marks: &mut Vec<bool>, number: usize) {
+    if let Some(mark) = marks.get_mut(number) {
+        *mark = false;
     }
 }
 
-/// Removes the marks of each row of `new` that came, and of the row of `old` that went in its place, where that one is narrowed. The first row
-/// that came in a place is compared with the first that went there, and so on. No more than `MOST_COMPARED` pairs of members are compared.
+/// Returns the number of the first of the rows `old` that `new` narrows, from number `from` on. They went one behind another, as `gone` says. Takes
+/// the pairs of members that are compared from `left`.
+fn find_narrowed_row(
+    old: &[PlacedFlatRow<'_>],
+    gone: &[bool],
+    from: usize,
+    new: &FlatRow<'_>,
+    left: &mut usize,
+) -> Option<usize> {
+    for skipped in 0..MOST_SKIPPED {
+        let number = from.saturating_add(skipped);
+        let placed = old.get(number)?;
+        if !is_marked(gone, number) {
+            return None;
+        }
+        *left = left.checked_sub(count_pairs(&placed.row, new))?;
+        if is_unchanged_row(CountedChanges::Granting, &placed.row, new) {
+            return Some(number);
+        }
+    }
+    None
+}
+
+/// Removes the marks of each row of `new` that came, and of a row of `old` that went in its place, where that one is narrowed. Rows are taken in
+/// order. No more than `MOST_COMPARED` pairs of members are compared.
 pub fn unmark_narrowed_rows(
     marks: &mut RowMarks,
     old: &[PlacedFlatRow<'_>],
@@ -61,18 +87,19 @@ pub fn unmark_narrowed_rows(
     let mut left = MOST_COMPARED;
     let mut reached = 0;
     for number in 0..new.len() {
-        if !take_mark(&mut marks.came, number, false) {
-            reached = find_unmarked(marks.gone.as_slice(), reached).saturating_add(1);
-        } else if let Some(placed) = old.get(reached)
-            && take_mark(&mut marks.gone, reached, false)
-        {
-            let pairs = count_pairs(&placed.row, &new[number].row);
-            let is_narrowed = pairs <= left
-                && is_unchanged_row(CountedChanges::Granting, &placed.row, &new[number].row);
-            left = left.saturating_sub(pairs);
-            take_mark(&mut marks.gone, reached, is_narrowed);
-            take_mark(&mut marks.came, number, is_narrowed);
-            reached = reached.saturating_add(1);
+        let gone = marks.gone.as_slice();
+        if !is_marked(marks.came.as_slice(), number) {
+            reached = find_unmarked(gone, reached).saturating_add(1);
+        } else if let Some(narrowed) = find_narrowed_row(
+            old,
+            gone,
+            reached,
+            &new[number].row,
+            &mut left,
+        ) {
+            remove_mark(&mut marks.gone, narrowed);
+            remove_mark(&mut marks.came, number);
+            reached = narrowed.saturating_add(1);
         }
     }
 }
