@@ -79,7 +79,7 @@ fn find_narrowed_row(
 
 /// Removes the marks of each row of `new` that came, and of a row of `old` that went in its place, where that one is narrowed. Rows are taken in
 /// order. No more than `MOST_COMPARED` pairs of members are compared.
-pub fn unmark_narrowed_rows(
+pub fn remove_marks_of_narrowed_rows(
     marks: &mut RowMarks,
     old: &[PlacedFlatRow<'_>],
     new: &[PlacedFlatRow<'_>],

@@ -294,13 +294,18 @@ fn advice_of_comparison(
     Ok(text)
 }
 
-/// Prints an error with `label` before it, and the lines `explanation`. Returns the exit status.
+/// Prints an error with `label` before it, and the lines `explanation`. Want of memory is about no policy, and has no label. Returns the exit
+/// status.
 fn print_diff_error(
     rt: &HostRuntime,
     trouble: &FileTrouble,
     label: &[u8],
     explanation: &[u8],
 ) -> u8 {
+    let label = match trouble.fault() {
+        ToolFault::Layer(LayerFault::NoMemory) => b"",
+        _ => label,
+    };
     if let Ok(text) = trouble.text(rt.alloc())
         && print_error_line(rt, &[label, text.as_slice()]).is_ok()
     {
