@@ -302,7 +302,7 @@ fn print_diff_error(
     label: &[u8],
     explanation: &[u8],
 ) -> u8 {
-    let label = match trouble.fault() {
+    let label: &[u8] = match trouble.fault() {
         ToolFault::Layer(LayerFault::NoMemory) => b"",
         _ => label,
     };
