@@ -46,7 +46,7 @@ is_read_by_sudo text = are_no_forms (refused_forms_of_text text)
 
 -- sudo reads the spelling, and its rules are printed as the line.
 abbrev pub is_spelling_for_sudo : List ℕ → List ℕ → Bool
-is_spelling_for_sudo line spelled = is_text_of_rules_of line spelled && is_read_by_sudo spelled
+is_spelling_for_sudo line spelled = is_read_by_sudo spelled && is_text_of_rules_of line spelled
 
 -- the first of these spellings that sudo reads, or the line
 abbrev pub first_spelling_for_sudo : List ℕ → List (List ℕ) → List ℕ

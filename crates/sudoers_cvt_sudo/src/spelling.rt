@@ -102,8 +102,8 @@ fn choose_spelling_for_sudo(
 fn is_spelling_for_sudo(alloc: Global, line: &[u8], spelled: &[u8]) -> Result<bool, AllocError>
     ensures { IfOk result (λ is_chosen. is_chosen ≡ is_spelling_for_sudo line.now spelled.now) }
 {
-    if is_text_of_rules_of(alloc, line, spelled)? {
-        is_read_by_sudo(alloc, spelled)
+    if is_read_by_sudo(alloc, spelled)? {
+        is_text_of_rules_of(alloc, line, spelled)
     } else {
         Ok(false)
     }
