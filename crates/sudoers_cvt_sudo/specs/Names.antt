@@ -11,35 +11,34 @@ use Rattle.sudoers_cvt_sudo.specs.Quotes.{backslash_if}
 use Rattle.sudoers_cvt_sudo.specs.declared.name_spelling.NameSpelling.{NameSpelling}
 use Rattle.sudoers_cvt_sudo.specs.declared.name_spelling.NameSpelling.TheVariants as spelling
 
--- ---- a name in quotes
+-- ---- a name
 
--- What is written in quotes for a byte: nothing for a backslash that begins a pair, and `\"` for a quote. escaped: such a backslash stands
+-- What stands in quotes for a byte: nothing for a backslash that begins a pair, and `\"` for a quote. escaped: such a backslash stands
 -- directly left.
 abbrev pub bytes_in_quotes : Bool → ℕ → List ℕ
 bytes_in_quotes true b = if b == 34 then 92 ∷ b ∷ [] else b ∷ []
 bytes_in_quotes false b = if b == 92 then [] else b ∷ []
 
-abbrev pub text_in_quotes : Bool → List ℕ → List ℕ
-text_in_quotes escaped [] = []
-text_in_quotes escaped (b ∷ rest) = bytes_in_quotes escaped b ++ text_in_quotes (not escaped && b == 92) rest
+-- What stands for it without quotes: `>` has a backslash.
+abbrev pub bytes_without_quotes : Bool → ℕ → List ℕ
+bytes_without_quotes true b = b ∷ []
+bytes_without_quotes false b = if b == 62 then 92 ∷ b ∷ [] else b ∷ []
+
+abbrev pub bytes_of_spelling : NameSpelling → Bool → ℕ → List ℕ
+bytes_of_spelling spelling.Quoted escaped b = bytes_in_quotes escaped b
+bytes_of_spelling spelling.Escaped escaped b = bytes_without_quotes escaped b
+
+abbrev pub text_of_spelling : NameSpelling → Bool → List ℕ → List ℕ
+text_of_spelling s escaped [] = []
+text_of_spelling s escaped (b ∷ rest) = bytes_of_spelling s escaped b ++ text_of_spelling s (not escaped && b == 92) rest
 
 -- The name, without its backslashes, in quotes.
 abbrev pub quoted_name : List ℕ → List ℕ
-quoted_name text = 34 ∷ text_in_quotes false text ++ 34 ∷ []
-
--- ---- a name with backslashes
-
--- `>` has a backslash. escaped: it has one.
-abbrev pub bytes_with_backslash : Bool → ℕ → List ℕ
-bytes_with_backslash escaped b = if not escaped && b == 62 then 92 ∷ b ∷ [] else b ∷ []
-
-abbrev pub text_with_backslashes : Bool → List ℕ → List ℕ
-text_with_backslashes escaped [] = []
-text_with_backslashes escaped (b ∷ rest) = bytes_with_backslash escaped b ++ text_with_backslashes (not escaped && b == 92) rest
+quoted_name text = 34 ∷ (text_of_spelling spelling.Quoted false text ++ 34 ∷ [])
 
 -- The name, with a backslash before its first byte and before each `>`.
 abbrev pub escaped_name : List ℕ → List ℕ
-escaped_name text = backslash_if (not (has_first_byte 92 text || has_first_byte 62 text)) ++ text_with_backslashes false text
+escaped_name text = backslash_if (not (has_first_byte 92 text || has_first_byte 62 text)) ++ text_of_spelling spelling.Escaped false text
 
 -- ---- the names of a line
 

@@ -1,7 +1,7 @@
 //! A name in quotes, or with backslashes.
 
-ghost use Rattle.std.specs.Prelude.{◌≡◌, ◌∷◌, [], ◌++◌, false, OnOk};
-ghost use Rattle.sudoers_cvt_sudo.specs.Names.{bytes_in_quotes, bytes_with_backslash, escaped_name, is_form_of_spelling, is_refused_in_quotes, quoted_name, spelled_name, spelled_text, text_in_quotes, text_with_backslashes};
+ghost use Rattle.std.specs.Prelude.{◌≡◌, ◌++◌, false, OnOk};
+ghost use Rattle.sudoers_cvt_sudo.specs.Names.{bytes_in_quotes, bytes_of_spelling, bytes_without_quotes, escaped_name, is_form_of_spelling, is_refused_in_quotes, quoted_name, spelled_name, spelled_text, text_of_spelling};
 
 use crate::bare_quotes::{append_backslash_if, begins_pair};
 use std::alloc::AllocError;
@@ -40,6 +40,51 @@ impl NameSpelling {
             _ => append_escaped_name(text, out),
         }
     }
+
+    /// Appends the bytes of the name `text`, spelled so, without quotes around them.
+    fn append_bytes(self, text: &[u8], out: &mut Vec<u8>) -> Result<(), AllocError>
+        ensures { OnOk result (out.new.items ≡ out.old.items ++ text_of_spelling self false text.now) }
+    {
+        let mut is_escaped = false;
+        for byte in text {
+            self.append_byte(is_escaped, *byte, out)?;
+            is_escaped = begins_pair(is_escaped, *byte);
+        }
+        Ok(())
+    }
+
+    /// Appends what stands for `byte`, behind a backslash that begins a pair or not.
+    fn append_byte(self, is_escaped: bool, byte: u8, out: &mut Vec<u8>) -> Result<(), AllocError>
+        ensures { OnOk result (out.new.items ≡ out.old.items ++ bytes_of_spelling self is_escaped byte) }
+    {
+        match self {
+            NameSpelling::Quoted => append_byte_in_quotes(is_escaped, byte, out),
+            NameSpelling::Escaped => append_byte_without_quotes(is_escaped, byte, out),
+        }
+    }
+}
+
+/// Appends what stands in quotes for `byte`, behind a backslash that begins a pair or not.
+fn append_byte_in_quotes(is_escaped: bool, byte: u8, out: &mut Vec<u8>) -> Result<(), AllocError>
+    ensures { OnOk result (out.new.items ≡ out.old.items ++ bytes_in_quotes is_escaped byte) }
+{
+    if begins_pair(is_escaped, byte) {
+        return Ok(());
+    }
+    append_backslash_if(is_escaped && byte == b'"', out)?;
+    out.extend_from_slice(&[byte])
+}
+
+/// Appends what stands without quotes for `byte`, behind a backslash that begins a pair or not.
+fn append_byte_without_quotes(
+    is_escaped: bool,
+    byte: u8,
+    out: &mut Vec<u8>,
+) -> Result<(), AllocError>
+    ensures { OnOk result (out.new.items ≡ out.old.items ++ bytes_without_quotes is_escaped byte) }
+{
+    append_backslash_if(!is_escaped && byte == b'>', out)?;
+    out.extend_from_slice(&[byte])
 }
 
 /// Returns whether sudo refuses a text of the form `form` for how it is spelled.
@@ -76,31 +121,8 @@ fn append_quoted_name(text: &[u8], out: &mut Vec<u8>) -> Result<(), AllocError>
     ensures { OnOk result (out.new.items ≡ out.old.items ++ quoted_name text.now) }
 {
     out.extend_from_slice(b"\"")?;
-    append_text_in_quotes(text, out)?;
+    NameSpelling::Quoted.append_bytes(text, out)?;
     out.extend_from_slice(b"\"")
-}
-
-/// Appends what is written in quotes for `text`.
-fn append_text_in_quotes(text: &[u8], out: &mut Vec<u8>) -> Result<(), AllocError>
-    ensures { OnOk result (out.new.items ≡ out.old.items ++ text_in_quotes false text.now) }
-{
-    let mut is_escaped = false;
-    for byte in text {
-        append_bytes_in_quotes(is_escaped, *byte, out)?;
-        is_escaped = begins_pair(is_escaped, *byte);
-    }
-    Ok(())
-}
-
-/// Appends what is written in quotes for `byte`.
-fn append_bytes_in_quotes(is_escaped: bool, byte: u8, out: &mut Vec<u8>) -> Result<(), AllocError>
-    ensures { OnOk result (out.new.items ≡ out.old.items ++ bytes_in_quotes is_escaped byte) }
-{
-    if begins_pair(is_escaped, byte) {
-        return Ok(());
-    }
-    append_backslash_if(is_escaped && byte == b'"', out)?;
-    out.extend_from_slice(&[byte])
 }
 
 /// Appends the name `text` with a backslash before its first byte, and before each `>`.
@@ -109,18 +131,5 @@ fn append_escaped_name(text: &[u8], out: &mut Vec<u8>) -> Result<(), AllocError>
 {
     let has_mark = begins_with_byte(b'\\', text) || begins_with_byte(b'>', text);
     append_backslash_if(!has_mark, out)?;
-    append_text_with_backslashes(text, out)
-}
-
-/// Appends `text` with a backslash before each `>`.
-fn append_text_with_backslashes(text: &[u8], out: &mut Vec<u8>) -> Result<(), AllocError>
-    ensures { OnOk result (out.new.items ≡ out.old.items ++ text_with_backslashes false text.now) }
-{
-    let mut is_escaped = false;
-    for byte in text {
-        append_backslash_if(!is_escaped && *byte == b'>', out)?;
-        out.extend_from_slice(&[*byte])?;
-        is_escaped = begins_pair(is_escaped, *byte);
-    }
-    Ok(())
+    NameSpelling::Escaped.append_bytes(text, out)
 }
