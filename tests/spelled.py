@@ -93,6 +93,8 @@ NAME_ROWS = (
     Row("a user and a value", '"sha256" ALL=ROLE="%x" TYPE=t ALL\n', '"sha256" ALL = ROLE=\\%x TYPE=t ALL\n', names=("sha256", "%x")),
     Row("a user and arguments", '"/b" ALL=/bin/a "x"\n', '"/b" ALL = /bin/a "x"\n', names=("/b",)),
     Row("a User_Alias", 'User_Alias A = "/b", x\nA ALL=ALL\n', 'User_Alias A = "/b", x\nA ALL = ALL\n', names=("/b",)),
+    Row("a blank at a line end", "User_Alias A = bob, \\ \nA ALL=ALL\n", 'User_Alias A = bob, " "\nA ALL = ALL\n', names=(" ",)),
+    Row("a tab at a line end", 'User_Alias A = bob, "x\t"\nA ALL=ALL\n', 'User_Alias A = bob, "x\t"\nA ALL = ALL\n', names=("x\t",)),
     Row("a Host_Alias", 'Host_Alias A = "sudoedit"\nbob A=ALL\n', 'Host_Alias A = "sudoedit"\nbob A = ALL\n', names=("sudoedit",)),
     Row("a Runas_Alias", 'Runas_Alias A = "^b$"\nbob ALL=(A) ALL\n', 'Runas_Alias A = "^b$"\nbob ALL = (A) ALL\n', names=("^b$",)),
     Row("users of Defaults", 'Defaults:"/b" !use_pty\n', 'Defaults:"/b" !use_pty\n', names=("/b",)),
@@ -158,7 +160,7 @@ def run_worked(stand):
 
 
 # What random names are made of, and the policies in which they stand.
-BEGINS = ("/b", "10.0.0.1", "1.2.3.4/8", "sudoedit", "sha256", "^b$", "^b", "a>b", ">", "ROLE", "CWD", "X", "ALL", "!a", "a b", " a", "a,b", "@include", "Defaults", "Defaultsx", "User_Alias")
+BEGINS = ("/b", "10.0.0.1", "1.2.3.4/8", "sudoedit", "sha256", "^b$", "^b", "a>b", ">", "ROLE", "CWD", "X", "ALL", "!a", "a b", " a", " ", "a,b", "@include", "Defaults", "Defaultsx", "User_Alias")
 ENDS = ("", "", "", "$", ">", '"', "\\", " ", "\t", "/", ":", "x41", ")", "=", "c")
 FRAMES = (
     "{} ALL=ALL\n",

@@ -53,6 +53,7 @@ is_form_of_spelling form.AddressName = true
 is_form_of_spelling form.ValueWord = true
 is_form_of_spelling form.FolderValue = true
 is_form_of_spelling form.LineWord = true
+is_form_of_spelling form.BlankContinuation = true
 is_form_of_spelling f = false
 
 -- In quotes sudo refuses it too: a folder, and a value that begins with `%` or `+`.

@@ -102,6 +102,7 @@ fn is_form_of_spelling(form: Form) -> bool
             | Form::ValueWord
             | Form::FolderValue
             | Form::LineWord
+            | Form::BlankContinuation
     )
 }
 
