@@ -154,7 +154,7 @@ def run_worked(stand):
                 with open(f"{folder}/again", "wb") as file:
                     file.write(came.stdout)
                 problems += difference("converted again", plain.stdout, stand.run("convert -f sudoers again", folder).stdout)
-                problems += difference("without backslashes", plain.stdout.replace(b'\\"', b'"'), came.stdout.replace(b'\\"', b'"'))
+                problems += difference("without quotes and backslashes", *(answer.stdout.translate(None, b'\\"') for answer in (plain, came)))
         stand.tally.note(f"{PART}: {where}", problems)
     stand.tally.note(f"{PART}: worked policies", [] if spelled >= LEAST_SPELLED else [f"too few are spelled otherwise: {spelled}"])
 
