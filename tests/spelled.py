@@ -234,6 +234,7 @@ WORST_LINES, WORST_SECONDS = 8_000, 10
 def run_words(stand):
     """The other options, wrong words, errors, and many lines with quotes."""
     tree = {"main": 'Cmnd_Alias X = /bin/a "x"\nbob ALL = X\nann ALL = X\n', "broken": "bob ALL\n", "many": 'bob ALL = /bin/a "x" "y", /bin/b "\\,"\n' * WORST_LINES}
+    tree["names"] = '"sha256", "/b" ALL = ("10.0.0.1") ROLE="X" /bin/a\n' * WORST_LINES
     tree["group"] = "Runas_Alias G = %wheel\nbob ALL=(root : G) /bin/a\n"
     with Folder(tree) as folder:
         for words, named in WRONG_WORDS:
@@ -242,8 +243,9 @@ def run_words(stand):
         stand.note("a group of an alias", "convert -e -f sudoers --for sudo group", Wanted(b"bob ALL = (root : %wheel) /bin/a\n", note_of("1:19")), folder)
         stand.note("filtered", "convert -m user=ann -f sudoers --for sudo main", Wanted(b'Cmnd_Alias X = /bin/a "x"\nann ALL = X\n'), folder)
         stand.note("no policy", "convert --plain -f sudoers --for sudo broken", Wanted(b"", b"sudoers_tool: broken:1:8: syntax error: EndOfLine\n", 1), folder)
-        came = stand.run("convert -f sudoers --for sudo many", folder, seconds=WORST_SECONDS)
-        stand.tally.note(f"{PART}: {WORST_LINES} lines with quotes", Wanted(tree["many"].encode()).problems(came))
+        for name in ("many", "names"):
+            came = stand.run(f"convert -f sudoers --for sudo {name}", folder, seconds=WORST_SECONDS)
+            stand.tally.note(f"{PART}: {WORST_LINES} lines, {name}", Wanted(tree[name].encode()).problems(came))
 
 
 def run_refused_growths(program, tally):
