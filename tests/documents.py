@@ -23,6 +23,7 @@ options of `list` and a command. PEOPLE are the users and groups.
 CHANGELOG.md has a section of the version that the program prints. docs/TRUST.md has a link to each library.
 The tables of docs/AUDIT.md are what scripts/audit prints. The table of the crates in docs/ARCHITECTURE.md and the page
 crates/README.md are what scripts/crates prints. exported.py looks for devices of proofs in what is exported.
+parameter_pages.py compares the table of Defaults parameters with the files that scripts/parameters makes of it, and with docs/checks.md.
 """
 
 import functools
@@ -39,6 +40,7 @@ from dataclasses import dataclass, field
 import converting
 import exported
 import named_cases
+import parameter_pages
 import written_instead
 from program import Wanted, run
 from tally import difference
@@ -413,6 +415,7 @@ def run_all(program, tally):
     run_changelog(program, tally)
     run_audit(tally)
     exported.run_all(tally)
+    parameter_pages.run_all(tally)
     if not visudo():
         tally.skip("documents, what sudo answers", f"visudo of sudo {SUDO.decode()} is not installed")
     for name in names():

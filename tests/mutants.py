@@ -136,7 +136,6 @@ NOTED_ALONE = (
     has(CHECKS, "a folder with `!`, `(` or `)`", r"C(?:WD|HROOT)\s*=.*[!()]"),
     has(CHECKS, "`!` directly behind Defaults or its scope, with a blank behind it", r"!\s"),
     has(CHECKS, "a backslash and CR LF directly behind a keyword with blanks before it", r"^[ \t]+@?\w+\\\r\n"),
-    has(CHECKS, "a time with a backslash as the value of `TIMEOUT`", r"TIMEOUT\s*=\s*\S*\\"),
     has(CHECKS, "a continuation alone behind `!` in a scope", r"!(?:\\\r?\n)"),
 )
 

@@ -157,6 +157,8 @@ OPTIONS = (
     Row("a folder with > that is no path", "bob ALL = CWD=~/a>b ALL\n", (form("1:15", FOLDER),)),
     Row("a folder that is an address", "bob ALL = CWD=10.0.0.1 ALL\n", (form("1:15", FOLDER),)),
     Row("times", 'bob ALL = TIMEOUT=90 ALL, TIMEOUT="1h 30m" ALL, TIMEOUT=1d ALL\n'),
+    Row("times with backslashes", "bob ALL = TIMEOUT=1h\\ 30m ALL, TIMEOUT=1\\h ALL, TIMEOUT=\\x31h ALL, TIMEOUT=\\ 1h\\ +3m ALL\n"),
+    Row("times with backslashes that are none", 'bob ALL = TIMEOUT=1h\\ x ALL, TIMEOUT="1\\h" ALL, TIMEOUT="\\x31h" ALL\n', tuple(form(f"1:{at}", f"takes {TIME}") for at in (19, 38, 57))),
     Row("times that are none", 'bob ALL = TIMEOUT=abc ALL, TIMEOUT="1m1h" ALL, TIMEOUT=+5 ALL\n', (form("1:19", f"takes {TIME}"), form("1:36", f"takes {TIME}"), form("1:56", NO_NAME))),
     Row("values that are no names", 'bob ALL = ROLE=X TYPE=%a ALL, ROLE=1.1.1.1 TYPE="" ALL, ROLE=sha224 TYPE="+a" ALL\n', tuple(form(f"1:{at}", NO_NAME) for at in (16, 23, 36, 49, 62, 74))),
     Row("values that are names", 'bob ALL = ROLE=x TYPE="X" ALL, ROLE=\\%x TYPE="10.0.0.1" ALL\n'),

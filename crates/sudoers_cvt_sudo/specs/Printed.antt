@@ -1,5 +1,5 @@
--- The text of rules, spelled for sudo: in arguments sudo takes a quote as it stands, and refuses one with a backslash.
-use Rattle.std.specs.Prelude.{ℕ, Bool, false, if◌then◌else◌, List, map, Option, Some, None, Result, Ok, Err}
+-- The text of rules, spelled for sudo, where another spelling says the same.
+use Rattle.std.specs.Prelude.{ℕ, Bool, true, false, ◌&&◌, if◌then◌else◌, List, [], ◌∷◌, map, Option, Some, None, Result, Ok, Err}
 use Rattle.std.specs.Str.{bytes_eq}
 use Rattle.sudoers_text.specs.declared.fault.TextFault.{TextFault}
 use Rattle.sudoers_text.specs.Line.{join}
@@ -7,7 +7,10 @@ use Rattle.sudoers_text.specs.Cut.{cut_outcome_of_text}
 use Rattle.sudoers_tree.specs.declared.load_fault.LoadFault.{LoadFault}
 use Rattle.sudoers_tree.specs.Load.{LoadedPolicy, policy_or_load_fault, single_file_named_policy}
 use Rattle.sudoers_cvt_rules.specs.Rules.{Rules, rules_of_policy_lines, is_printed_within_limits, printed_rules}
+use Rattle.sudoers_forms.specs.declared.refused_form.RefusedForm.{RefusedForm}
 use Rattle.sudoers_cvt_sudo.specs.Quotes.{line_with_bare_quotes}
+use Rattle.sudoers_cvt_sudo.specs.Names.{line_with_spelled_names, refused_forms_of_text}
+use Rattle.sudoers_cvt_sudo.specs.declared.name_spelling.NameSpelling.TheVariants as spelling
 
 -- ---- what says the same
 
@@ -33,9 +36,30 @@ is_text_of_rules_of text other = is_same_text text (printed_rules_of_text other)
 
 -- ---- what is chosen
 
--- A line that is printed of some rule: without backslashes before quotes, if it says the same then.
+abbrev pub are_no_forms : List RefusedForm → Bool
+are_no_forms [] = true
+are_no_forms (r ∷ rs) = false
+
+-- No form of the text is refused by sudo.
+abbrev pub is_read_by_sudo : List ℕ → Bool
+is_read_by_sudo text = are_no_forms (refused_forms_of_text text)
+
+-- sudo reads the spelling, and its rules are printed as the line.
+abbrev pub is_spelling_for_sudo : List ℕ → List ℕ → Bool
+is_spelling_for_sudo line spelled = is_read_by_sudo spelled && is_text_of_rules_of line spelled
+
+-- the first of these spellings that sudo reads, or the line
+abbrev pub first_spelling_for_sudo : List ℕ → List (List ℕ) → List ℕ
+first_spelling_for_sudo line [] = line
+first_spelling_for_sudo line (s ∷ ss) = if is_spelling_for_sudo line s then s else first_spelling_for_sudo line ss
+
+-- Without backslashes before quotes in arguments, then with names in quotes, then with backslashes in names.
+abbrev pub spellings_of_line : List ℕ → List (List ℕ)
+spellings_of_line bare = bare ∷ line_with_spelled_names spelling.Quoted bare ∷ line_with_spelled_names spelling.Escaped bare ∷ []
+
+-- A line that is printed of some rule: as it is, if sudo reads it; else the first of its spellings that sudo reads.
 abbrev pub line_for_sudo : List ℕ → List ℕ
-line_for_sudo line = if is_text_of_rules_of line (line_with_bare_quotes line) then line_with_bare_quotes line else line
+line_for_sudo line = if is_read_by_sudo line then line else first_spelling_for_sudo line (spellings_of_line (line_with_bare_quotes line))
 
 abbrev pub join_of_lines_for_sudo : List ℕ → Result (List (List ℕ)) TextFault → List ℕ
 join_of_lines_for_sudo text (Ok lines) = join (map line_for_sudo lines)

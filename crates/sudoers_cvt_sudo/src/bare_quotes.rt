@@ -1,11 +1,12 @@
 //! A line without a backslash before the quotes of its arguments.
 
-ghost use Rattle.std.specs.Prelude.{◌≡◌, ◌≤◌, ◌&&◌, ◌==◌, ◌++◌, not, false, length, slice_range, All, IfOk, OnOk};
+ghost use Rattle.std.specs.Prelude.{◌≡◌, ◌&&◌, ◌==◌, ◌++◌, not, false, length, All, IfOk, OnOk};
 ghost use Rattle.sudoers_text.specs.Token.{IsTokenWithinLine};
 ghost use Rattle.sudoers_grammar.specs.Piece.{tokens_with_bytes};
 ghost use Rattle.sudoers_cvt_sudo.specs.Quotes.{backslash_if, bare_bytes, line_with_bare_quotes, rest_with_bare_quotes, text_with_bare_quotes, token_text_with_bare_quotes};
 
 use std::alloc::{AllocError, Global};
+use sudoers_defaults::take_bytes_between;
 use sudoers_grammar::add_text_to_token;
 use sudoers_text::{Token, TokenKind, choose_line_mode, tokens};
 
@@ -44,18 +45,6 @@ fn join_tokens_with_bare_quotes(
     Ok(bare)
 }
 
-/// Returns the bytes of `line` from `start` up to `stop`; none if it ends before it begins.
-fn take_bytes_between(line: &[u8], start: usize, stop: usize) -> &[u8]
-    requires { stop ≤ length line.now }
-    ensures { result.now ≡ slice_range line.now start stop }
-{
-    if start < stop {
-        &line[start..stop]
-    } else {
-        &[]
-    }
-}
-
 /// Appends the text of a token, without a backslash before its quotes if it is an argument.
 fn append_token_with_bare_quotes(
     kind: TokenKind,
@@ -83,7 +72,7 @@ fn append_text_with_bare_quotes(text: &[u8], out: &mut Vec<u8>) -> Result<(), Al
 }
 
 /// Returns whether `byte` is a backslash that begins a pair.
-fn begins_pair(is_escaped: bool, byte: u8) -> bool
+pub fn begins_pair(is_escaped: bool, byte: u8) -> bool
     ensures { result ≡ (not is_escaped && byte == 92) }
 {
     !is_escaped && byte == b'\\'
@@ -103,7 +92,7 @@ fn append_bare_bytes(is_escaped: bool, byte: u8, out: &mut Vec<u8>) -> Result<()
 }
 
 /// Appends a backslash if `is_escaped`.
-fn append_backslash_if(is_escaped: bool, out: &mut Vec<u8>) -> Result<(), AllocError>
+pub fn append_backslash_if(is_escaped: bool, out: &mut Vec<u8>) -> Result<(), AllocError>
     ensures { OnOk result (out.new.items ≡ out.old.items ++ backslash_if is_escaped) }
 {
     if is_escaped {

@@ -2,6 +2,8 @@
 #![tactic(auto)]
 
 mod bare_quotes;
+mod name_spelling;
+mod names;
 mod spelling;
 
 pub use spelling::spell_for_sudo;

@@ -4,16 +4,19 @@ ghost use Rattle.std.specs.Prelude.{◌≡◌, ◌++◌, map, IfOk, OnOk};
 ghost use Rattle.std.specs.Option.{option_map};
 ghost use Rattle.sudoers_text.specs.Line.{join};
 ghost use Rattle.sudoers_cvt_rules.specs.Rules.{rules_of_policy_lines};
-ghost use Rattle.sudoers_cvt_sudo.specs.Printed.{is_text_of_rules_of, line_for_sudo, lines_for_sudo, printed_rules_of_text, printed_rules_within_limits, text_for_sudo};
+ghost use Rattle.sudoers_cvt_sudo.specs.Printed.{are_no_forms, first_spelling_for_sudo, is_read_by_sudo, is_spelling_for_sudo, is_text_of_rules_of, line_for_sudo, lines_for_sudo, printed_rules_of_text, printed_rules_within_limits, spellings_of_line, text_for_sudo};
 
 use crate::bare_quotes::strip_backslashes_before_quotes;
+use crate::name_spelling::NameSpelling;
+use crate::names::{list_refused_forms_of_text, spell_names};
 use std::alloc::{AllocError, Global};
 use sudoers_cvt_rules::{CvtFault, Rules, print};
+use sudoers_forms::RefusedForm;
 use sudoers_text::{Lines, TextFault, cut};
 use sudoers_tree::{LoadFault, Policy};
 
-/// Returns `text`, which is printed of rules, spelled for sudo: each line without backslashes before the quotes of its arguments, where it
-/// says the same so. sudo takes such a quote as it stands, and refuses one with a backslash.
+/// Returns `text`, which is printed of rules, spelled for sudo: each line that sudo refuses in a spelling that it reads, if the line says the
+/// same so.
 ///
 /// # Errors
 ///
@@ -62,15 +65,66 @@ fn append_line_for_sudo(alloc: Global, line: &[u8], out: &mut Vec<u8>) -> Result
     out.extend_from_slice(spelled.as_slice())
 }
 
-/// Returns `line` without backslashes before the quotes of its arguments, if it says the same so, and else `line`.
+/// Returns `line`, if sudo reads it, and else the first of its spellings that sudo reads and that says the same. Without one it returns `line`.
 fn spell_line_for_sudo(alloc: Global, line: &[u8]) -> Result<Vec<u8>, AllocError>
     ensures { IfOk result (λ spelled. spelled.items ≡ line_for_sudo line.now) }
 {
+    if is_read_by_sudo(alloc, line)? {
+        return Vec::from_slice(alloc, line);
+    }
     let bare = strip_backslashes_before_quotes(alloc, line)?;
-    if bare.as_slice() == line || is_text_of_rules_of(alloc, line, bare.as_slice())? {
+    choose_spelling_for_sudo(alloc, line, bare)
+}
+
+/// Returns the first spelling of `line` that sudo reads and that says the same, or `line`: `bare`, or `bare` with other names.
+fn choose_spelling_for_sudo(
+    alloc: Global,
+    line: &[u8],
+    bare: Vec<u8>,
+) -> Result<Vec<u8>, AllocError>
+    ensures { IfOk result (λ spelled. spelled.items ≡ first_spelling_for_sudo line.now (spellings_of_line bare.items)) }
+{
+    if is_spelling_for_sudo(alloc, line, bare.as_slice())? {
         return Ok(bare);
     }
+    let quoted = spell_names(alloc, NameSpelling::Quoted, bare.as_slice())?;
+    if is_spelling_for_sudo(alloc, line, quoted.as_slice())? {
+        return Ok(quoted);
+    }
+    let escaped = spell_names(alloc, NameSpelling::Escaped, bare.as_slice())?;
+    if is_spelling_for_sudo(alloc, line, escaped.as_slice())? {
+        return Ok(escaped);
+    }
     Vec::from_slice(alloc, line)
+}
+
+/// Returns whether sudo reads `spelled`, and its rules are printed as `line`.
+fn is_spelling_for_sudo(alloc: Global, line: &[u8], spelled: &[u8]) -> Result<bool, AllocError>
+    ensures { IfOk result (λ is_chosen. is_chosen ≡ is_spelling_for_sudo line.now spelled.now) }
+{
+    if is_read_by_sudo(alloc, spelled)? {
+        is_text_of_rules_of(alloc, line, spelled)
+    } else {
+        Ok(false)
+    }
+}
+
+/// Returns whether no form of `text` is refused by sudo.
+fn is_read_by_sudo(alloc: Global, text: &[u8]) -> Result<bool, AllocError>
+    ensures { IfOk result (λ is_read. is_read ≡ is_read_by_sudo text.now) }
+{
+    let refused = list_refused_forms_of_text(alloc, text)?;
+    Ok(has_no_forms(refused.as_slice()))
+}
+
+/// Returns whether `refused` has no forms.
+fn has_no_forms(refused: &[RefusedForm]) -> bool
+    ensures { result ≡ are_no_forms refused.now }
+{
+    match refused {
+        [] => true,
+        _ => false,
+    }
 }
 
 /// Returns whether the rules of `other` are printed as `text`.

@@ -1,4 +1,6 @@
 //! The parameters of sudo 1.9.13.
+//!
+//! `scripts/parameters --write` makes this file of parameters.csv.
 
 use crate::parameter_group::{ParameterGroup, ParameterType, UseWithoutValue, WordSet};
 

@@ -1,4 +1,6 @@
 //! The parameters of sudo-rs 0.2.5.
+//!
+//! `scripts/parameters --write` makes this file of parameters.csv.
 
 use crate::parameter_group::{ParameterGroup, ParameterType, UseWithoutValue, WordSet};
 

@@ -7,11 +7,12 @@ use Rattle.sudoers_text.specs.declared.token.TokenKind.TheVariants as kind
 use Rattle.sudoers_text.specs.Found.{tokens_of_line}
 use Rattle.sudoers_text.specs.LineMode.{line_mode}
 use Rattle.sudoers_text.specs.Unit.{is_empty, is_blank, begins_line_end}
-use Rattle.sudoers_text.specs.Value.{leading_blanks_size}
+use Rattle.sudoers_text.specs.Value.{leading_blanks_size, value_of_word}
 use Rattle.sudoers_grammar.specs.Node.{Node}
 use Rattle.sudoers_grammar.specs.Node as node
 use Rattle.sudoers_grammar.specs.Piece.{TokenWithBytes, tokens_with_bytes, has_first_byte, has_last_byte, has_byte, is_word, is_comment}
 use Rattle.sudoers_tree.specs.Line.{Line}
+use Rattle.sudoers_defaults.specs.Values.{is_time}
 use Rattle.sudoers_forms.specs.Spelling.{size_as_path, size_as_word, spelled_size, is_numbered, is_broken_comment, is_digest_of_kind}
 use Rattle.sudoers_forms.specs.Names.{form_if, form_or, form_of_name, form_of_folder, form_of_plain_value, is_folder_option, is_scope_of_names, path_size_limit}
 use Rattle.sudoers_forms.specs.Words.{is_first_word, begins_with_first_word, is_at_include, is_hash_include, is_comment_of_include, is_tag_word, is_unknown_option}
@@ -305,9 +306,15 @@ form_of_token line p second_before before_kind before stop t is_last =
     form_or (form_of_gap p second_before before_kind before (slice_range line stop t.start) t.kind t.text)
     (form_of_text p second_before before (slice_range line stop t.start) (drop t.start line) is_last (is_last && ends_in_return line) t.kind t.text)
 
+-- A word that is a time without its backslashes, as sudo reads it.
+abbrev pub is_time_with_backslashes : Form → TokenWithBytes → Bool
+is_time_with_backslashes form.TimeValue t = is_word t.kind && is_time (value_of_word t.text)
+is_time_with_backslashes f t = false
+
 abbrev pub refused_if : ℕ → TokenWithBytes → Option Form → List RefusedForm
 refused_if number t None = []
-refused_if number t (Some f) = record { at = record { line = number; start = t.start; stop = t.stop }; form = f } ∷ []
+refused_if number t (Some f) =
+    if is_time_with_backslashes f t then [] else record { at = record { line = number; start = t.start; stop = t.stop }; form = f } ∷ []
 
 -- What follows is in a comment for sudo, or in the name of an included file.
 abbrev pub is_begin_of_comment : Option Form → Bool

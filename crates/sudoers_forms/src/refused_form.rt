@@ -6,16 +6,16 @@ ghost use Rattle.sudoers_grammar.specs.Piece.{tokens_with_bytes};
 ghost use Rattle.sudoers_grammar.specs.Seen.{model_of_token_part};
 ghost use Rattle.sudoers_line_rows.specs.View.{node_of_view};
 ghost use Rattle.sudoers_forms.specs.Parts.{part_after_token, part_of_token};
-ghost use Rattle.sudoers_forms.specs.Forms.{ends_in_return, form_of_token, forms_of_line, forms_of_lines, forms_of_node, forms_of_tokens, is_begin_of_comment, refused_if};
+ghost use Rattle.sudoers_forms.specs.Forms.{ends_in_return, form_of_token, forms_of_line, forms_of_lines, forms_of_node, forms_of_tokens, is_begin_of_comment, is_time_with_backslashes, refused_if};
 
 use crate::form::Form;
 use crate::line_part::{LinePart, find_first_part};
 use crate::token_form::TokenInLine;
 use std::alloc::{AllocError, Global};
-use sudoers_defaults::take_bytes_between;
+use sudoers_defaults::{is_time, take_bytes_between};
 use sudoers_grammar::{TokenWithText, add_text_to_token};
 use sudoers_line_rows::Node;
-use sudoers_text::{Token, TokenKind, choose_line_mode, tokens};
+use sudoers_text::{Token, TokenKind, choose_line_mode, tokens, value};
 use sudoers_tree::{Line, Policy, Span};
 
 /// A form that sudo refuses.
@@ -72,11 +72,12 @@ fn append_forms_of_line(
     let Ok(tokens) = tokens(alloc, text, choose_line_mode(text)) else {
         return Err(AllocError);
     };
-    append_forms_of_tokens(number, part, text, tokens.as_slice(), refused)
+    append_forms_of_tokens(alloc, number, part, text, tokens.as_slice(), refused)
 }
 
 /// Appends the refused forms of the tokens `tokens` of the line `text` with the number `number`, which begins with this part.
 fn append_forms_of_tokens(
+    alloc: Global,
     number: usize,
     part: LinePart,
     text: &[u8],
@@ -91,7 +92,7 @@ fn append_forms_of_tokens(
     for (at, token) in tokens.iter().enumerate() {
         let here = add_text_to_token(text, token);
         let form = place.find_form_of_token(text, &here, tokens[at + 1..].is_empty());
-        append_form(number, &here, form, refused)?;
+        append_form(alloc, number, &here, form, refused)?;
         if is_begin_of_comment(form) {
             return Ok(());
         }
@@ -206,8 +207,24 @@ impl<'a> PlaceInLine<'a> {
     }
 }
 
+/// Returns whether `token`, which is refused for the form `form`, is a word that is a time without its backslashes.
+fn is_time_with_backslashes(
+    alloc: Global,
+    form: Form,
+    token: &TokenWithText<'_>,
+) -> Result<bool, AllocError>
+    ensures { IfOk result (λ is_read. is_read ≡ is_time_with_backslashes form (model_of_token_part token.now)) }
+{
+    if form != Form::TimeValue || token.kind != TokenKind::Word {
+        return Ok(false);
+    }
+    let time = value(alloc, token.text)?;
+    Ok(is_time(time.as_slice()))
+}
+
 /// Appends the form `form` of the token `token` of the line with the number `number`, if it is refused.
 fn append_form(
+    alloc: Global,
     number: usize,
     token: &TokenWithText<'_>,
     form: Option<Form>,
@@ -218,6 +235,9 @@ fn append_form(
     let Some(form) = form else {
         return Ok(());
     };
+    if is_time_with_backslashes(alloc, form, token)? {
+        return Ok(());
+    }
     let at = Span {
         line: number,
         start: token.start,

@@ -74,7 +74,7 @@ fn make_reader_option<'a>(alloc: Global) -> Arg<'a> {
         .value_parser(READERS.as_slice())
         .hide_possible_values(true)
         .help(
-            "With -f sudoers, spell the output for this program: sudo, which reads a quote in arguments without a backslash alone",
+            "With -f sudoers, spell the output for this program, where another spelling says the same: sudo",
         )
 }
 
