@@ -1,13 +1,18 @@
-//! Forms of lines that sudo refuses, and this toolkit reads.
+//! Forms of lines that sudo refuses or answers otherwise, and this toolkit reads.
 #![tactic(auto)]
 
 mod address;
+mod answer_cause;
+mod cause;
 mod digest_size;
 mod form;
+mod host_cause;
 mod include_form;
+mod judged_token;
 mod line_part;
 mod member_form;
 mod names;
+mod other_answer;
 mod refused_form;
 mod row_form;
 mod spelling;
@@ -15,5 +20,7 @@ mod text_form;
 mod token_form;
 mod words;
 
+pub use cause::{Cause, words_of_cause};
 pub use form::{Form, words_of_form};
+pub use other_answer::{OtherAnswer, list_other_answers};
 pub use refused_form::{RefusedForm, list_refused_forms};

@@ -98,7 +98,10 @@ impl LinePart {
     pub fn is_scope_of_names(self) -> bool
         ensures { result ≡ is_scope_of_names self }
     {
-        matches!(self, LinePart::UserScope | LinePart::HostScope)
+        matches!(
+            self,
+            LinePart::UserScope | LinePart::RunasScope | LinePart::HostScope
+        )
     }
 
     /// Returns whether the word `text` is an option for sudo in this part.
