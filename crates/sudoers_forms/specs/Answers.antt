@@ -5,7 +5,7 @@ use Rattle.std.specs.Str.{bytes_eq}
 use Rattle.sudoers_text.specs.declared.token.TokenKind.{TokenKind}
 use Rattle.sudoers_text.specs.declared.token.TokenKind.TheVariants as kind
 use Rattle.sudoers_text.specs.Word.{is_name}
-use Rattle.sudoers_grammar.specs.Piece.{has_first_byte, has_byte, is_arg}
+use Rattle.sudoers_grammar.specs.Piece.{has_first_byte, has_byte, is_arg, is_quoted}
 use Rattle.sudoers_tree.specs.Line.{Line}
 use Rattle.sudoers_tree.specs.declared.place.Span.{Span}
 use Rattle.sudoers_forms.specs.Addresses.{is_address}
@@ -72,7 +72,8 @@ cause_of_host text =
     if is_address text && ends_with nat_eq text (codes "/0") then Some cause.NoMaskBits
     else (if is_address text && starts_with nat_eq text (codes "127.") then Some cause.Loopback
     else (if has_escape_of special_bytes_of_hosts false text then Some cause.EscapedWildcard
-    else cause_if (has_set_of_others false text) cause.SetInHost))
+    else (if has_hex_escape false text then Some cause.HostEscape
+    else cause_if (has_set_of_others false text) cause.SetInHost)))
 
 abbrev pub has_wildcard : List ℕ → Bool
 has_wildcard text = has_byte 42 text || has_byte 63 text || has_byte 91 text
@@ -95,8 +96,8 @@ cause_or None other = other
 cause_or (Some c) other = Some c
 
 abbrev pub cause_of_name : LinePart → TokenKind → List ℕ → Option Cause
-cause_of_name p kind.Quoted text = cause_or (cause_of_sign p (content_of_token kind.Quoted text)) (cause_of_quoted_name p text)
-cause_of_name p k text = cause_or (cause_of_sign p text) (cause_of_bare_name p text)
+cause_of_name p k text =
+    cause_or (cause_of_sign p (content_of_token k text)) (if is_quoted k then cause_of_quoted_name p text else cause_of_bare_name p text)
 
 -- ---- Runas_Spec
 

@@ -108,12 +108,13 @@ impl LinePart {
     fn find_cause_of_name(self, kind: TokenKind, text: &[u8]) -> Option<Cause>
         ensures { result ≡ cause_of_name self kind text.now }
     {
-        if kind == TokenKind::Quoted {
-            let content = content_of_token(kind, text);
-            choose_first_cause(self.find_cause_of_sign(content), self.find_cause_of_quoted_name(text))
+        let sign = self.find_cause_of_sign(content_of_token(kind, text));
+        let other = if kind == TokenKind::Quoted {
+            self.find_cause_of_quoted_name(text)
         } else {
-            choose_first_cause(self.find_cause_of_sign(text), self.find_cause_of_bare_name(text))
-        }
+            self.find_cause_of_bare_name(text)
+        };
+        choose_first_cause(sign, other)
     }
 
     /// Returns why sudo matches otherwise by the groups of a Runas_Spec whose `:` stands in this part behind `before`.

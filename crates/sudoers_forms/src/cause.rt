@@ -21,6 +21,8 @@ pub enum Cause {
     QuotedWildcard,
     /// An escaped wildcard or backslash in a host.
     EscapedWildcard,
+    /// `\x` in a host without quotes.
+    HostEscape,
     /// A set `[^x]` in a host.
     SetInHost,
     /// A set `[^x]` in arguments.
@@ -58,12 +60,11 @@ pub enum Cause {
 /// Returns what sudo does for the cause `cause`, and what to write.
 pub fn words_of_cause(cause: Cause) -> &'static str {
     match cause {
-        Cause::AliasBesideGroup =>
-            "with -g no alias before the : matches; write its members",
-        Cause::UserBesideGroup => "with -g alone the command runs as the user himself",
-        Cause::GroupAlone => "without -g nothing matches; write (USER : GROUP)",
-        Cause::GroupAlias => "an alias of groups matches nothing; write its members",
-        Cause::EmptyRunas => "without -u the command runs as the user himself",
+        Cause::AliasBesideGroup => "with -g no alias before : matches; write its members",
+        Cause::UserBesideGroup => "with -g alone a user may run it as himself",
+        Cause::GroupAlone => "without -g the user may not run it as himself",
+        Cause::GroupAlias => "no alias behind : matches; write its members",
+        Cause::EmptyRunas => "without -u the user runs it as himself",
         Cause::Digest => "a digest is compared with the file, and matches nothing here",
         Cause::Netgroup => "a netgroup has members, and matches nothing here",
         Cause::NonUnixGroup => "a group of a plugin has members, and matches nothing here",
@@ -78,7 +79,8 @@ fn words_of_spelling(cause: Cause) -> &'static str {
         Cause::Loopback => "an address of the loopback matches no host; write the name of the host",
         Cause::QuotedWildcard => "a wildcard in quotes is one; write it without quotes",
         Cause::EscapedWildcard => "an escaped wildcard of a host is one; write it without a backslash",
-        Cause::SetInHost => "[^ begins a set of other bytes; list the hosts",
+        Cause::HostEscape => "\\x in a host is an escape; write the byte",
+        Cause::SetInHost => "[^ begins a set of other bytes; write [\\!",
         Cause::SetInArgument => "[^ begins a set of other bytes; write [!",
         Cause::TwoBackslashes => "two backslashes escape the byte behind them; write ? for a backslash",
         Cause::EmptyArgument => "one empty argument does not match",

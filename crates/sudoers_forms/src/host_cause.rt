@@ -5,6 +5,7 @@ ghost use Rattle.sudoers_forms.specs.Answers.{cause_of_host, has_escape_of, has_
 
 use crate::address::is_address;
 use crate::cause::Cause;
+use crate::include_form::has_hex_escape;
 use crate::spelling::has_byte;
 use sudoers_grammar::begins_with_byte;
 
@@ -58,6 +59,8 @@ pub fn find_cause_of_host(text: &[u8]) -> Option<Cause>
         Some(Cause::Loopback)
     } else if has_escape_of(SPECIAL_BYTES, text) {
         Some(Cause::EscapedWildcard)
+    } else if has_hex_escape(text) {
+        Some(Cause::HostEscape)
     } else if has_set_of_others(text) {
         Some(Cause::SetInHost)
     } else {

@@ -16,11 +16,13 @@ mod other_answer;
 mod refused_form;
 mod row_form;
 mod spelling;
+mod sudo_forms;
 mod text_form;
 mod token_form;
 mod words;
 
 pub use cause::{Cause, words_of_cause};
 pub use form::{Form, words_of_form};
-pub use other_answer::{OtherAnswer, list_other_answers};
-pub use refused_form::{RefusedForm, list_refused_forms};
+pub use other_answer::OtherAnswer;
+pub use refused_form::RefusedForm;
+pub use sudo_forms::{SudoForms, list_forms_for_sudo, list_refused_forms};

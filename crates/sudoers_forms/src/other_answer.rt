@@ -1,14 +1,14 @@
-//! The forms for which sudo answers a request otherwise, and where they stand.
+//! The forms of a line for which sudo answers a request otherwise, and where they stand.
 
-ghost use Rattle.std.specs.Prelude.{◌≡◌, ◌++◌, map, IfOk, OnOk};
+ghost use Rattle.std.specs.Prelude.{◌≡◌, ◌++◌, map, OnOk};
 ghost use Rattle.sudoers_forms.specs.Seen.{model_of_judged_token};
 ghost use Rattle.sudoers_forms.specs.Forms.{list_by_table};
-ghost use Rattle.sudoers_forms.specs.Answers.{answer_of_cause, answer_of_token, other_answers_of_lines};
+ghost use Rattle.sudoers_forms.specs.Answers.{answer_of_cause, answer_of_token};
 
 use crate::cause::Cause;
-use crate::judged_token::{JudgedToken, list_tokens_of_line};
-use std::alloc::{AllocError, Global};
-use sudoers_tree::{Line, Policy, Span};
+use crate::judged_token::JudgedToken;
+use std::alloc::AllocError;
+use sudoers_tree::Span;
 
 /// A form for which sudo answers a request otherwise.
 #[derive(Clone, Copy)]
@@ -18,26 +18,8 @@ pub struct OtherAnswer {
     pub cause: Cause,
 }
 
-/// Returns the forms in the lines of `policy` for which sudo answers a request otherwise, in the order of the lines.
-///
-/// # Errors
-///
-/// Memory ran out.
-pub fn list_other_answers(alloc: Global, policy: &Policy) -> Result<Vec<OtherAnswer>, AllocError>
-    ensures { IfOk result (λ answers. answers.items ≡ other_answers_of_lines 0 policy.now.walk.lines) }
-{
-    let mut answers = Vec::new(alloc);
-    let lines = policy.lines();
-    for (number, row) in lines.rows.iter().enumerate() {
-        let line = Line::from_line_row(lines.tables, row);
-        let tokens = list_tokens_of_line(alloc, line.text, &line.node)?;
-        append_answers_of_tokens(number, tokens.as_slice(), &mut answers)?;
-    }
-    Ok(answers)
-}
-
 /// Appends the forms of the tokens `tokens` of the line with the number `number`.
-fn append_answers_of_tokens(
+pub fn append_answers_of_tokens(
     number: usize,
     tokens: &[JudgedToken<'_>],
     answers: &mut Vec<OtherAnswer>,

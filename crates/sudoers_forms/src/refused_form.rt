@@ -1,13 +1,13 @@
-//! The forms of a policy that sudo refuses, and where they stand.
+//! The forms of a line that sudo refuses, and where they stand.
 
-ghost use Rattle.std.specs.Prelude.{◌≡◌, ◌++◌, map, IfOk, OnOk};
+ghost use Rattle.std.specs.Prelude.{◌≡◌, ◌++◌, map, OnOk};
 ghost use Rattle.sudoers_forms.specs.Seen.{model_of_judged_token};
-ghost use Rattle.sudoers_forms.specs.Forms.{forms_of_lines, list_by_table, refused_of_form, refused_of_token};
+ghost use Rattle.sudoers_forms.specs.Forms.{list_by_table, refused_of_form, refused_of_token};
 
 use crate::form::Form;
-use crate::judged_token::{JudgedToken, list_tokens_of_line};
-use std::alloc::{AllocError, Global};
-use sudoers_tree::{Line, Policy, Span};
+use crate::judged_token::JudgedToken;
+use std::alloc::AllocError;
+use sudoers_tree::Span;
 
 /// A form that sudo refuses.
 #[derive(Clone, Copy)]
@@ -17,26 +17,8 @@ pub struct RefusedForm {
     pub form: Form,
 }
 
-/// Returns the forms in the lines of `policy` that sudo refuses or reads otherwise, in the order of the lines.
-///
-/// # Errors
-///
-/// Memory ran out.
-pub fn list_refused_forms(alloc: Global, policy: &Policy) -> Result<Vec<RefusedForm>, AllocError>
-    ensures { IfOk result (λ refused. refused.items ≡ forms_of_lines 0 policy.now.walk.lines) }
-{
-    let mut refused = Vec::new(alloc);
-    let lines = policy.lines();
-    for (number, row) in lines.rows.iter().enumerate() {
-        let line = Line::from_line_row(lines.tables, row);
-        let tokens = list_tokens_of_line(alloc, line.text, &line.node)?;
-        append_forms_of_tokens(number, tokens.as_slice(), &mut refused)?;
-    }
-    Ok(refused)
-}
-
 /// Appends the refused forms of the tokens `tokens` of the line with the number `number`.
-fn append_forms_of_tokens(
+pub fn append_forms_of_tokens(
     number: usize,
     tokens: &[JudgedToken<'_>],
     refused: &mut Vec<RefusedForm>,
