@@ -27,6 +27,7 @@ from preload import with_library
 from program import SECONDS, Wanted, fault
 from stand import EMPTY_FOLDER, Closed, Folder, Stand
 from tally import difference
+from target_answers import OTHER_ANSWERS, run_page_of_answers
 from target_rows import ARGUMENT_ESCAPE, FORMS, LOCALE, NUMBERED, PATH_ESCAPE, REPORT, SLASHES, TIME, Row, form, refused
 
 PART = "targets"
@@ -293,7 +294,7 @@ SPELLED_VALUES = (
     row("a bad value before a NUL", "Defaults passwd_tries=x\\x003\n", ("1:23", "passwd_tries", f"takes {UNSIGNED}")),
 )
 
-ROWS = VALUES + FAULTS + PLACES + IGNORED + SPELLED_VALUES + FORMS
+ROWS = VALUES + FAULTS + PLACES + IGNORED + SPELLED_VALUES + FORMS + OTHER_ANSWERS
 
 
 
@@ -322,8 +323,8 @@ def run_rows(stand):
 
 
 def run_rows_by_visudo(stand):
-    """Has visudo refuse just the policies of rows with a note that says so. Rows that are not decided are left out."""
-    for one in (one for one in ROWS if one.is_refused() or not one.notes):
+    """Has visudo refuse just the policies of rows with a note that says so. Rows that are not decided, or read otherwise, are left out."""
+    for one in (one for one in ROWS if one.is_refused() or one.is_read()):
         with Folder(one.tree()) as folder:
             done = run_visudo(folder, "main")
         wanted = 1 if one.is_refused() else 0
@@ -737,6 +738,7 @@ def run_all(program, tally):
     stand = Stand(PART, program, tally)
     run_rows(stand)
     run_page(stand)
+    run_page_of_answers(stand, PART)
     run_words(stand)
     if visudo():
         run_rows_by_visudo(stand)

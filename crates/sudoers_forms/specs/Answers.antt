@@ -95,9 +95,11 @@ abbrev pub cause_or : Option Cause → Option Cause → Option Cause
 cause_or None other = other
 cause_or (Some c) other = Some c
 
+abbrev pub cause_of_plain_name : LinePart → TokenKind → List ℕ → Option Cause
+cause_of_plain_name p k text = if is_quoted k then cause_of_quoted_name p text else cause_of_bare_name p text
+
 abbrev pub cause_of_name : LinePart → TokenKind → List ℕ → Option Cause
-cause_of_name p k text =
-    cause_or (cause_of_sign p (content_of_token k text)) (if is_quoted k then cause_of_quoted_name p text else cause_of_bare_name p text)
+cause_of_name p k text = cause_or (cause_of_sign p (content_of_token k text)) (cause_of_plain_name p k text)
 
 -- ---- Runas_Spec
 

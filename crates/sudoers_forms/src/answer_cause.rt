@@ -2,7 +2,7 @@
 
 ghost use Rattle.std.specs.Prelude.{◌≡◌};
 ghost use Rattle.sudoers_forms.specs.Seen.{model_of_judged_token};
-ghost use Rattle.sudoers_forms.specs.Answers.{cause_of_argument, cause_of_bare_name, cause_of_group_colon, cause_of_mark, cause_of_name, cause_of_negated_parameter, cause_of_parameter, cause_of_quoted_name, cause_of_set_parameter, cause_of_sign, cause_of_token_kind, cause_or, has_hosts_of_rules, has_users_of_rules, is_end_of_arguments, is_name_behind, is_scope_of_targets_or_commands, is_sole_empty_argument};
+ghost use Rattle.sudoers_forms.specs.Answers.{cause_of_argument, cause_of_bare_name, cause_of_group_colon, cause_of_mark, cause_of_name, cause_of_negated_parameter, cause_of_parameter, cause_of_plain_name, cause_of_quoted_name, cause_of_set_parameter, cause_of_sign, cause_of_token_kind, cause_or, has_hosts_of_rules, has_users_of_rules, is_end_of_arguments, is_name_behind, is_scope_of_targets_or_commands, is_sole_empty_argument};
 
 use crate::cause::Cause;
 use crate::host_cause::{find_cause_of_host, has_escape_of, has_set_of_others, has_wildcard};
@@ -104,17 +104,25 @@ impl LinePart {
         }
     }
 
+    /// Returns why sudo matches otherwise by the name `text`, a token of this kind without a sign.
+    fn find_cause_of_plain_name(self, kind: TokenKind, text: &[u8]) -> Option<Cause>
+        ensures { result ≡ cause_of_plain_name self kind text.now }
+    {
+        if kind == TokenKind::Quoted {
+            self.find_cause_of_quoted_name(text)
+        } else {
+            self.find_cause_of_bare_name(text)
+        }
+    }
+
     /// Returns why sudo matches otherwise by the name `text`, a token of this kind.
     fn find_cause_of_name(self, kind: TokenKind, text: &[u8]) -> Option<Cause>
         ensures { result ≡ cause_of_name self kind text.now }
     {
-        let sign = self.find_cause_of_sign(content_of_token(kind, text));
-        let other = if kind == TokenKind::Quoted {
-            self.find_cause_of_quoted_name(text)
-        } else {
-            self.find_cause_of_bare_name(text)
-        };
-        choose_first_cause(sign, other)
+        choose_first_cause(
+            self.find_cause_of_sign(content_of_token(kind, text)),
+            self.find_cause_of_plain_name(kind, text),
+        )
     }
 
     /// Returns why sudo matches otherwise by the groups of a Runas_Spec whose `:` stands in this part behind `before`.

@@ -78,11 +78,13 @@ fn words_of_spelling(cause: Cause) -> &'static str {
         Cause::NoMaskBits => "a mask of 0 bits matches no host; write ALL",
         Cause::Loopback => "an address of the loopback matches no host; write the name of the host",
         Cause::QuotedWildcard => "a wildcard in quotes is one; write it without quotes",
-        Cause::EscapedWildcard => "an escaped wildcard of a host is one; write it without a backslash",
+        Cause::EscapedWildcard =>
+            "an escaped wildcard of a host is one; write it without a backslash",
         Cause::HostEscape => "\\x in a host is an escape; write the byte",
         Cause::SetInHost => "[^ begins a set of other bytes; write [\\!",
         Cause::SetInArgument => "[^ begins a set of other bytes; write [!",
-        Cause::TwoBackslashes => "two backslashes escape the byte behind them; write ? for a backslash",
+        Cause::TwoBackslashes =>
+            "two backslashes escape the byte behind them; write ? for a backslash",
         Cause::EmptyArgument => "one empty argument does not match",
         Cause::QuotedEscape => "\\x in quotes is no escape; write the byte",
         _ => words_of_parameter(cause),

@@ -150,18 +150,33 @@ impl LinePart {
     {
         match self {
             LinePart::Hosts if text == b"=".as_slice() => LinePart::Commands,
-            LinePart::RunasUsers =>
-                find_part_after_runas_token(LinePart::RunasAll, LinePart::RunasUsers, text),
-            LinePart::RunasAll =>
-                find_part_after_runas_token(LinePart::RunasAll, LinePart::RunasAll, text),
-            LinePart::RunasAliases =>
-                find_part_after_runas_token(LinePart::RunasAliases, LinePart::RunasAliases, text),
+            LinePart::RunasUsers => find_part_after_runas_token(
+                LinePart::RunasAll,
+                LinePart::RunasUsers,
+                text,
+            ),
+            LinePart::RunasAll => find_part_after_runas_token(
+                LinePart::RunasAll,
+                LinePart::RunasAll,
+                text,
+            ),
+            LinePart::RunasAliases => find_part_after_runas_token(
+                LinePart::RunasAliases,
+                LinePart::RunasAliases,
+                text,
+            ),
             LinePart::Groups if text == b")".as_slice() => LinePart::Commands,
             LinePart::Commands => find_part_after_command_token(kind, text),
             LinePart::OptionName => LinePart::OptionValue,
             LinePart::OptionValue | LinePart::TagOrDigestKind => LinePart::Commands,
-            LinePart::Parameters => find_part_after_parameter_token(LinePart::NegatedParameters, text),
-            LinePart::NegatedParameters => find_part_after_parameter_token(LinePart::Parameters, text),
+            LinePart::Parameters => find_part_after_parameter_token(
+                LinePart::NegatedParameters,
+                text,
+            ),
+            LinePart::NegatedParameters => find_part_after_parameter_token(
+                LinePart::Parameters,
+                text,
+            ),
             part => part,
         }
     }

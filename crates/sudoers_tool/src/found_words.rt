@@ -1,9 +1,7 @@
 //! The words of a policy that the program which reads it refuses, or for which it answers otherwise.
 
 use std::alloc::{AllocError, Global};
-use sudoers_defaults::{
-    ParameterFault, ParameterGroup, RefusedParameter, list_refused_parameters,
-};
+use sudoers_defaults::{ParameterFault, ParameterGroup, RefusedParameter, list_refused_parameters};
 use sudoers_forms::{Cause, Form, OtherAnswer, RefusedForm, list_forms_for_sudo};
 use sudoers_tree::{Policy, Span};
 
