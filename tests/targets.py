@@ -29,6 +29,7 @@ from stand import EMPTY_FOLDER, Closed, Folder, Stand
 from tally import difference
 from target_answers import OTHER_ANSWERS, run_page_of_answers
 from target_rows import ARGUMENT_ESCAPE, FORMS, LOCALE, NUMBERED, PATH_ESCAPE, REPORT, SLASHES, TIME, Row, form, refused
+from target_sudo_rs import run_sudo_rs
 
 PART = "targets"
 SEED = 20_261_129
@@ -691,6 +692,8 @@ def run_refused_growths(program, tally):
         ("-s --for sudo --skipped --root . main", several, last, 1),
         ("-q -s --for sudo main", several, "", 1),
         ("--for sudo main", unknown, f"{UNKNOWN}; did you mean env_reset?\n", 0),
+        ("--for sudo main", {"main": "+a h = () /a [^b] \\-c\n"}, f"{ARGUMENT_ESCAPE}\n", 0),
+        ("-s --for sudo-rs main", {"main": "Defaults nosuch\n+a h = () list\n"}, "no command list\n", 1),
     )
 
     def check(library):
@@ -739,6 +742,7 @@ def run_all(program, tally):
     run_rows(stand)
     run_page(stand)
     run_page_of_answers(stand, PART)
+    run_sudo_rs(stand)
     run_words(stand)
     if visudo():
         run_rows_by_visudo(stand)

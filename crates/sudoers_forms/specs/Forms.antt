@@ -325,6 +325,7 @@ pub record PlacedToken : Type 0 where
   pub before : List ℕ
   pub gap : List ℕ
   pub rest : List ℕ
+  pub is_at_return : Bool
   pub kind : TokenKind
   pub text : List ℕ
   pub start : ℕ
@@ -340,6 +341,7 @@ placed_token first line p second_before before_kind before stop t is_last = reco
   before = before;
   gap = slice_range line stop t.start;
   rest = drop t.start line;
+  is_at_return = is_last && ends_in_return line;
   kind = t.kind;
   text = t.text;
   start = t.start;

@@ -8,3 +8,4 @@ pub mod Includes
 pub mod Forms
 pub mod Seen
 pub mod Answers
+pub mod SudoRs

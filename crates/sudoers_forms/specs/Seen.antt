@@ -11,6 +11,7 @@ model_of_judged_token judged = record {
   before = judged.token.before.now;
   gap = judged.token.gap.now;
   rest = judged.token.rest.now;
+  is_at_return = judged.token.is_at_return;
   kind = judged.token.kind;
   text = judged.token.text.now;
   start = judged.start;

@@ -77,7 +77,7 @@ fn is_bare_sign(text: &[u8]) -> bool
 
 impl LinePart {
     /// Returns whether hosts stand in the part.
-    fn has_hosts(self) -> bool
+    pub fn has_hosts(self) -> bool
         ensures { result ≡ is_hosts self }
     {
         matches!(

@@ -2,7 +2,9 @@
 
 use std::alloc::{AllocError, Global};
 use sudoers_defaults::{ParameterFault, ParameterGroup, RefusedParameter, list_refused_parameters};
-use sudoers_forms::{Cause, Form, OtherAnswer, RefusedForm, list_forms_for_sudo};
+use sudoers_forms::{
+    Cause, Form, OtherAnswer, RefusedForm, SudoRsForm, list_forms_for_sudo, list_forms_for_sudo_rs,
+};
 use sudoers_tree::{Policy, Span};
 
 /// What is found of a word.
@@ -13,6 +15,7 @@ pub enum Finding {
     Form(Form),
     /// sudo answers a request otherwise.
     Answer(Cause),
+    SudoRsForm(SudoRsForm),
 }
 
 /// A word of a policy of which something is found, and where it stands.
@@ -50,11 +53,26 @@ pub fn list_words_of_parameters(
 }
 
 /// Returns what is found in `policy` of the forms that sudo refuses or for which it answers otherwise, in the order of the places.
-pub fn list_words_of_forms(alloc: Global, policy: &Policy) -> Result<Vec<FoundWord>, AllocError> {
+pub fn list_words_for_sudo(alloc: Global, policy: &Policy) -> Result<Vec<FoundWord>, AllocError> {
     let forms = list_forms_for_sudo(alloc, policy)?;
     let refused = list_words_of_refused(alloc, forms.refused.as_slice())?;
     let answers = list_words_of_answers(alloc, forms.answers.as_slice())?;
     merge_by_place(alloc, refused.as_slice(), answers.as_slice())
+}
+
+/// Returns what is found in `policy` of the forms that sudo-rs refuses, in the order of the places.
+pub fn list_words_for_sudo_rs(
+    alloc: Global,
+    policy: &Policy,
+) -> Result<Vec<FoundWord>, AllocError> {
+    let mut words = Vec::new(alloc);
+    for refused in &list_forms_for_sudo_rs(alloc, policy)? {
+        words.push(FoundWord {
+            at: refused.at,
+            finding: Finding::SudoRsForm(refused.form),
+        })?;
+    }
+    Ok(words)
 }
 
 /// Returns what is found of the refused forms `forms`.

@@ -2,7 +2,8 @@
 
 use crate::files::KeptDisk;
 use crate::found_words::{
-    list_words_of_forms, list_words_of_parameters, merge_by_place, place_of_parameter,
+    list_words_for_sudo, list_words_for_sudo_rs, list_words_of_parameters, merge_by_place,
+    place_of_parameter,
 };
 use crate::json_output::JSON;
 use crate::report_notes::ReportNotes;
@@ -27,12 +28,19 @@ static TARGETS: [&str; 2] = ["sudo", SUDO_RS];
 /// The program that is not sudo.
 const SUDO_RS: &str = "sudo-rs";
 
-/// A program that reads a policy: what it knows, who refuses in its name, and whether the forms that it refuses are known.
+/// A program that reads a policy.
+#[derive(Clone, Copy, PartialEq, Eq)]
+enum Program {
+    Sudo,
+    SudoRs,
+}
+
+/// A program that reads a policy: what it knows, and who refuses in its name.
 #[derive(Clone, Copy)]
 pub struct Target {
     pub known: &'static [ParameterGroup],
     pub refuser: &'static str,
-    has_forms: bool,
+    program: Program,
 }
 
 /// Returns the option that names the program that reads the policy.
@@ -42,7 +50,7 @@ pub fn make_target_option<'a>(alloc: Global) -> Result<Arg<'a>, AllocError> {
         .value_parser(TARGETS.as_slice())
         .hide_possible_values(true)
         .help(
-            "After the report, list names and values of Defaults and other forms that this program refuses: sudo, for `visudo -c` of sudo 1.9.13, or sudo-rs, of Defaults alone",
+            "After the report, list names and values of Defaults and other forms that this program refuses: sudo, for `visudo -c` of sudo 1.9.13, and what it answers otherwise, or sudo-rs",
         )
         .conflicts_with(JSON)
 }
@@ -114,13 +122,13 @@ fn find_target(words: &ArgMatches<'_>) -> Option<Target> {
         return Some(Target {
             known: parameters_of_sudo_rs(),
             refuser: "visudo-rs -c",
-            has_forms: false,
+            program: Program::SudoRs,
         });
     }
     Some(Target {
         known: parameters_of_sudo(),
         refuser: "visudo -c",
-        has_forms: true,
+        program: Program::Sudo,
     })
 }
 
@@ -131,10 +139,9 @@ fn make_notes_on_policy(
     target: Target,
 ) -> Result<ReportNotes, AllocError> {
     let parameters = list_words_of_parameters(alloc, policy, target.known)?;
-    let forms = if target.has_forms {
-        list_words_of_forms(alloc, policy)?
-    } else {
-        Vec::new(alloc)
+    let forms = match target.program {
+        Program::Sudo => list_words_for_sudo(alloc, policy)?,
+        Program::SudoRs => list_words_for_sudo_rs(alloc, policy)?,
     };
     let words = merge_by_place(alloc, parameters.as_slice(), forms.as_slice())?;
     make_notes_on_words(alloc, policy, target, words.as_slice())

@@ -6,7 +6,9 @@ use crate::target_notes::Target;
 use std::alloc::{AllocError, Global};
 use sudoers_defaults::{ParameterFault, append_refusal_words};
 use sudoers_explain_edits::Nearest;
-use sudoers_forms::{Cause, Form, words_of_cause, words_of_form};
+use sudoers_forms::{
+    Cause, Form, SudoRsForm, words_of_cause, words_of_form, words_of_sudo_rs_form,
+};
 use sudoers_text::append_decimal_number;
 use sudoers_tree::{Line, Policy, Span, WalkLineSpot, column_behind, lf_count};
 
@@ -72,6 +74,7 @@ impl WordNotes<'_> {
             Finding::Parameter { name, fault } => self.append_parameter(name, fault)?,
             Finding::Form(form) => self.append_form(form)?,
             Finding::Answer(cause) => self.append_answer(cause)?,
+            Finding::SudoRsForm(form) => self.append_sudo_rs_form(form)?,
         }
         self.append(b"\n")
     }
@@ -93,6 +96,14 @@ impl WordNotes<'_> {
     fn append_answer(&mut self, cause: Cause) -> Result<(), AllocError> {
         self.append(b": answered otherwise by sudo: ")?;
         self.append(words_of_cause(cause).as_bytes())
+    }
+
+    /// Appends what is wrong with the form `form`, which sudo-rs refuses.
+    fn append_sudo_rs_form(&mut self, form: SudoRsForm) -> Result<(), AllocError> {
+        self.append(b": refused by visudo-rs -c: ")?;
+        self.append(words_of_sudo_rs_form(form).as_bytes())?;
+        self.notes.is_refused = true;
+        Ok(())
     }
 
     /// Appends what is wrong with the parameter named at `name`, which has the fault `fault`.
