@@ -49,7 +49,7 @@ def answers(name, text, *notes):
 
 
 RUNAS = (
-    answers("an alias of users beside groups", "Runas_Alias OP = oper\nbob h = (OP : adm) ALL, (a, !OP, ALL : adm) ALL\n", ("2:13", ALIAS_BESIDE_GROUP), ("2:41", ALIAS_BESIDE_GROUP)),
+    answers("an alias of users beside groups", "Runas_Alias OP = oper\nbob h = (OP : adm) ALL, (a, !OP, ALL : adm) ALL\n", ("2:13", ALIAS_BESIDE_GROUP), ("2:38", ALIAS_BESIDE_GROUP)),
     answers("an alias of users without groups", "Runas_Alias OP = oper\nbob h = (OP) ALL, (!OP, a) ALL\n"),
     answers("users beside groups", 'bob h = (a : adm) ALL, ("ALL", #5, %g : ALL) ALL\n', ("1:12", USER_BESIDE_GROUP), ("1:39", USER_BESIDE_GROUP)),
     answers("all users beside groups", "bob h = (ALL : adm) ALL, (a, ALL, b : adm) ALL, (ALL, !a : ALL) ALL\n"),
@@ -58,7 +58,7 @@ RUNAS = (
     answers("an alias of groups", 'Runas_Alias A = b\nbob h = (ALL : A, c, !A, "A") ALL\n', ("2:16", GROUP_ALIAS), ("2:23", GROUP_ALIAS)),
     answers("all groups, and groups with escapes", "bob h = (ALL : ALL, \\A, a, #5) ALL\n"),
     answers("an empty Runas_Spec", "bob h = () ALL, ( ) ALL, (\\\n) ALL\n", ("1:10", EMPTY_RUNAS), ("1:19", EMPTY_RUNAS), ("2:1", EMPTY_RUNAS)),
-    answers("marks elsewhere", "bob h = NOPASSWD: ALL : i = /a :, /b \\), (a) ALL\n"),
+    answers("marks elsewhere", "bob h = NOPASSWD: ALL : i = /a (), /b c), (a) ALL\n"),
 )
 HOSTS = (
     answers("networks of 0 bits", "Host_Alias H = 0.0.0.0/0, !10.0.0.0/0\nbob H, 127.0.0.1/0 = ALL\n", ("1:16", NO_MASK_BITS), ("1:28", NO_MASK_BITS), ("2:8", NO_MASK_BITS)),
@@ -66,10 +66,10 @@ HOSTS = (
     answers("the loopback", "Host_Alias H = 127.1.2.3, !127.0.0.0/8, 127.0.0.0/255.0.0.0\nbob H = ALL\n", ("1:16", LOOPBACK), ("1:28", LOOPBACK), ("1:41", LOOPBACK)),
     answers("hosts like the loopback", 'bob 127.0.0, 127.x, "127.0.0.1", 128.0.0.1 = ALL\n'),
     answers("quoted wildcards", 'Host_Alias H = "h*", !"h?", "h[1]"\nbob H = ALL\n', ("1:16", QUOTED_WILDCARD), ("1:23", QUOTED_WILDCARD), ("1:29", QUOTED_WILDCARD)),
-    answers("quoted users, and quoted hosts without wildcards", '"b*" "h]" = ("c*" : "d*") ALL\n'),
+    answers("quoted users, and quoted hosts without wildcards", '"b*" "h]" = (ALL : "d*") ALL, ("c*") ALL\n'),
     answers("escaped wildcards", "bob h\\*, !h\\?, h\\[1], h\\\\1 = ALL\n", *((f"1:{at}", ESCAPED_WILDCARD) for at in (5, 11, 16, 23))),
     answers("wildcards, and other escapes of hosts", "bob h*, h?, h[12], h[\\!3], h\\,, h\\ i = ALL\n"),
-    answers("users with escaped wildcards", "b\\*, b\\? h = (c\\* : d\\*) ALL\n"),
+    answers("users with escaped wildcards", "b\\*, b\\? h = (c\\*) ALL, (ALL : d\\*) ALL\n"),
     answers("escaped bytes of hosts", "bob h\\x31, h\\x4 = ALL\n", ("1:5", HOST_ESCAPE)),
     answers("sets of other bytes", "Host_Alias H = h[^2], !h[1][^3]\nbob H = ALL\n", ("1:16", SET_IN_HOST), ("1:24", SET_IN_HOST)),
     answers("sets that are none of other bytes", "bob h[2^], h^, h[!1] = ALL\n".replace("!", "\\!")),
@@ -80,12 +80,12 @@ NAMES = (
     answers("names like netgroups", '\\+a, b+c "\\+h" = (\\+d) /+e +f\nDefaults:+a fqdn\nDefaults@+h fqdn\n'),
     answers("non-Unix groups", 'User_Alias A = %:a, !%:b\n%:#5, "%:c d", A h = (%:e) ALL\n', *((place, NON_UNIX_GROUP) for place in ("1:16", "1:22", "2:1", "2:7", "2:23"))),
     answers("groups of the system", "%a, %#5, \"%b\" h = (%c) ALL\nDefaults:%:a fqdn\n"),
-    answers("escapes in quoted names", 'User_Alias A = "\\x41"\nA, "%a\\x62" h = (!"\\x41" : "\\x62") ALL\n', *((place, QUOTED_ESCAPE) for place in ("1:16", "2:4", "2:18", "2:27"))),
+    answers("escapes in quoted names", 'User_Alias A = "\\x41"\nA, "%a\\x62" h = (!"\\x41", ALL : "\\x62") ALL\n', *((place, QUOTED_ESCAPE) for place in ("1:16", "2:4", "2:19", "2:33"))),
     answers("escapes in other names", 'b\\x6fb, "\\xg1", "x41" "\\x41" = ROLE="\\x41" ALL\nDefaults:"\\x41" mailsub="\\x41"\n'),
 )
 COMMANDS = (
-    answers("digests", f"Cmnd_Alias A = {SHA} /a\nbob h = !A, {SHA} !/b, {SHA}, {SHA} ALL\n", *((place, DIGEST) for place in ("1:23", "2:20", "2:90", "2:155"))),
-    answers("two backslashes", 'bob h = /a b\\\\c, sudoedit \\\\, /b "x\\\\y", /c \\\\\\\\\n', ("1:12", TWO_BACKSLASHES), ("1:28", TWO_BACKSLASHES), ("1:35", TWO_BACKSLASHES), ("1:47", TWO_BACKSLASHES)),
+    answers("digests", f"Cmnd_Alias A = {SHA} /a\nbob h = !A, {SHA} !/b, {SHA}, {SHA} ALL\n", *((place, DIGEST) for place in ("1:23", "2:20", "2:89", "2:154"))),
+    answers("two backslashes", 'bob h = /a b\\\\c, sudoedit \\\\, /b "x\\\\y", /c \\\\\\\\\n', ("1:12", TWO_BACKSLASHES), ("1:27", TWO_BACKSLASHES), ("1:34", TWO_BACKSLASHES), ("1:45", TWO_BACKSLASHES)),
     answers("one backslash", "bob h = /a b\\,c\\ \\*, /b\\,\\ c\n"),
     answers("one empty argument", 'bob h = /a "", sudoedit "" : i = /b \\\n "" # x\nbob h = /c ""\\\n\n', ("1:12", EMPTY_ARGUMENT), ("1:25", EMPTY_ARGUMENT), ("2:2", EMPTY_ARGUMENT), ("3:12", EMPTY_ARGUMENT)),
     answers("more than one empty argument", 'bob h = /a "" b, /b c "", /c "" \\\n "", /d " "\n'),
@@ -102,7 +102,8 @@ DEFAULTS = (
     answers("targets of all, users and hosts", "Defaults runas_default=a\nDefaults:requiretty runas_default=b\nDefaults@requiretty runas_default=c\nDefaults mailsub=requiretty\n"),
 )
 ORDER = (
-    Row("answers, forms and parameters in their order", "Defaults requiretty, nosuch\n+a, \"\\x41\" %b = /c\\* [^d] \\-e #1\nbob h = () ALL\n", (form("1:10", TERMINAL, OTHER_ANSWER), refused("1:22", "nosuch", "unknown name"), form("2:1", NETGROUP, OTHER_ANSWER), form("2:5", QUOTED_ESCAPE, OTHER_ANSWER), form("2:12", "a name with % or +, which may not stand here"), form("2:17", "an escape in a path of another byte than , : = # and blanks"), form("2:22", SET_IN_ARGUMENT, OTHER_ANSWER), form("2:27", "an escape in arguments of another byte than , : = # * ? [ ] ! ^, a backslash and blanks"), form("2:31", "# and a number are a user ID; write a blank behind #"), form("3:9", EMPTY_RUNAS, OTHER_ANSWER))),
+    Row("answers, forms and parameters in their order", "Defaults requiretty, nosuch\n+a, \"\\x41\" %b = /c\\* [^d] \\-e #1\nbob h = () ALL\n", (form("1:10", TERMINAL, OTHER_ANSWER), refused("1:22", "nosuch", "unknown name"), form("2:1", NETGROUP, OTHER_ANSWER), form("2:5", QUOTED_ESCAPE, OTHER_ANSWER), form("2:12", "a name with % or +, which may not stand here"), form("2:17", "an escape in a path of another byte than , : = # and blanks"), form("2:22", SET_IN_ARGUMENT, OTHER_ANSWER), form("2:27", "an escape in arguments of another byte than , : = # * ? [ ] ! ^, a backslash and blanks"), form("2:31", "# and a number are a user ID; write a blank behind #"), form("3:10", EMPTY_RUNAS, OTHER_ANSWER))),
+    Row("a refused form, of which no answer is asked", f'bob h = {SHA}a /a\n"\\x41\\\\" h = ALL\n', (form("1:16", "a digest of a wrong length"), form("2:1", "a backslash before the closing quote"))),
     Row("a form behind one that begins a comment", 'bob h = /a "x #y" [^d], () /b\n', (form("1:12", "# in quotes begins a comment; write a backslash before it", OTHERWISE),)),
     Row("files in their order", {"main": "+a h = ALL\n@include inc\n+b h = ALL\n", "inc": "\n+c h = ALL\n"}, (form("1:1", NETGROUP, OTHER_ANSWER), f"inc:2:1: {OTHER_ANSWER}: {NETGROUP}\n", form("3:1", NETGROUP, OTHER_ANSWER))),
     answers("a policy without these forms", "User_Alias A = bob, %adm\nHost_Alias H = h1, 10.0.0.0/8\nRunas_Alias R = root\nCmnd_Alias C = /bin/ls -l, /usr/bin/\nDefaults env_reset, !lecture\nDefaults:A !insults\nA H = (R) NOPASSWD: C, sudoedit /etc/motd : i = (ALL : ALL) ALL\n"),

@@ -16,7 +16,7 @@ import random
 import re
 import subprocess
 from collections import Counter
-from dataclasses import dataclass
+from dataclasses import dataclass, replace
 
 from cases import Case
 from devices import Stand as Devices
@@ -299,8 +299,13 @@ ROWS = VALUES + FAULTS + PLACES + IGNORED + SPELLED_VALUES + FORMS + OTHER_ANSWE
 
 
 
+def without_answers(stdout):
+    """Returns an output without the notes on what sudo answers otherwise."""
+    return b"".join(line for line in stdout.splitlines(keepends=True) if b": answered otherwise by sudo: " not in line)
+
+
 def run_row(stand, one):
-    """Runs a row with the options that go with the notes."""
+    """Runs a row with the options that go with the notes. Notes on other answers are looked at in rows of these alone."""
     notes = "".join(one.notes).encode()
     strict = 1 if one.is_decided() else 0
     with Folder(one.tree()) as folder:
@@ -312,7 +317,10 @@ def run_row(stand, one):
             ("--all --for sudo", one.report(False).encode() + notes, 0),
             ("-s", one.report(True).encode(), 1 if one.undefined else 0),
         ):
-            stand.note(one.name, f"check {words} main", Wanted(text, status=status), folder)
+            came = stand.run(f"check {words} main", folder)
+            if one not in OTHER_ANSWERS:
+                came = replace(came, stdout=without_answers(came.stdout))
+            stand.tally.note(f"{PART}: {one.name}, check {words} main", Wanted(text, status=status).problems(came))
 
 
 def run_rows(stand):

@@ -14,6 +14,7 @@ use Rattle.sudoers_forms.specs.Includes.{has_hex_escape}
 use Rattle.sudoers_forms.specs.Forms.{PlacedToken, is_gap_byte, list_of_lines, span_of_token}
 use Rattle.sudoers_forms.specs.declared.line_part.LinePart.{LinePart}
 use Rattle.sudoers_forms.specs.declared.line_part.LinePart.TheVariants as part
+use Rattle.sudoers_forms.specs.declared.form.Form.{Form}
 use Rattle.sudoers_forms.specs.declared.cause.Cause.{Cause}
 use Rattle.sudoers_forms.specs.declared.cause.Cause.TheVariants as cause
 use Rattle.sudoers_forms.specs.declared.other_answer.OtherAnswer.{OtherAnswer}
@@ -177,8 +178,16 @@ abbrev pub answer_of_cause : Span → Option Cause → List OtherAnswer
 answer_of_cause at None = []
 answer_of_cause at (Some c) = record { at = at; cause = c } ∷ []
 
+-- A token with a form is refused, or read otherwise: no answer is asked for.
+abbrev pub cause_without_form : Option Form → Option Cause → Option Cause
+cause_without_form None c = c
+cause_without_form (Some f) c = None
+
+abbrev pub cause_of_token : PlacedToken → Option Cause
+cause_of_token t = cause_without_form t.form (cause_of_token_kind t t.kind)
+
 abbrev pub answer_of_token : ℕ → PlacedToken → List OtherAnswer
-answer_of_token number t = answer_of_cause (span_of_token number t) (cause_of_token_kind t t.kind)
+answer_of_token number t = answer_of_cause (span_of_token number t) (cause_of_token t)
 
 -- the forms in lines of which the first has this number on the walk, in their order
 abbrev pub other_answers_of_lines : ℕ → List Line → List OtherAnswer

@@ -2,7 +2,7 @@
 
 ghost use Rattle.std.specs.Prelude.{◌≡◌};
 ghost use Rattle.sudoers_forms.specs.Seen.{model_of_judged_token};
-ghost use Rattle.sudoers_forms.specs.Answers.{cause_of_argument, cause_of_bare_name, cause_of_group_colon, cause_of_mark, cause_of_name, cause_of_negated_parameter, cause_of_parameter, cause_of_plain_name, cause_of_quoted_name, cause_of_set_parameter, cause_of_sign, cause_of_token_kind, cause_or, has_hosts_of_rules, has_users_of_rules, is_end_of_arguments, is_name_behind, is_scope_of_targets_or_commands, is_sole_empty_argument};
+ghost use Rattle.sudoers_forms.specs.Answers.{cause_of_argument, cause_of_bare_name, cause_of_group_colon, cause_of_mark, cause_of_name, cause_of_negated_parameter, cause_of_parameter, cause_of_plain_name, cause_of_quoted_name, cause_of_set_parameter, cause_of_sign, cause_of_token, cause_of_token_kind, cause_or, cause_without_form, has_hosts_of_rules, has_users_of_rules, is_end_of_arguments, is_name_behind, is_scope_of_targets_or_commands, is_sole_empty_argument};
 
 use crate::cause::Cause;
 use crate::host_cause::{find_cause_of_host, has_escape_of, has_set_of_others, has_wildcard};
@@ -14,8 +14,18 @@ use crate::token_form::is_gap_byte;
 use sudoers_text::{TokenKind, is_name};
 
 impl JudgedToken<'_> {
-    /// Returns why sudo answers a request otherwise for the token.
+    /// Returns why sudo answers a request otherwise for the token, if it reads it.
     pub fn find_cause(&self) -> Option<Cause>
+        ensures { result ≡ cause_of_token (model_of_judged_token self.now) }
+    {
+        match self.form {
+            Some(_) => None,
+            None => self.find_cause_of_kind(),
+        }
+    }
+
+    /// Returns why sudo answers a request otherwise for the token, which it reads.
+    fn find_cause_of_kind(&self) -> Option<Cause>
         ensures { result ≡ cause_of_token_kind (model_of_judged_token self.now) self.now.token.kind }
     {
         let token = &self.token;
