@@ -1,6 +1,7 @@
 //! Why sudo-rs refuses a name.
 
 ghost use Rattle.std.specs.Prelude.{◌≡◌, false};
+ghost use Rattle.std.specs.List.{list_all};
 ghost use Rattle.sudoers_forms.specs.SudoRs.{begins_quoted_name, begins_quoted_user, has_other_byte_of_name, is_byte_of_rs_name, is_escaped_in_rs_name, is_first_byte_of_quoted, is_letter_or_digit, is_users_of_rs, name_behind_group_sign, rs_form_of_bare_name, rs_form_of_group, rs_form_of_host, rs_form_of_name, rs_form_of_quoted_name, rs_form_of_quoted_user, rs_form_of_unsigned_name, rs_form_of_user};
 
 use crate::line_part::LinePart;
@@ -58,6 +59,18 @@ fn has_other_byte_of_name(text: &[u8]) -> bool
     false
 }
 
+/// Returns whether each byte of `text` stands for itself in a name.
+fn are_bytes_of_name(text: &[u8]) -> bool
+    ensures { result ≡ list_all is_byte_of_rs_name text.now }
+{
+    for byte in text {
+        if !is_byte_of_name(*byte) {
+            return false;
+        }
+    }
+    true
+}
+
 /// Returns the name `text` without the sign of a group.
 fn skip_group_sign(text: &[u8]) -> &[u8]
     ensures { result.now ≡ name_behind_group_sign text.now }
@@ -95,7 +108,7 @@ fn find_form_of_group(text: &[u8]) -> Option<SudoRsForm>
 fn find_form_of_host(text: &[u8]) -> Option<SudoRsForm>
     ensures { result ≡ rs_form_of_host text.now }
 {
-    if text.iter().all(|byte| is_byte_of_name(*byte)) {
+    if are_bytes_of_name(text) {
         None
     } else {
         Some(SudoRsForm::HostByte)
