@@ -744,6 +744,30 @@ def run_worst(stand):
         stand.tally.note(f"{PART}: {len(notes)} unknown names of {size} bytes", problems)
 
 
+# A program, what a line begins and ends with, a form between, and how many notes there are on it.
+WORST_FORMS = (
+    ("sudo", "", "+a,", "b h = ALL\n", 1),
+    ("sudo", "b h[^1],", "h\\*,127.0.0.1,", "i = ALL\n", 2),
+    ("sudo", "b h = ", '(A:B) /a [^b] ""\\\\ \\-c,() /b "",', "ALL\n", 7),
+    ("sudo", "Defaults ", "!!!root_sudo,", "fqdn\n", 1),
+    ("sudo-rs", "", "+a,_b,", "b h = ALL\n", 2),
+    ("sudo-rs", "b h = ", "/[a][b\t[,list,", "ALL\n", 3),
+    ("sudo-rs", "Defaults ", "!!fqdn,", "fqdn\n", 1),
+)
+
+
+def run_worst_forms(stand):
+    """Policies of as many forms as fit are noted in time."""
+    for target, begin, one, end, in_form in WORST_FORMS:
+        count = (LONGEST_LINE - len(begin) - len(end)) // len(one)
+        lines = LARGEST // LONGEST_LINE
+        with Folder({"main": (begin + one * count + end) * lines}) as folder:
+            came = stand.run(f"check --for {target} main", folder, seconds=WORST_SECONDS)
+        notes = came.stdout.count(b": answered otherwise by ") + came.stdout.count(b": refused by ")
+        problems = difference("status", 0, came.status) + difference("enough notes", True, notes >= in_form * count * lines)
+        stand.tally.note(f"{PART}: {count * lines} times {one}, {target}", problems)
+
+
 def run_all(program, tally):
     """Runs all of it."""
     stand = Stand(PART, program, tally)
@@ -760,3 +784,4 @@ def run_all(program, tally):
         tally.skip(f"{PART}: beside visudo", f"visudo of sudo {SUDO.decode()} is not installed")
     run_refused_growths(program, tally)
     run_worst(stand)
+    run_worst_forms(stand)

@@ -2,7 +2,8 @@
 
 ghost use Rattle.std.specs.Prelude.{◌≡◌, ◌++◌, map, IfOk, OnOk};
 ghost use Rattle.sudoers_forms.specs.Seen.{model_of_judged_token};
-ghost use Rattle.sudoers_forms.specs.Forms.{list_by_table};
+ghost use Rattle.sudoers_line_rows.specs.View.{node_of_view};
+ghost use Rattle.sudoers_forms.specs.Forms.{list_by_table, tokens_of_node};
 ghost use Rattle.sudoers_forms.specs.SudoRs.{refused_of_rs_form, rs_form_of_kind, rs_form_of_member, rs_form_of_return, rs_form_of_token, rs_form_or, rs_forms_of_lines, rs_refused_of_token};
 
 use crate::judged_token::{JudgedToken, list_tokens_of_line};
@@ -13,6 +14,7 @@ use crate::sudo_rs_command::{
 };
 use crate::sudo_rs_form::SudoRsForm;
 use std::alloc::{AllocError, Global};
+use sudoers_line_rows::Node;
 use sudoers_text::TokenKind;
 use sudoers_tree::{Line, Policy, Span};
 
@@ -39,10 +41,23 @@ pub fn list_forms_for_sudo_rs(
     let lines = policy.lines();
     for (number, row) in lines.rows.iter().enumerate() {
         let line = Line::from_line_row(lines.tables, row);
-        let tokens = list_tokens_of_line(alloc, line.text, &line.node)?;
-        append_refused_of_tokens(number, tokens.as_slice(), &mut refused)?;
+        append_refused_of_line(alloc, number, line.text, &line.node, &mut refused)?;
     }
     Ok(refused)
+}
+
+/// Appends the refused forms of the line `text` with the number `number`, which says `node`.
+fn append_refused_of_line(
+    alloc: Global,
+    number: usize,
+    text: &[u8],
+    node: &Node<'_>,
+    refused: &mut Vec<RefusedBySudoRs>,
+) -> Result<(), AllocError>
+    ensures { OnOk result (refused.new.items ≡ refused.old.items ++ list_by_table (rs_refused_of_token number) (tokens_of_node text.now (node_of_view node.now))) }
+{
+    let tokens = list_tokens_of_line(alloc, text, node)?;
+    append_refused_of_tokens(number, tokens.as_slice(), refused)
 }
 
 /// Appends the refused forms of the tokens `tokens` of the line with the number `number`.
