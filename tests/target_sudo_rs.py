@@ -37,7 +37,7 @@ NAMES = (
     row("quoted users", '"b c", "!b", "%:$ b", "#5", "%#5", "b\\\\", "b\\x41", "%b c" h = ("d e") ALL\nDefaults:"b c" fqdn\n'),
     row("quoted users with other bytes", '"b\tc", "_b", "%_b", "b\\"c", "$", " b", "#b", "b\\\n c" h = ALL\n', *((f"1:{at}", QUOTED_USER) for at in (1, 8, 14, 21, 29, 34, 40, 46))),
     row("users", "b-.c_1, -b, .b, 1b, b\\,\\:\\=\\!\\\"\\(\\)\\\\, %b.c, %:b_c, B h = (b.c : b_c) ALL\n".replace("B h", "bB h")),
-    row("users with other bytes", "b$, b@c, b\\ c, _b, %_b, %:b\\@, b\\x41 h = (b/c : _d) ALL\nDefaults:b* fqdn\nUser_Alias A = b~\n".replace("User_Alias A = b~\n", "User_Alias A = b~\nA h = ALL\n"), *((place, NAME_BYTE) for place in ("1:1", "1:5", "1:10", "1:16", "1:20", "1:25", "1:32", "1:42", "1:48", "2:10", "3:16"))),
+    row("users with other bytes", "b$, b@c, b\\ c, _b, %_b, %:b\\@, b\\x41 h = (b/c : _d) ALL\nDefaults:b* fqdn\nUser_Alias A = b~\n".replace("User_Alias A = b~\n", "User_Alias A = b~\nA h = ALL\n"), *((place, NAME_BYTE) for place in ("1:1", "1:5", "1:10", "1:16", "1:20", "1:25", "1:32", "1:43", "1:49", "2:10", "3:16"))),
     row("hosts", "bob h-1.x_y, 10.0.0.1, _h, .h = ALL\nDefaults@h-1 fqdn\nHost_Alias H = h1\nbob H = ALL\n"),
     row("hosts with other bytes", "bob h*, 10.0.0.0/8, h\\,, h[1], %h = ALL\nDefaults@h? fqdn\nHost_Alias H = h@i\nbob H = ALL\n", *((place, HOST_BYTE) for place in ("1:5", "1:9", "1:21", "1:26", "1:32", "2:10", "3:16"))),
 )
@@ -53,10 +53,10 @@ COMMANDS = (
     row("other escapes", "bob h = /a\\*, /b \\-c d\\*, /c \"\\\"\", /d\\\te\nCmnd_Alias A = /b\\!\nbob h = A\n", *((place, ESCAPE) for place in ("1:9", "1:18", "1:22", "1:30", "1:36", "2:16"))),
     row("sets that are closed", "bob h = /[a], /[]a], /[!]], /[^], /[a[], /], /[\\,]/b [c\n"),
     row("sets that are not closed", "bob h = /[a, !/[], /[!], /[a]b[, /[!a\n", *((f"1:{at}", OPEN_SET) for at in (9, 15, 20, 26, 34))),
-    row("gaps before arguments", "bob h = /a\tb, /c d\te, /f \\\n g, /h\\\ni, /j k\\\nl\n", *((place, ARGUMENT_GAP) for place in ("1:12", "1:20", "2:2", "3:1", "3:7"))),
+    row("gaps before arguments", "bob h = /a\tb, /c d\te, /f \\\n g, /h\\\ni, /j k\\\nl\n", *((place, ARGUMENT_GAP) for place in ("1:12", "1:20", "2:2", "3:1", "4:1"))),
     row("gaps elsewhere", "bob\th\t=\t/a  b\t,\t/c \\\n, /d e \\\n# f\n"),
     row("folders", "bob h = CWD=/a ALL, CWD=* ALL, CWD=~ ALL, CWD=~b/c ALL, CWD=/a\\ b?[\\\\ ALL\n"),
-    row("folders that are none", 'bob h = CWD=a ALL, CWD="/a" ALL, CWD=/a* ALL, CWD=** ALL, CWD=/a\\#b ALL, CWD=\\/a ALL\n', *((f"1:{at}", FOLDER) for at in (13, 24, 38, 51, 63, 79))),
+    row("folders that are none", 'bob h = CWD=a ALL, CWD="/a" ALL, CWD=/a* ALL, CWD=** ALL, CWD=/a\\#b ALL, CWD=\\/a ALL\n', *((f"1:{at}", FOLDER) for at in (13, 24, 38, 51, 63, 78))),
 )
 LINES = (
     row("two marks before a parameter", "Defaults !!fqdn, ! !env_reset, !use_pty\n", ("1:11", TWO_MARKS), ("1:20", TWO_MARKS)),
