@@ -67,11 +67,11 @@ fn list_tokens_from_part<'a>(
     let Ok(tokens) = tokens(alloc, text, choose_line_mode(text)) else {
         return Err(AllocError);
     };
-    judge_tokens(alloc, part, text, tokens.as_slice())
+    make_judged_tokens(alloc, part, text, tokens.as_slice())
 }
 
 /// Returns the tokens `tokens` of the line `text`, which begins with this part, up to the first that begins a comment for sudo.
-fn judge_tokens<'a>(
+fn make_judged_tokens<'a>(
     alloc: Global,
     part: LinePart,
     text: &'a [u8],
@@ -85,7 +85,7 @@ fn judge_tokens<'a>(
     let mut place = PlaceInLine::make_start(part);
     for (at, token) in tokens.iter().enumerate() {
         let here = add_text_to_token(text, token);
-        let one = place.judge_token(text, &here, tokens[at + 1..].is_empty());
+        let one = place.make_judged_token(text, &here, tokens[at + 1..].is_empty());
         judged.push(one)?;
         if is_begin_of_comment(one.form) {
             return Ok(judged);
@@ -161,7 +161,7 @@ impl<'a> PlaceInLine<'a> {
     }
 
     /// Returns the token that comes next, if it is the last of its line or not.
-    fn judge_token(
+    fn make_judged_token(
         &self,
         line: &'a [u8],
         token: &TokenWithText<'a>,

@@ -57,7 +57,7 @@ pub fn list_words_for_sudo(alloc: Global, policy: &Policy) -> Result<Vec<FoundWo
     let forms = list_forms_for_sudo(alloc, policy)?;
     let refused = list_words_of_refused(alloc, forms.refused.as_slice())?;
     let answers = list_words_of_answers(alloc, forms.answers.as_slice())?;
-    merge_by_place(alloc, refused.as_slice(), answers.as_slice())
+    join_by_place(alloc, refused.as_slice(), answers.as_slice())
 }
 
 /// Returns what is found in `policy` of the forms that sudo-rs refuses, in the order of the places.
@@ -106,32 +106,32 @@ fn list_words_of_answers(
 }
 
 /// Returns the words of two lists in the order of their places, in which each list is. Of two at one place, that of `first` comes first.
-pub fn merge_by_place(
+pub fn join_by_place(
     alloc: Global,
     first: &[FoundWord],
     second: &[FoundWord],
 ) -> Result<Vec<FoundWord>, AllocError> {
-    let mut merged = Vec::new(alloc);
+    let mut joined = Vec::new(alloc);
     let mut left = second;
     for word in first {
-        left = append_words_before(word.at, left, &mut merged)?;
-        merged.push(*word)?;
+        left = append_words_before(word.at, left, &mut joined)?;
+        joined.push(*word)?;
     }
-    merged.extend_from_slice(left)?;
-    Ok(merged)
+    joined.extend_from_slice(left)?;
+    Ok(joined)
 }
 
-/// Appends those of `words` that stand before `at` to `merged`. Returns the others.
+/// Appends those of `words` that stand before `at` to `joined`. Returns the others.
 fn append_words_before<'a>(
     at: Span,
     words: &'a [FoundWord],
-    merged: &mut Vec<FoundWord>,
+    joined: &mut Vec<FoundWord>,
 ) -> Result<&'a [FoundWord], AllocError> {
     for (place, word) in words.iter().enumerate() {
         if !word.is_before(at) {
             return Ok(&words[place..]);
         }
-        merged.push(*word)?;
+        joined.push(*word)?;
     }
     Ok(&[])
 }

@@ -2,7 +2,7 @@
 
 use crate::files::KeptDisk;
 use crate::found_words::{
-    list_words_for_sudo, list_words_for_sudo_rs, list_words_of_parameters, merge_by_place,
+    join_by_place, list_words_for_sudo, list_words_for_sudo_rs, list_words_of_parameters,
     place_of_parameter,
 };
 use crate::json_output::JSON;
@@ -143,6 +143,6 @@ fn make_notes_on_policy(
         Program::Sudo => list_words_for_sudo(alloc, policy)?,
         Program::SudoRs => list_words_for_sudo_rs(alloc, policy)?,
     };
-    let words = merge_by_place(alloc, parameters.as_slice(), forms.as_slice())?;
+    let words = join_by_place(alloc, parameters.as_slice(), forms.as_slice())?;
     make_notes_on_words(alloc, policy, target, words.as_slice())
 }

@@ -3,7 +3,7 @@ use Rattle.sudoers_text.specs.declared.token.TokenKind.TheVariants as kind
 use Rattle.sudoers_grammar.specs.Piece.{token_with_bytes}
 use Rattle.sudoers_forms.specs.Seen.{model_of_judged_token}
 use Rattle.sudoers_forms.specs.Forms.{placed_tokens}
-use Rattle.sudoers_forms.proofs.judged_token.judge_tokens.Given as goal
+use Rattle.sudoers_forms.proofs.judged_token.make_judged_tokens.Given as goal
 
 abbrev pub invariant-loop-at : goal.invariant-loop-at
 invariant-loop-at l =
