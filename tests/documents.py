@@ -129,6 +129,7 @@ class Row:
     sudo: str = ""
     request: tuple = ()
     what: str = ""
+    note: str = ""
 
 
 @dataclass
@@ -187,7 +188,8 @@ def read_answer(number, header, cells):
         answer = b"sudoers_tool: " + error.encode() + b"\n"
     elif cells[-1] not in ("allowed", "not allowed"):
         raise ValueError(f"line {number}: {cells[-1]!r} is no answer")
-    return Row(number, "list", unescaped(policy), answer if cells[-1] != "not allowed" else b"", request=asked)
+    note = cells[header.index("Note")] if "Note" in header else ""
+    return Row(number, "list", unescaped(policy), answer if cells[-1] != "not allowed" else b"", request=asked, note=note)
 
 
 def read_row(number, header, cells):

@@ -308,12 +308,13 @@ BY_PROGRAM = {
         "dialect::make_adapted_output",
         "text::adapt_line",
     ),
-    "spelled": ("cvt_sudo::spell_for_sudo",),
+    "spelled": ("cvt_sudo::spell_for_sudo", "forms::list_refused_forms"),
     "targets": (
         "defaults::append_refusal_words",
         "defaults::list_refused_parameters",
         "explain_edits::Nearest::choose_nearer",
-        "forms::list_refused_forms",
+        "forms::list_forms_for_sudo",
+        "forms::list_forms_for_sudo_rs",
     ),
     "asking_machine": (
         "ask::explain_user_answer",

@@ -30,6 +30,10 @@ class Row:
         """Returns whether a note says that visudo refuses something."""
         return any(": refused by visudo -c: " in note for note in self.notes)
 
+    def is_read(self):
+        """Returns whether no note says that sudo may refuse or read something otherwise."""
+        return all(": answered otherwise by sudo: " in note for note in self.notes)
+
     def is_decided(self):
         """Returns whether a note or the report counts with -s."""
         return self.is_refused() or bool(self.undefined) or any(": read otherwise by sudo: " in note for note in self.notes)

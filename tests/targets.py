@@ -16,7 +16,7 @@ import random
 import re
 import subprocess
 from collections import Counter
-from dataclasses import dataclass
+from dataclasses import dataclass, replace
 
 from cases import Case
 from devices import Stand as Devices
@@ -27,7 +27,9 @@ from preload import with_library
 from program import SECONDS, Wanted, fault
 from stand import EMPTY_FOLDER, Closed, Folder, Stand
 from tally import difference
+from target_answers import OTHER_ANSWERS, run_page_of_answers
 from target_rows import ARGUMENT_ESCAPE, FORMS, LOCALE, NUMBERED, PATH_ESCAPE, REPORT, SLASHES, TIME, Row, form, refused
+from target_sudo_rs import run_sudo_rs
 
 PART = "targets"
 SEED = 20_261_129
@@ -293,12 +295,17 @@ SPELLED_VALUES = (
     row("a bad value before a NUL", "Defaults passwd_tries=x\\x003\n", ("1:23", "passwd_tries", f"takes {UNSIGNED}")),
 )
 
-ROWS = VALUES + FAULTS + PLACES + IGNORED + SPELLED_VALUES + FORMS
+ROWS = VALUES + FAULTS + PLACES + IGNORED + SPELLED_VALUES + FORMS + OTHER_ANSWERS
 
+
+
+def without_answers(stdout):
+    """Returns an output without the notes on what sudo answers otherwise."""
+    return b"".join(line for line in stdout.splitlines(keepends=True) if b": answered otherwise by sudo: " not in line)
 
 
 def run_row(stand, one):
-    """Runs a row with the options that go with the notes."""
+    """Runs a row with the options that go with the notes. Notes on other answers are looked at in rows of these alone."""
     notes = "".join(one.notes).encode()
     strict = 1 if one.is_decided() else 0
     with Folder(one.tree()) as folder:
@@ -310,7 +317,10 @@ def run_row(stand, one):
             ("--all --for sudo", one.report(False).encode() + notes, 0),
             ("-s", one.report(True).encode(), 1 if one.undefined else 0),
         ):
-            stand.note(one.name, f"check {words} main", Wanted(text, status=status), folder)
+            came = stand.run(f"check {words} main", folder)
+            if one not in OTHER_ANSWERS:
+                came = replace(came, stdout=without_answers(came.stdout))
+            stand.tally.note(f"{PART}: {one.name}, check {words} main", Wanted(text, status=status).problems(came))
 
 
 def run_rows(stand):
@@ -322,8 +332,8 @@ def run_rows(stand):
 
 
 def run_rows_by_visudo(stand):
-    """Has visudo refuse just the policies of rows with a note that says so. Rows that are not decided are left out."""
-    for one in (one for one in ROWS if one.is_refused() or not one.notes):
+    """Has visudo refuse just the policies of rows with a note that says so. Rows that are not decided, or read otherwise, are left out."""
+    for one in (one for one in ROWS if one.is_refused() or one.is_read()):
         with Folder(one.tree()) as folder:
             done = run_visudo(folder, "main")
         wanted = 1 if one.is_refused() else 0
@@ -690,6 +700,8 @@ def run_refused_growths(program, tally):
         ("-s --for sudo --skipped --root . main", several, last, 1),
         ("-q -s --for sudo main", several, "", 1),
         ("--for sudo main", unknown, f"{UNKNOWN}; did you mean env_reset?\n", 0),
+        ("--for sudo main", {"main": "+a h = () /a [^b] \\-c\n"}, f"{ARGUMENT_ESCAPE}\n", 0),
+        ("-s --for sudo-rs main", {"main": "Defaults nosuch\n+a h = () list\n"}, "no command list\n", 1),
     )
 
     def check(library):
@@ -732,11 +744,37 @@ def run_worst(stand):
         stand.tally.note(f"{PART}: {len(notes)} unknown names of {size} bytes", problems)
 
 
+# A program, what a line begins and ends with, a form between, and how many notes there are on it.
+WORST_FORMS = (
+    ("sudo", "", "+a,", "b h = ALL\n", 1),
+    ("sudo", "b h[^1],", "h\\*,127.0.0.1,", "i = ALL\n", 2),
+    ("sudo", "b h = ", '(A:B) /a [^b] ""\\\\ \\-c,() /b "",', "ALL\n", 7),
+    ("sudo", "Defaults ", "!!!root_sudo,", "fqdn\n", 1),
+    ("sudo-rs", "", "+a,_b,", "b h = ALL\n", 2),
+    ("sudo-rs", "b h = ", "/[a][b\t[,list,", "ALL\n", 3),
+    ("sudo-rs", "Defaults ", "!!fqdn,", "fqdn\n", 1),
+)
+
+
+def run_worst_forms(stand):
+    """Policies of as many forms as fit are noted in time."""
+    for target, begin, one, end, in_form in WORST_FORMS:
+        count = (LONGEST_LINE - len(begin) - len(end)) // len(one)
+        lines = LARGEST // LONGEST_LINE
+        with Folder({"main": (begin + one * count + end) * lines}) as folder:
+            came = stand.run(f"check --for {target} main", folder, seconds=WORST_SECONDS)
+        notes = came.stdout.count(b": answered otherwise by ") + came.stdout.count(b": refused by ")
+        problems = difference("status", 0, came.status) + difference("enough notes", True, notes >= in_form * count * lines)
+        stand.tally.note(f"{PART}: {count * lines} times {one}, {target}", problems)
+
+
 def run_all(program, tally):
     """Runs all of it."""
     stand = Stand(PART, program, tally)
     run_rows(stand)
     run_page(stand)
+    run_page_of_answers(stand, PART)
+    run_sudo_rs(stand)
     run_words(stand)
     if visudo():
         run_rows_by_visudo(stand)
@@ -746,3 +784,4 @@ def run_all(program, tally):
         tally.skip(f"{PART}: beside visudo", f"visudo of sudo {SUDO.decode()} is not installed")
     run_refused_growths(program, tally)
     run_worst(stand)
+    run_worst_forms(stand)

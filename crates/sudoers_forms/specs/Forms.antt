@@ -12,6 +12,7 @@ use Rattle.sudoers_grammar.specs.Node.{Node}
 use Rattle.sudoers_grammar.specs.Node as node
 use Rattle.sudoers_grammar.specs.Piece.{TokenWithBytes, tokens_with_bytes, has_first_byte, has_last_byte, has_byte, is_word, is_comment}
 use Rattle.sudoers_tree.specs.Line.{Line}
+use Rattle.sudoers_tree.specs.declared.place.Span.{Span}
 use Rattle.sudoers_defaults.specs.Values.{is_time}
 use Rattle.sudoers_forms.specs.Spelling.{size_as_path, size_as_word, spelled_size, is_numbered, is_broken_comment, is_digest_of_kind}
 use Rattle.sudoers_forms.specs.Names.{form_if, form_or, form_of_name, form_of_folder, form_of_plain_value, is_folder_option, is_scope_of_names, path_size_limit}
@@ -78,6 +79,7 @@ is_value_part p = false
 
 abbrev pub is_parameters : LinePart → Bool
 is_parameters part.Parameters = true
+is_parameters part.NegatedParameters = true
 is_parameters p = false
 
 abbrev pub is_command_part : LinePart → Bool
@@ -86,6 +88,7 @@ is_command_part part.OptionName = true
 is_command_part part.TagOrDigestKind = true
 is_command_part part.CommandScope = true
 is_command_part part.Parameters = true
+is_command_part part.NegatedParameters = true
 is_command_part p = false
 
 -- a word or a quoted text, by the part that it stands in
@@ -306,16 +309,6 @@ form_of_token line p second_before before_kind before stop t is_last =
     form_or (form_of_gap p second_before before_kind before (slice_range line stop t.start) t.kind t.text)
     (form_of_text p second_before before (slice_range line stop t.start) (drop t.start line) is_last (is_last && ends_in_return line) t.kind t.text)
 
--- A word that is a time without its backslashes, as sudo reads it.
-abbrev pub is_time_with_backslashes : Form → TokenWithBytes → Bool
-is_time_with_backslashes form.TimeValue t = is_word t.kind && is_time (value_of_word t.text)
-is_time_with_backslashes f t = false
-
-abbrev pub refused_if : ℕ → TokenWithBytes → Option Form → List RefusedForm
-refused_if number t None = []
-refused_if number t (Some f) =
-    if is_time_with_backslashes f t then [] else record { at = record { line = number; start = t.start; stop = t.stop }; form = f } ∷ []
-
 -- What follows is in a comment for sudo, or in the name of an included file.
 abbrev pub is_begin_of_comment : Option Form → Bool
 is_begin_of_comment (Some form.IndentedInclude) = true
@@ -324,25 +317,82 @@ is_begin_of_comment (Some form.ArgumentHash) = true
 is_begin_of_comment (Some form.NumberedComment) = true
 is_begin_of_comment f = false
 
--- The tokens of the line with this number, from one of them on, by the part and the two tokens before: the second one's text, and the first
--- one's kind, text and end.
-abbrev pub forms_of_tokens : ℕ → List ℕ → LinePart → List ℕ → TokenKind → List ℕ → ℕ → List TokenWithBytes → List RefusedForm
-forms_of_tokens number line p second_before before_kind before stop [] = []
-forms_of_tokens number line p second_before before_kind before stop (t ∷ ts) =
-    forms_of_token_and_others number t (form_of_token line (part_of_token p second_before before_kind t.text) second_before before_kind before stop t (nat_eq (length ts) 0))
-    (forms_of_tokens number line (part_after_token (part_of_token p second_before before_kind t.text) t.kind t.text) before t.kind t.text t.stop ts)
+-- A token of a line that begins with the first part, what stands before it, the rest of the line from it on, and its form.
+pub record PlacedToken : Type 0 where
+  pub first : LinePart
+  pub part : LinePart
+  pub second_before : List ℕ
+  pub before_kind : TokenKind
+  pub before : List ℕ
+  pub gap : List ℕ
+  pub rest : List ℕ
+  pub is_at_return : Bool
+  pub kind : TokenKind
+  pub text : List ℕ
+  pub start : ℕ
+  pub stop : ℕ
+  pub form : Option Form
+
+abbrev pub placed_token : LinePart → List ℕ → LinePart → List ℕ → TokenKind → List ℕ → ℕ → TokenWithBytes → Bool → PlacedToken
+placed_token first line p second_before before_kind before stop t is_last = record {
+  first = first;
+  part = p;
+  second_before = second_before;
+  before_kind = before_kind;
+  before = before;
+  gap = slice_range line stop t.start;
+  rest = drop t.start line;
+  is_at_return = is_last && ends_in_return line;
+  kind = t.kind;
+  text = t.text;
+  start = t.start;
+  stop = t.stop;
+  form = form_of_token line p second_before before_kind before stop t is_last;
+}
+
+-- The tokens of a line that begins with the first part, from one of them on, by the part and the two tokens before: the second one's text, and
+-- the first one's kind, text and end. None stands behind one that begins a comment.
+abbrev pub placed_tokens : LinePart → List ℕ → LinePart → List ℕ → TokenKind → List ℕ → ℕ → List TokenWithBytes → List PlacedToken
+placed_tokens first line p second_before before_kind before stop [] = []
+placed_tokens first line p second_before before_kind before stop (t ∷ ts) =
+    token_and_others (placed_token first line (part_of_token p second_before before_kind t.text) second_before before_kind before stop t (nat_eq (length ts) 0))
+    (placed_tokens first line (part_after_token (part_of_token p second_before before_kind t.text) t.kind t.text) before t.kind t.text t.stop ts)
   where
-    forms_of_token_and_others : ℕ → TokenWithBytes → Option Form → List RefusedForm → List RefusedForm
-    forms_of_token_and_others number t f others = refused_if number t f ++ (if is_begin_of_comment f then [] else others)
+    token_and_others : PlacedToken → List PlacedToken → List PlacedToken
+    token_and_others t others = t ∷ (if is_begin_of_comment t.form then [] else others)
 
-abbrev pub forms_of_line : ℕ → LinePart → List ℕ → List RefusedForm
-forms_of_line number p text = forms_of_tokens number text p [] kind.Punct [] 0 (tokens_with_bytes text (tokens_of_line (line_mode text) text))
+abbrev pub tokens_from_part : LinePart → List ℕ → List PlacedToken
+tokens_from_part p text = placed_tokens p text p [] kind.Punct [] 0 (tokens_with_bytes text (tokens_of_line (line_mode text) text))
 
-abbrev pub forms_of_node : ℕ → List ℕ → Node → List RefusedForm
-forms_of_node number text node.Blank = []
-forms_of_node number text n = forms_of_line number (first_part n) text
+abbrev pub tokens_of_node : List ℕ → Node → List PlacedToken
+tokens_of_node text node.Blank = []
+tokens_of_node text n = tokens_from_part (first_part n) text
 
--- the refused forms of lines of which the first has this number on the walk, in their order
+-- what a table says of the tokens of one line, and of lines of which the first has this number on the walk, in their order
+abbrev pub list_by_table : {X : Type 0} → (PlacedToken → List X) → List PlacedToken → List X
+list_by_table table [] = []
+list_by_table table (t ∷ ts) = table t ++ list_by_table table ts
+
+abbrev pub list_of_lines : {X : Type 0} → (ℕ → PlacedToken → List X) → ℕ → List Line → List X
+list_of_lines table number [] = []
+list_of_lines table number (line ∷ lines) = list_by_table (table number) (tokens_of_node line.text line.node) ++ list_of_lines table (suc number) lines
+
+abbrev pub span_of_token : ℕ → PlacedToken → Span
+span_of_token number t = record { line = number; start = t.start; stop = t.stop }
+
+-- the refused forms
+abbrev pub refused_of_form : Span → Option Form → List RefusedForm
+refused_of_form at None = []
+refused_of_form at (Some f) = record { at = at; form = f } ∷ []
+
+-- A word that is a time without its backslashes, as sudo reads it.
+abbrev pub is_time_with_backslashes : Option Form → TokenKind → List ℕ → Bool
+is_time_with_backslashes (Some form.TimeValue) k text = is_word k && is_time (value_of_word text)
+is_time_with_backslashes f k text = false
+
+abbrev pub refused_of_token : ℕ → PlacedToken → List RefusedForm
+refused_of_token number t =
+    if is_time_with_backslashes t.form t.kind t.text then [] else refused_of_form (span_of_token number t) t.form
+
 abbrev pub forms_of_lines : ℕ → List Line → List RefusedForm
-forms_of_lines number [] = []
-forms_of_lines number (line ∷ lines) = forms_of_node number line.text line.node ++ forms_of_lines (suc number) lines
+forms_of_lines number lines = list_of_lines refused_of_token number lines

@@ -4,7 +4,7 @@ use Rattle.sudoers_text.specs.declared.token.TokenKind.TheVariants as kind
 use Rattle.sudoers_text.specs.Unit.{is_blank}
 use Rattle.sudoers_text.specs.Value.{begins_hex_escape}
 use Rattle.sudoers_grammar.specs.Piece.{has_first_byte}
-use Rattle.sudoers_forms.specs.Names.{form_if, content_of_token}
+use Rattle.sudoers_forms.specs.Names.{content_of_token}
 use Rattle.sudoers_forms.specs.declared.line_part.LinePart.{LinePart}
 use Rattle.sudoers_forms.specs.declared.line_part.LinePart.TheVariants as part
 use Rattle.sudoers_forms.specs.declared.form.Form.{Form}

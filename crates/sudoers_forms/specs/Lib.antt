@@ -6,3 +6,6 @@ pub mod Parts
 pub mod Names
 pub mod Includes
 pub mod Forms
+pub mod Seen
+pub mod Answers
+pub mod SudoRs

@@ -29,6 +29,7 @@ form_or (Some f) g = Some f
 -- In a scope of Defaults sudo knows no options.
 abbrev pub is_scope_of_names : LinePart → Bool
 is_scope_of_names part.UserScope = true
+is_scope_of_names part.RunasScope = true
 is_scope_of_names part.HostScope = true
 is_scope_of_names p = false
 

@@ -4,6 +4,7 @@ use Rattle.std.specs.Str.{bytes_eq}
 use Rattle.sudoers_text.specs.declared.token.TokenKind.{TokenKind}
 use Rattle.sudoers_text.specs.declared.token.TokenKind.TheVariants as kind
 use Rattle.sudoers_text.specs.Unit.{is_empty}
+use Rattle.sudoers_text.specs.Word.{is_name}
 use Rattle.sudoers_forms.specs.Words.{is_option, is_tag_word, is_digest_kind}
 use Rattle.sudoers_forms.specs.HostMark.{has_host_mark}
 use Rattle.sudoers_grammar.specs.declared.node.Kind.{Kind}
@@ -23,7 +24,7 @@ first_part_of_alias Cmnd = part.Hosts
 
 abbrev pub first_part_of_scope : Kind → LinePart
 first_part_of_scope User = part.UserScope
-first_part_of_scope Runas = part.UserScope
+first_part_of_scope Runas = part.RunasScope
 first_part_of_scope Host = part.HostScope
 first_part_of_scope Cmnd = part.CommandScope
 
@@ -49,6 +50,7 @@ is_member_kind k = false
 
 abbrev pub is_scope : LinePart → Bool
 is_scope part.UserScope = true
+is_scope part.RunasScope = true
 is_scope part.HostScope = true
 is_scope part.CommandScope = true
 is_scope p = false
@@ -84,14 +86,30 @@ part_after_command_token kind.Punct text = part_after_command_mark text
 part_after_command_token kind.Word text = part_after_command_word text
 part_after_command_token k text = part.Commands
 
+-- Among users of a Runas_Spec: `ALL` leads to the first part, an alias to that of aliases, and another user to the second part.
+abbrev pub part_after_runas_token : LinePart → LinePart → List ℕ → LinePart
+part_after_runas_token all other text =
+    if bytes_eq text (codes ":") then part.Groups
+    else (if bytes_eq text (codes ")") then part.Commands
+    else (if bytes_eq text (codes "ALL") then all
+    else (if is_name text then part.RunasAliases
+    else other)))
+
+-- an odd number of `!` before a parameter
+abbrev pub part_after_parameter_token : LinePart → List ℕ → LinePart
+part_after_parameter_token marked text = if bytes_eq text (codes "!") then marked else part.Parameters
+
 -- the part behind a token that stands in this one
 abbrev pub part_after_token : LinePart → TokenKind → List ℕ → LinePart
 part_after_token part.Hosts k text = if bytes_eq text (codes "=") then part.Commands else part.Hosts
-part_after_token part.RunasUsers k text =
-    if bytes_eq text (codes ":") then part.Groups else (if bytes_eq text (codes ")") then part.Commands else part.RunasUsers)
+part_after_token part.RunasUsers k text = part_after_runas_token part.RunasAll part.RunasUsers text
+part_after_token part.RunasAll k text = part_after_runas_token part.RunasAll part.RunasAll text
+part_after_token part.RunasAliases k text = part_after_runas_token part.RunasAliases part.RunasAliases text
 part_after_token part.Groups k text = if bytes_eq text (codes ")") then part.Commands else part.Groups
 part_after_token part.Commands k text = part_after_command_token k text
 part_after_token part.OptionName k text = part.OptionValue
 part_after_token part.OptionValue k text = part.Commands
 part_after_token part.TagOrDigestKind k text = part.Commands
+part_after_token part.Parameters k text = part_after_parameter_token part.NegatedParameters text
+part_after_token part.NegatedParameters k text = part_after_parameter_token part.Parameters text
 part_after_token p k text = p

@@ -64,7 +64,7 @@ fn begins_hex_escape(bytes: &[u8]) -> bool
 }
 
 /// Returns whether a backslash of `text` has `x` and two hexadecimal digits behind it.
-fn has_hex_escape(text: &[u8]) -> bool
+pub fn has_hex_escape(text: &[u8]) -> bool
     ensures { result ≡ has_hex_escape false text.now }
 {
     let mut rest = text;

@@ -2,13 +2,14 @@
 
 ghost use Rattle.std.specs.Prelude.{◌≡◌};
 ghost use Rattle.sudoers_line_rows.specs.View.{node_of_view};
-ghost use Rattle.sudoers_forms.specs.Parts.{first_part, first_part_of_alias, first_part_of_scope, is_member_kind, is_scope, part_after_command_mark, part_after_command_token, part_after_command_word, part_after_token, part_of_token};
+ghost use Rattle.sudoers_forms.specs.Parts.{first_part, first_part_of_alias, first_part_of_scope, is_member_kind, is_scope, part_after_command_mark, part_after_command_token, part_after_command_word, part_after_parameter_token, part_after_runas_token, part_after_token, part_of_token};
+ghost use Rattle.sudoers_forms.specs.Forms.{is_parameters};
 
 use crate::include_form::has_host_mark;
 use crate::words::{is_digest_kind, is_option, is_tag_word};
 use sudoers_grammar::Kind;
 use sudoers_line_rows::Node;
-use sudoers_text::TokenKind;
+use sudoers_text::{TokenKind, is_name};
 
 /// The part of a line in which a token stands.
 #[derive(Clone, Copy, PartialEq, Eq)]
@@ -23,6 +24,10 @@ pub enum LinePart {
     Hosts,
     /// The users of a Runas_Spec.
     RunasUsers,
+    /// The same behind `ALL`.
+    RunasAll,
+    /// The same behind an alias.
+    RunasAliases,
     /// The groups of a Runas_Spec.
     Groups,
     /// Commands, with what stands before them.
@@ -33,12 +38,15 @@ pub enum LinePart {
     OptionValue,
     /// Directly behind a tag or a kind of digest.
     TagOrDigestKind,
-    /// The users or runas users of a scope of Defaults.
+    /// The users of a scope of Defaults.
     UserScope,
+    RunasScope,
     HostScope,
     CommandScope,
     /// Parameters of Defaults.
     Parameters,
+    /// The same behind an odd number of `!`.
+    NegatedParameters,
     /// An include line.
     IncludeLine,
     /// An include line whose name has `%h`.
@@ -78,7 +86,8 @@ fn find_first_part_of_scope(kind: Kind) -> LinePart
     ensures { result ≡ first_part_of_scope kind }
 {
     match kind {
-        Kind::User | Kind::Runas => LinePart::UserScope,
+        Kind::User => LinePart::UserScope,
+        Kind::Runas => LinePart::RunasScope,
         Kind::Host => LinePart::HostScope,
         Kind::Cmnd => LinePart::CommandScope,
     }
@@ -101,8 +110,18 @@ impl LinePart {
     {
         matches!(
             self,
-            LinePart::UserScope | LinePart::HostScope | LinePart::CommandScope
+            LinePart::UserScope
+                | LinePart::RunasScope
+                | LinePart::HostScope
+                | LinePart::CommandScope
         )
+    }
+
+    /// Returns whether parameters of Defaults stand in the part.
+    pub fn has_parameters(self) -> bool
+        ensures { result ≡ is_parameters self }
+    {
+        matches!(self, LinePart::Parameters | LinePart::NegatedParameters)
     }
 
     /// Returns the part of the token `text`, behind a token of the kind `before` and another one before that.
@@ -131,14 +150,63 @@ impl LinePart {
     {
         match self {
             LinePart::Hosts if text == b"=".as_slice() => LinePart::Commands,
-            LinePart::RunasUsers if text == b":".as_slice() => LinePart::Groups,
-            LinePart::RunasUsers | LinePart::Groups if text == b")".as_slice() =>
-                LinePart::Commands,
+            LinePart::RunasUsers => find_part_after_runas_token(
+                LinePart::RunasAll,
+                LinePart::RunasUsers,
+                text,
+            ),
+            LinePart::RunasAll => find_part_after_runas_token(
+                LinePart::RunasAll,
+                LinePart::RunasAll,
+                text,
+            ),
+            LinePart::RunasAliases => find_part_after_runas_token(
+                LinePart::RunasAliases,
+                LinePart::RunasAliases,
+                text,
+            ),
+            LinePart::Groups if text == b")".as_slice() => LinePart::Commands,
             LinePart::Commands => find_part_after_command_token(kind, text),
             LinePart::OptionName => LinePart::OptionValue,
             LinePart::OptionValue | LinePart::TagOrDigestKind => LinePart::Commands,
+            LinePart::Parameters => find_part_after_parameter_token(
+                LinePart::NegatedParameters,
+                text,
+            ),
+            LinePart::NegatedParameters => find_part_after_parameter_token(
+                LinePart::Parameters,
+                text,
+            ),
             part => part,
         }
+    }
+}
+
+/// Returns the part behind the token `text` among users of a Runas_Spec: `all` behind `ALL`, and `other` behind a user that is no alias.
+fn find_part_after_runas_token(all: LinePart, other: LinePart, text: &[u8]) -> LinePart
+    ensures { result ≡ part_after_runas_token all other text.now }
+{
+    if text == b":".as_slice() {
+        LinePart::Groups
+    } else if text == b")".as_slice() {
+        LinePart::Commands
+    } else if text == b"ALL".as_slice() {
+        all
+    } else if is_name(text) {
+        LinePart::RunasAliases
+    } else {
+        other
+    }
+}
+
+/// Returns the part behind the token `text` among parameters: `marked` behind `!`.
+fn find_part_after_parameter_token(marked: LinePart, text: &[u8]) -> LinePart
+    ensures { result ≡ part_after_parameter_token marked text.now }
+{
+    if text == b"!".as_slice() {
+        marked
+    } else {
+        LinePart::Parameters
     }
 }
 

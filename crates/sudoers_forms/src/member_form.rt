@@ -85,6 +85,7 @@ impl LinePart {
                 | LinePart::TagOrDigestKind
                 | LinePart::CommandScope
                 | LinePart::Parameters
+                | LinePart::NegatedParameters
         )
     }
 

@@ -77,7 +77,7 @@ fn is_bare_sign(text: &[u8]) -> bool
 
 impl LinePart {
     /// Returns whether hosts stand in the part.
-    fn has_hosts(self) -> bool
+    pub fn has_hosts(self) -> bool
         ensures { result ≡ is_hosts self }
     {
         matches!(
@@ -98,7 +98,10 @@ impl LinePart {
     pub fn is_scope_of_names(self) -> bool
         ensures { result ≡ is_scope_of_names self }
     {
-        matches!(self, LinePart::UserScope | LinePart::HostScope)
+        matches!(
+            self,
+            LinePart::UserScope | LinePart::RunasScope | LinePart::HostScope
+        )
     }
 
     /// Returns whether the word `text` is an option for sudo in this part.

@@ -159,7 +159,7 @@ fn begins_signed_digit(text: &[u8]) -> bool
 }
 
 /// Returns whether `text` begins with a digit.
-fn begins_digit(text: &[u8]) -> bool
+pub fn begins_digit(text: &[u8]) -> bool
     ensures { result ≡ begins_digit text.now }
 {
     match text.first() {

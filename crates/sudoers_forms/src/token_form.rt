@@ -21,6 +21,8 @@ use sudoers_text::{TokenKind, begins_line_end, leading_blanks_len};
 /// A token, and what stands around it.
 #[derive(Clone, Copy)]
 pub struct TokenInLine<'a> {
+    /// The part in which the line begins.
+    pub first: LinePart,
     /// The part of the line in which it stands.
     pub part: LinePart,
     /// The text of the second token before it.
@@ -65,7 +67,7 @@ impl TokenInLine<'_> {
     {
         if self.part.is_scope() {
             self.find_form_of_scope_gap()
-        } else if self.part == LinePart::Parameters {
+        } else if self.part.has_parameters() {
             self.find_form_of_parameter_gap()
         } else {
             self.part.find_form_of_row(
@@ -292,7 +294,7 @@ fn skip_to_lf(gap: &[u8]) -> &[u8]
 }
 
 /// Returns whether the byte `first` with this behind it is a blank or in a continuation.
-fn is_gap_byte(first: u8, behind: &[u8]) -> bool
+pub fn is_gap_byte(first: u8, behind: &[u8]) -> bool
     ensures { result ≡ is_gap_byte first behind.now }
 {
     first == b' '

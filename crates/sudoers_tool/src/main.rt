@@ -20,6 +20,7 @@ mod explaining_edits;
 mod file_trouble;
 mod files;
 mod files_within_byte_budget;
+mod found_words;
 mod installed;
 mod json_output;
 mod kept_files;
@@ -40,6 +41,7 @@ mod target_notes;
 mod terminal;
 mod usage_errors;
 mod wish_options;
+mod word_notes;
 
 use crate::adapt_command::{ADAPT, run_adapt_command};
 use crate::all_errors::print_all_errors;

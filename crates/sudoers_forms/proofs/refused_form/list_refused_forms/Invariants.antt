@@ -1,9 +1,0 @@
-use Rattle.std.proofs.Common.{◌≡◌, ◌++◌, drop, map}
-use Rattle.sudoers_tree.specs.Line.{line_of_row}
-use Rattle.sudoers_forms.specs.Forms.{forms_of_lines}
-use Rattle.sudoers_forms.proofs.refused_form.list_refused_forms.Given as goal
-
-abbrev pub invariant-loop-number : goal.invariant-loop-number
-invariant-loop-number l =
-    l.refused.items ++ forms_of_lines l.number (map (line_of_row l.lines.tables.now) (drop l.number l.lines.rows.now))
-    ≡ forms_of_lines 0 (map (line_of_row l.lines.tables.now) l.lines.rows.now)
