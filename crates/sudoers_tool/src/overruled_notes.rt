@@ -2,15 +2,13 @@
 
 use crate::files::KeptDisk;
 use crate::json_output::JSON;
-use crate::report_notes::ReportNotes;
+use crate::report_notes::{ReportNotes, load_noted_policy};
 use clap::{Arg, ArgAction, ArgMatches};
 use std::alloc::{AllocError, Global};
 use sudoers_cvt_rules::CvtFault;
-use sudoers_files::gather;
 use sudoers_match_list::AskFault;
 use sudoers_review::{CompareFault, make_overruled_text};
 use sudoers_run::{LayerFault, ToolFault};
-use sudoers_tree::{LoadFault, Policy};
 
 /// The option that asks for the notes.
 const OVERRULED: &str = "overruled";
@@ -56,13 +54,8 @@ pub fn find_overruled_notes(
     if !are_overruled_notes_asked(words) {
         return Ok(notes);
     }
-    let found = gather(alloc, root.as_bytes(), files).map_err(LayerFault::from)?;
-    match Policy::load(alloc, found.as_slice()) {
-        Ok(policy) => {
-            notes.text = make_overruled_text(alloc, &policy).map_err(fault_of_comparison)?;
-            Ok(notes)
-        }
-        Err(LoadFault::NoMemory) => Err(ToolFault::from(AllocError)),
-        Err(_) => Ok(notes),
+    if let Some(policy) = load_noted_policy(alloc, root, files)? {
+        notes.text = make_overruled_text(alloc, &policy).map_err(fault_of_comparison)?;
     }
+    Ok(notes)
 }

@@ -1,9 +1,12 @@
 //! Notes behind the report of `check`.
 
+use crate::files::KeptDisk;
 use crate::json_output::write_document;
 use clap::ArgMatches;
-use std::alloc::Global;
-use sudoers_run::ToolFault;
+use std::alloc::{AllocError, Global};
+use sudoers_files::gather;
+use sudoers_run::{LayerFault, ToolFault};
+use sudoers_tree::{LoadFault, Policy};
 
 /// Notes, one on a line.
 #[derive(Drop)]
@@ -37,5 +40,20 @@ impl ReportNotes {
         } else {
             0
         }
+    }
+}
+
+/// Returns the policy `root`, about which notes are made. `files` are those of the policy. Returns nothing if they are no policy: the report
+/// prints why.
+pub fn load_noted_policy(
+    alloc: Global,
+    root: &str,
+    files: &mut KeptDisk,
+) -> Result<Option<Policy>, ToolFault> {
+    let found = gather(alloc, root.as_bytes(), files).map_err(LayerFault::from)?;
+    match Policy::load(alloc, found.as_slice()) {
+        Ok(policy) => Ok(Some(policy)),
+        Err(LoadFault::NoMemory) => Err(ToolFault::from(AllocError)),
+        Err(_) => Ok(None),
     }
 }

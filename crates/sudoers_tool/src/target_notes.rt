@@ -6,7 +6,7 @@ use crate::found_words::{
     place_of_parameter,
 };
 use crate::json_output::JSON;
-use crate::report_notes::ReportNotes;
+use crate::report_notes::{ReportNotes, load_noted_policy};
 use crate::word_notes::{make_notes_on_words, text_of_place};
 use clap::{Arg, ArgMatches};
 use std::alloc::{AllocError, Global};
@@ -14,10 +14,9 @@ use sudoers_defaults::{
     ParameterFault, ParameterGroup, list_refused_parameters, parameters_of_sudo,
     parameters_of_sudo_rs,
 };
-use sudoers_files::gather;
 use sudoers_forms::list_refused_forms;
 use sudoers_run::{LayerFault, ToolFault};
-use sudoers_tree::{LoadFault, Policy, Span};
+use sudoers_tree::{Policy, Span};
 
 /// The option that names the program that reads the policy.
 const TARGET: &str = "TARGET";
@@ -73,13 +72,10 @@ pub fn find_target_notes(
     let Some(target) = find_target(words) else {
         return Ok(notes);
     };
-    let found = gather(alloc, root.as_bytes(), files).map_err(LayerFault::from)?;
-    match Policy::load(alloc, found.as_slice()) {
-        Ok(policy) => return make_notes_on_policy(alloc, &policy, target).map_err(ToolFault::from),
-        Err(LoadFault::NoMemory) => return Err(ToolFault::from(AllocError)),
-        Err(_) => {}
+    match load_noted_policy(alloc, root, files)? {
+        Some(policy) => make_notes_on_policy(alloc, &policy, target).map_err(ToolFault::from),
+        None => Ok(notes),
     }
-    Ok(notes)
 }
 
 /// Returns the line and the column, with a colon between them, of the first word that sudo refuses in the policy with the text `text`, the
