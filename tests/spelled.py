@@ -10,7 +10,6 @@ read the names that the policy has.
 
 import json
 import random
-import shutil
 import subprocess
 from dataclasses import dataclass
 
@@ -23,6 +22,7 @@ from preload import with_library
 from program import SECONDS, Wanted
 from stand import Folder, Stand
 from tally import difference
+from written_instead import cvtsudoers
 
 PART = "spelled"
 LEAST_SPELLED, LONGEST = 8, 100_000
@@ -116,15 +116,12 @@ def status_of_visudo(folder, text):
     return subprocess.run([visudo(), "-c", "-f", "p"], capture_output=True, cwd=folder, timeout=SECONDS, check=False).returncode
 
 
-def names_of(folder):
-    """Returns what `cvtsudoers -f json` prints of the text that visudo looked at."""
-    words = [shutil.which("cvtsudoers") or "/usr/bin/cvtsudoers", "-f", "json", "p"]
-    return subprocess.run(words, capture_output=True, cwd=folder, timeout=SECONDS, check=False).stdout.decode()
-
-
 def problems_of_names(folder, names):
-    """Returns which of the names sudo does not read in the text that visudo looked at."""
-    read = names_of(folder) if names else ""
+    """Returns which of the names `cvtsudoers -f json` does not read in the text that visudo looked at."""
+    program = cvtsudoers(SUDO)
+    if not names or program is None:
+        return []
+    read = subprocess.run([program, "-f", "json", "p"], capture_output=True, cwd=folder, timeout=SECONDS, check=False).stdout.decode()
     return [f"sudo does not read {name!r}" for name in names if json.dumps(name) not in read]
 
 
