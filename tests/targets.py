@@ -572,7 +572,7 @@ def noted_by_program(stand, folder, texts):
     errors = stand.run("check --all p", folder).stdout.decode()
     left_out = {int(number) - 1 for number, _ in PLACED.findall(errors)}
     write_lines(folder, ["#" if at in left_out else text for at, text in enumerate(texts)])
-    came = stand.run("check --for sudo p", folder).stdout.decode()
+    came = without_answers(stand.run("check --for sudo p", folder).stdout).decode()
     head, _, notes = came.partition("\n")
     notes = "".join(note for note in notes.splitlines(keepends=True) if ": answered otherwise by sudo: " not in note)
     found = NOTED.findall(notes)

@@ -9,7 +9,7 @@ use Rattle.sudoers_grammar.specs.Piece.{has_first_byte, has_byte, is_arg, is_quo
 use Rattle.sudoers_tree.specs.Line.{Line}
 use Rattle.sudoers_tree.specs.declared.place.Span.{Span}
 use Rattle.sudoers_forms.specs.Addresses.{is_address}
-use Rattle.sudoers_forms.specs.Names.{content_of_token, is_groups}
+use Rattle.sudoers_forms.specs.Names.{form_if, form_or, content_of_token, is_groups}
 use Rattle.sudoers_forms.specs.Includes.{has_hex_escape}
 use Rattle.sudoers_forms.specs.Forms.{PlacedToken, is_gap_byte, list_of_lines, span_of_token}
 use Rattle.sudoers_forms.specs.declared.line_part.LinePart.{LinePart}
@@ -18,10 +18,6 @@ use Rattle.sudoers_forms.specs.declared.form.Form.{Form}
 use Rattle.sudoers_forms.specs.declared.cause.Cause.{Cause}
 use Rattle.sudoers_forms.specs.declared.cause.Cause.TheVariants as cause
 use Rattle.sudoers_forms.specs.declared.other_answer.OtherAnswer.{OtherAnswer}
-
-abbrev pub cause_if : Bool → Cause → Option Cause
-cause_if true c = Some c
-cause_if false c = None
 
 -- ---- users
 
@@ -47,7 +43,7 @@ is_name_behind sign text = starts_with nat_eq text sign && nat_lt (length sign) 
 abbrev pub cause_of_sign : LinePart → List ℕ → Option Cause
 cause_of_sign p text =
     if (has_users_of_rules p || has_hosts_of_rules p) && is_name_behind (codes "+") text then Some cause.Netgroup
-    else cause_if (has_users_of_rules p && is_name_behind (codes "%:") text) cause.NonUnixGroup
+    else form_if (has_users_of_rules p && is_name_behind (codes "%:") text) cause.NonUnixGroup
 
 -- ---- hosts
 
@@ -74,7 +70,7 @@ cause_of_host text =
     else (if is_address text && starts_with nat_eq text (codes "127.") then Some cause.Loopback
     else (if has_escape_of special_bytes_of_hosts false text then Some cause.EscapedWildcard
     else (if has_hex_escape false text then Some cause.HostEscape
-    else cause_if (has_set_of_others false text) cause.SetInHost)))
+    else form_if (has_set_of_others false text) cause.SetInHost)))
 
 abbrev pub has_wildcard : List ℕ → Bool
 has_wildcard text = has_byte 42 text || has_byte 63 text || has_byte 91 text
@@ -84,23 +80,19 @@ has_wildcard text = has_byte 42 text || has_byte 63 text || has_byte 91 text
 abbrev pub cause_of_bare_name : LinePart → List ℕ → Option Cause
 cause_of_bare_name p text =
     if has_hosts_of_rules p then cause_of_host text
-    else cause_if (is_groups p && is_name text && not (bytes_eq text (codes "ALL"))) cause.GroupAlias
+    else form_if (is_groups p && is_name text && not (bytes_eq text (codes "ALL"))) cause.GroupAlias
 
 -- In quotes sudo knows no `\x`, and takes a wildcard of a host as one.
 abbrev pub cause_of_quoted_name : LinePart → List ℕ → Option Cause
 cause_of_quoted_name p text =
-    if has_hosts_of_rules p then cause_if (has_wildcard text) cause.QuotedWildcard
-    else cause_if ((has_users_of_rules p || is_groups p) && has_hex_escape false text) cause.QuotedEscape
-
-abbrev pub cause_or : Option Cause → Option Cause → Option Cause
-cause_or None other = other
-cause_or (Some c) other = Some c
+    if has_hosts_of_rules p then form_if (has_wildcard text) cause.QuotedWildcard
+    else form_if ((has_users_of_rules p || is_groups p) && has_hex_escape false text) cause.QuotedEscape
 
 abbrev pub cause_of_plain_name : LinePart → TokenKind → List ℕ → Option Cause
 cause_of_plain_name p k text = if is_quoted k then cause_of_quoted_name p text else cause_of_bare_name p text
 
 abbrev pub cause_of_name : LinePart → TokenKind → List ℕ → Option Cause
-cause_of_name p k text = cause_or (cause_of_sign p (content_of_token k text)) (cause_of_plain_name p k text)
+cause_of_name p k text = form_or (cause_of_sign p (content_of_token k text)) (cause_of_plain_name p k text)
 
 -- ---- Runas_Spec
 
@@ -117,7 +109,7 @@ is_runas_users p = false
 abbrev pub cause_of_mark : LinePart → List ℕ → List ℕ → Option Cause
 cause_of_mark p before text =
     if bytes_eq text (codes ":") then cause_of_group_colon p before
-    else cause_if (is_runas_users p && bytes_eq before (codes "(") && bytes_eq text (codes ")")) cause.EmptyRunas
+    else form_if (is_runas_users p && bytes_eq before (codes "(") && bytes_eq text (codes ")")) cause.EmptyRunas
 
 -- ---- arguments
 
@@ -134,7 +126,7 @@ abbrev pub cause_of_argument : TokenKind → List ℕ → List ℕ → Option Ca
 cause_of_argument before_kind rest text =
     if is_sole_empty_argument before_kind rest text then Some cause.EmptyArgument
     else (if has_escape_of (92 ∷ []) false text then Some cause.TwoBackslashes
-    else cause_if (has_set_of_others false text) cause.SetInArgument)
+    else form_if (has_set_of_others false text) cause.SetInArgument)
 
 -- ---- parameters
 
@@ -150,13 +142,13 @@ cause_of_set_parameter first text =
     else (if bytes_eq text (codes "runas_check_shell") then Some cause.Shell
     else (if bytes_eq text (codes "runchroot") then Some cause.OtherRoot
     else (if bytes_eq text (codes "match_group_by_gid") then Some cause.GroupNumbers
-    else cause_if (is_scope_of_targets_or_commands first && bytes_eq text (codes "runas_default")) cause.OtherTarget)))
+    else form_if (is_scope_of_targets_or_commands first && bytes_eq text (codes "runas_default")) cause.OtherTarget)))
 
 abbrev pub cause_of_negated_parameter : List ℕ → Option Cause
 cause_of_negated_parameter text =
     if bytes_eq text (codes "case_insensitive_user") then Some cause.CaseOfUsers
     else (if bytes_eq text (codes "case_insensitive_group") then Some cause.CaseOfGroups
-    else cause_if (bytes_eq text (codes "root_sudo")) cause.RootUser)
+    else form_if (bytes_eq text (codes "root_sudo")) cause.RootUser)
 
 abbrev pub cause_of_parameter : LinePart → LinePart → List ℕ → Option Cause
 cause_of_parameter first part.NegatedParameters text = cause_of_negated_parameter text

@@ -15,12 +15,13 @@ use Rattle.sudoers_forms.specs.declared.line_part.LinePart.TheVariants as part
 use Rattle.sudoers_forms.specs.declared.form.Form.{Form}
 use Rattle.sudoers_forms.specs.declared.form.Form.TheVariants as form
 
-abbrev pub form_if : Bool → Form → Option Form
+-- the form of a table, if the test is passed
+abbrev pub form_if : {X : Type 0} → Bool → X → Option X
 form_if true f = Some f
 form_if false f = None
 
 -- the first of two forms
-abbrev pub form_or : Option Form → Option Form → Option Form
+abbrev pub form_or : {X : Type 0} → Option X → Option X → Option X
 form_or None f = f
 form_or (Some f) g = Some f
 

@@ -10,7 +10,7 @@ use Rattle.sudoers_grammar.specs.Piece.{has_first_byte, has_byte, is_comment, is
 use Rattle.sudoers_tree.specs.Line.{Line}
 use Rattle.sudoers_tree.specs.declared.place.Span.{Span}
 use Rattle.sudoers_forms.specs.Words.{is_option}
-use Rattle.sudoers_forms.specs.Names.{content_of_token, is_groups, is_hosts}
+use Rattle.sudoers_forms.specs.Names.{form_if, form_or, content_of_token, is_groups, is_hosts}
 use Rattle.sudoers_forms.specs.Forms.{PlacedToken, is_parameters, list_of_lines, span_of_token}
 use Rattle.sudoers_forms.specs.declared.line_part.LinePart.{LinePart}
 use Rattle.sudoers_forms.specs.declared.line_part.LinePart.TheVariants as part
@@ -19,15 +19,6 @@ use Rattle.sudoers_forms.specs.declared.sudo_rs_command.SetPlace.TheVariants as 
 use Rattle.sudoers_forms.specs.declared.sudo_rs_form.SudoRsForm.{SudoRsForm}
 use Rattle.sudoers_forms.specs.declared.sudo_rs_form.SudoRsForm.TheVariants as form
 use Rattle.sudoers_forms.specs.declared.sudo_rs_refusal.RefusedBySudoRs.{RefusedBySudoRs}
-
-abbrev pub rs_form_if : Bool → SudoRsForm → Option SudoRsForm
-rs_form_if true f = Some f
-rs_form_if false f = None
-
--- the first of two
-abbrev pub rs_form_or : Option SudoRsForm → Option SudoRsForm → Option SudoRsForm
-rs_form_or None other = other
-rs_form_or (Some f) other = Some f
 
 -- ---- names
 
@@ -57,14 +48,14 @@ name_behind_group_sign text =
 
 -- a user, a group or a member of a Runas_Spec without quotes
 abbrev pub rs_form_of_user : List ℕ → Option SudoRsForm
-rs_form_of_user name = rs_form_if (has_first_byte 95 name || has_other_byte_of_name false name) form.NameByte
+rs_form_of_user name = form_if (has_first_byte 95 name || has_other_byte_of_name false name) form.NameByte
 
 abbrev pub rs_form_of_group : List ℕ → Option SudoRsForm
 rs_form_of_group text = if has_first_byte 37 text then Some form.GroupSign else rs_form_of_user text
 
 -- a host without quotes
 abbrev pub rs_form_of_host : List ℕ → Option SudoRsForm
-rs_form_of_host text = rs_form_if (not (list_all is_byte_of_rs_name text)) form.HostByte
+rs_form_of_host text = form_if (not (list_all is_byte_of_rs_name text)) form.HostByte
 
 -- A quoted user begins so: a letter, a digit or one of these bytes, or `#` and a digit.
 abbrev pub is_first_byte_of_quoted : ℕ → Bool
@@ -83,7 +74,7 @@ begins_quoted_user content =
 -- It has no quote, tab or line end within.
 abbrev pub rs_form_of_quoted_user : List ℕ → Option SudoRsForm
 rs_form_of_quoted_user text =
-    rs_form_if (has_byte 9 text || has_byte 10 text || has_byte 34 (content_of_token kind.Quoted text) || not (begins_quoted_user (content_of_token kind.Quoted text))) form.QuotedUser
+    form_if (has_byte 9 text || has_byte 10 text || has_byte 34 (content_of_token kind.Quoted text) || not (begins_quoted_user (content_of_token kind.Quoted text))) form.QuotedUser
 
 -- the users of rules, aliases, Runas_Specs and scopes
 abbrev pub is_users_of_rs : LinePart → Bool
@@ -144,13 +135,13 @@ has_open_set p (b ∷ rest) = has_open_set (place_behind p b) rest
 abbrev pub rs_form_of_path : List ℕ → Option SudoRsForm
 rs_form_of_path text =
     if has_escape_beside escapes_of_rs_commands false text then Some form.Escape
-    else rs_form_if (has_open_set place.Outside text) form.OpenSet
+    else form_if (has_open_set place.Outside text) form.OpenSet
 
 -- Only spaces stand before an argument, and within one no line end.
 abbrev pub rs_form_of_argument : List ℕ → List ℕ → Option SudoRsForm
 rs_form_of_argument gap text =
     if has_byte 9 gap || has_byte 10 gap || has_byte 10 text then Some form.ArgumentGap
-    else rs_form_if (has_escape_beside escapes_of_rs_commands false text) form.Escape
+    else form_if (has_escape_beside escapes_of_rs_commands false text) form.Escape
 
 -- the value of CWD: `*`, or a folder from the root or a home without wildcards
 abbrev pub is_rs_folder : List ℕ → Bool
@@ -159,7 +150,7 @@ is_rs_folder text =
     || ((has_first_byte 47 text || has_first_byte 126 text) && not (has_byte 42 text) && not (has_escape_beside (32 ∷ 34 ∷ 92 ∷ []) false text))
 
 abbrev pub rs_form_of_value : List ℕ → TokenKind → List ℕ → Option SudoRsForm
-rs_form_of_value option k text = rs_form_if (bytes_eq option (codes "CWD") && (is_quoted k || not (is_rs_folder text))) form.Folder
+rs_form_of_value option k text = form_if (bytes_eq option (codes "CWD") && (is_quoted k || not (is_rs_folder text))) form.Folder
 
 abbrev pub is_rules : LinePart → Bool
 is_rules part.Users = true
@@ -171,7 +162,7 @@ rs_form_of_command_word first before text =
     if is_option text && not (bytes_eq text (codes "CWD")) then Some form.UnknownOption
     else (if bytes_eq text (codes "NOEXEC") || bytes_eq text (codes "INTERCEPT") then Some form.UnknownTag
     else (if bytes_eq text (codes "list") then Some form.ListCommand
-    else rs_form_if (is_rules first && bytes_eq text (codes "sudoedit") && not (bytes_eq before (codes "!"))) form.Editor))
+    else form_if (is_rules first && bytes_eq text (codes "sudoedit") && not (bytes_eq before (codes "!"))) form.Editor))
 
 abbrev pub is_list_of_commands : LinePart → Bool
 is_list_of_commands part.Commands = true
@@ -197,15 +188,15 @@ rs_form_of_kind t kind.Quoted = rs_form_of_member t
 rs_form_of_kind t kind.Digest = Some form.Digest
 rs_form_of_kind t kind.Path = rs_form_of_path t.text
 rs_form_of_kind t kind.Arg = rs_form_of_argument t.gap t.text
-rs_form_of_kind t kind.Punct = rs_form_if (is_parameters t.part && bytes_eq t.before (codes "!") && bytes_eq t.text (codes "!")) form.TwoMarks
+rs_form_of_kind t kind.Punct = form_if (is_parameters t.part && bytes_eq t.before (codes "!") && bytes_eq t.text (codes "!")) form.TwoMarks
 rs_form_of_kind t k = None
 
 -- CR stands before a line end, but in comments.
 abbrev pub rs_form_of_return : PlacedToken → Option SudoRsForm
-rs_form_of_return t = rs_form_if (has_byte 13 t.gap || (not (is_comment t.kind) && (t.is_at_return || has_byte 13 t.text))) form.Return
+rs_form_of_return t = form_if (has_byte 13 t.gap || (not (is_comment t.kind) && (t.is_at_return || has_byte 13 t.text))) form.Return
 
 abbrev pub rs_form_of_token : PlacedToken → Option SudoRsForm
-rs_form_of_token t = rs_form_or (rs_form_of_kind t t.kind) (rs_form_of_return t)
+rs_form_of_token t = form_or (rs_form_of_kind t t.kind) (rs_form_of_return t)
 
 abbrev pub refused_of_rs_form : Span → Option SudoRsForm → List RefusedBySudoRs
 refused_of_rs_form at None = []

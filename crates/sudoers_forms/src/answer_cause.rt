@@ -2,14 +2,14 @@
 
 ghost use Rattle.std.specs.Prelude.{◌≡◌};
 ghost use Rattle.sudoers_forms.specs.Seen.{model_of_judged_token};
-ghost use Rattle.sudoers_forms.specs.Answers.{cause_of_argument, cause_of_bare_name, cause_of_group_colon, cause_of_mark, cause_of_name, cause_of_negated_parameter, cause_of_parameter, cause_of_plain_name, cause_of_quoted_name, cause_of_set_parameter, cause_of_sign, cause_of_token, cause_of_token_kind, cause_or, cause_without_form, has_hosts_of_rules, has_users_of_rules, is_end_of_arguments, is_name_behind, is_scope_of_targets_or_commands, is_sole_empty_argument};
+ghost use Rattle.sudoers_forms.specs.Answers.{cause_of_argument, cause_of_bare_name, cause_of_group_colon, cause_of_mark, cause_of_name, cause_of_negated_parameter, cause_of_parameter, cause_of_plain_name, cause_of_quoted_name, cause_of_set_parameter, cause_of_sign, cause_of_token, cause_of_token_kind, cause_without_form, has_hosts_of_rules, has_users_of_rules, is_end_of_arguments, is_name_behind, is_scope_of_targets_or_commands, is_sole_empty_argument};
 
 use crate::cause::Cause;
 use crate::host_cause::{find_cause_of_host, has_escape_of, has_set_of_others, has_wildcard};
 use crate::include_form::has_hex_escape;
 use crate::judged_token::JudgedToken;
 use crate::line_part::LinePart;
-use crate::names::content_of_token;
+use crate::names::{choose_first_form, content_of_token};
 use crate::token_form::is_gap_byte;
 use sudoers_text::{TokenKind, is_name};
 
@@ -129,7 +129,7 @@ impl LinePart {
     fn find_cause_of_name(self, kind: TokenKind, text: &[u8]) -> Option<Cause>
         ensures { result ≡ cause_of_name self kind text.now }
     {
-        choose_first_cause(
+        choose_first_form(
             self.find_cause_of_sign(content_of_token(kind, text)),
             self.find_cause_of_plain_name(kind, text),
         )
@@ -172,16 +172,6 @@ impl LinePart {
         } else {
             find_cause_of_set_parameter(first, text)
         }
-    }
-}
-
-/// Returns the first of two causes.
-fn choose_first_cause(first: Option<Cause>, second: Option<Cause>) -> Option<Cause>
-    ensures { result ≡ cause_or first second }
-{
-    match first {
-        Some(cause) => Some(cause),
-        None => second,
     }
 }
 

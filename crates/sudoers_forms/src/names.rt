@@ -24,7 +24,7 @@ pub fn choose_form_if(is_passed: bool, form: Form) -> Option<Form>
 }
 
 /// Returns the first of two forms.
-pub fn choose_first_form(first: Option<Form>, second: Option<Form>) -> Option<Form>
+pub fn choose_first_form<T: Copy>(first: Option<T>, second: Option<T>) -> Option<T>
     ensures { result ≡ form_or first second }
 {
     match first {

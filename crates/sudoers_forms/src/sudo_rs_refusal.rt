@@ -4,10 +4,11 @@ ghost use Rattle.std.specs.Prelude.{◌≡◌, ◌++◌, map, IfOk, OnOk};
 ghost use Rattle.sudoers_forms.specs.Seen.{model_of_judged_token};
 ghost use Rattle.sudoers_line_rows.specs.View.{node_of_view};
 ghost use Rattle.sudoers_forms.specs.Forms.{list_by_table, tokens_of_node};
-ghost use Rattle.sudoers_forms.specs.SudoRs.{refused_of_rs_form, rs_form_of_kind, rs_form_of_member, rs_form_of_return, rs_form_of_token, rs_form_or, rs_forms_of_lines, rs_refused_of_token};
+ghost use Rattle.sudoers_forms.specs.SudoRs.{refused_of_rs_form, rs_form_of_kind, rs_form_of_member, rs_form_of_return, rs_form_of_token, rs_forms_of_lines, rs_refused_of_token};
 
 use crate::judged_token::{JudgedToken, list_tokens_of_line};
 use crate::line_part::LinePart;
+use crate::names::choose_first_form;
 use crate::spelling::has_byte;
 use crate::sudo_rs_command::{
     find_sudo_rs_form_of_argument, find_sudo_rs_form_of_path, find_sudo_rs_form_of_value,
@@ -144,15 +145,5 @@ impl JudgedToken<'_> {
         } else {
             None
         }
-    }
-}
-
-/// Returns the first of two forms.
-fn choose_first_form(first: Option<SudoRsForm>, second: Option<SudoRsForm>) -> Option<SudoRsForm>
-    ensures { result ≡ rs_form_or first second }
-{
-    match first {
-        Some(form) => Some(form),
-        None => second,
     }
 }
