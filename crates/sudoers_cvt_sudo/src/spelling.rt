@@ -15,8 +15,8 @@ use sudoers_forms::RefusedForm;
 use sudoers_text::{Lines, TextFault, cut};
 use sudoers_tree::{LoadFault, Policy};
 
-/// Returns `text`, which is printed of rules, spelled for sudo: each line that sudo refuses in a spelling that it reads, if the line says the
-/// same so.
+/// Returns `text`, which is printed of rules, spelled for sudo. A line that sudo refuses is in a spelling that it reads, if it says the same
+/// so.
 ///
 /// # Errors
 ///
