@@ -574,7 +574,6 @@ def noted_by_program(stand, folder, texts):
     write_lines(folder, ["#" if at in left_out else text for at, text in enumerate(texts)])
     came = without_answers(stand.run("check --for sudo p", folder).stdout).decode()
     head, _, notes = came.partition("\n")
-    notes = "".join(note for note in notes.splitlines(keepends=True) if ": answered otherwise by sudo: " not in note)
     found = NOTED.findall(notes)
     by_line = {int(number) - 1: (int(column), name, words) for number, column, name, words in found}
     if head != "p: parsed OK" or len(by_line) != notes.count("\n"):
