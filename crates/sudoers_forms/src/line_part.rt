@@ -38,10 +38,13 @@ pub enum LinePart {
     OptionValue,
     /// Directly behind a tag or a kind of digest.
     TagOrDigestKind,
-    /// The users of a scope of Defaults.
+    /// The users of Defaults.
     UserScope,
+    /// The users as whom commands of Defaults run.
     RunasScope,
+    /// The hosts of Defaults.
     HostScope,
+    /// The commands of Defaults.
     CommandScope,
     /// Parameters of Defaults.
     Parameters,

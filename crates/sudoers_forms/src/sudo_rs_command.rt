@@ -13,6 +13,7 @@ use sudoers_text::TokenKind;
 /// The bytes that sudo-rs escapes in paths and arguments, and in the value of CWD.
 const ESCAPES_OF_COMMANDS: &[u8] = b",:=#\\ ";
 
+/// The bytes that sudo-rs escapes in the value of CWD in quotes.
 const ESCAPES_OF_FOLDERS: &[u8] = b" \"\\";
 
 /// A place in a path: in no set, behind `[`, behind `[!`, or further on in a set.

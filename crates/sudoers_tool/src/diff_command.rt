@@ -188,8 +188,8 @@ fn load_side(
     Ok(policy)
 }
 
-/// Prints in what the policies differ. Returns the exit status: 0 if nothing differs, or with `--granted` if `words` have it and nothing may be
-/// granted.
+/// Prints in what the policies differ. Returns the exit status. It is 0 if nothing differs. If `words` have `--granted`, it is 0 too where
+/// only parameters differ that this program does not weigh.
 fn print_changes(rt: &HostRuntime, words: &ArgMatches<'_>, changes: ChangesText) -> u8 {
     let mut text = changes.answers;
     let may_differ = !text.is_empty();
@@ -234,7 +234,7 @@ fn explain_error_of_side(
     )
 }
 
-/// Returns what tells an error of `side` from one of the other side, if `words` have one name for both.
+/// Returns the label of `side` if `words` name one file for both policies, and else nothing.
 fn label_of_side(words: &ArgMatches<'_>, side: Side) -> &'static [u8] {
     if words.get_str(OLD) == words.get_str(NEW) {
         side.label
