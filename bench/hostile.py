@@ -109,6 +109,13 @@ def shuffled_lists():
     return b"".join(b", ".join(draw.sample(users, len(users))) + b" ALL=/a\n" for _ in range(16))
 
 
+def long_users(order=1):
+    """A rule of 80 commands for 500 users with long names, in this order or in the other one."""
+    users = [b"x" * 900 + b"%03d" % n for n in range(500)][::order]
+    aliases = b"".join(b"User_Alias U%d = " % n + b", ".join(users[50 * n : 50 * n + 50]) + b"\n" for n in range(10))
+    return aliases + b", ".join(b"U%d" % n for n in range(10)) + b" ALL=" + b", ".join(b"/c%d" % n for n in range(80)) + b"\n"
+
+
 def one_pattern(pattern):
     """A rule whose arguments are a pattern."""
     return b"u ALL=/b *" + pattern + b"\n"
@@ -162,11 +169,11 @@ def planning(folder, name, policy, wish):
     return ["plan", path, wish], ["plan", plain, wish]
 
 
-def comparing(folder, name, old, new):
+def comparing(folder, name, old, new, *options):
     """The comparison of two policies, and of an ordinary policy with itself."""
     paths = file_in(folder, f"{name}-old", old), file_in(folder, f"{name}-new", new)
     plain = file_in(folder, f"{name}-plain", b"".join(policies.policy(len(old))))
-    return ["diff", *paths], ["diff", plain, plain]
+    return ["diff", *options, *paths], ["diff", *options, plain, plain]
 
 
 def including(folder, name, count):
@@ -189,6 +196,7 @@ def commands(folder):
     equals, quotes = plain_equals(), quoted_arguments()
     rules, shuffled = one_command(), shuffled_lists()
     turned = one_command(-1)
+    named, renamed = long_users(), long_users(-1)
     made = (
         ("`convert -e`, a chain of 4,096 and 65,400 mentions", 0, chain, converting(folder, "chain", chain, ("-e",), ("-e",), len(chain))),
         ("`convert -m`, 64 values and 16,384 aliases", 0, many, converting(folder, "values", many, ("-m", values), ("-m", "user=x1"), len(many))),
@@ -205,6 +213,7 @@ def commands(folder):
         ("`check --overruled`, 65,536 rules of one command", 0, rules, running(folder, "rules", rules, "check", "--overruled")),
         ("`check --overruled`, 16 rules of 9,000 users in another order", 0, shuffled, running(folder, "shuffled", shuffled, "check", "--overruled")),
         ("`diff`, 65,536 rules in the other order", 1, rules, comparing(folder, "turned", rules, turned)),
+        ("`diff --granted`, 500 long users in another order and 80 commands", 1, named, comparing(folder, "named", named, renamed, "--granted")),
         ("`list COMMAND`, `*` and 30,000 `[`", 0, unclosed, listing(folder, "unclosed", unclosed, b"", (), ("/b", "[" * 60_000))),
     )
     for name, status, policy, (words, ordinary) in made:

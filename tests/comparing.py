@@ -214,11 +214,21 @@ WRONG_WORDS = (
 MEMBER_LIMIT = 65_536
 COMPARED = 64
 WORST_SECONDS = 10
+PAIRS_LIMIT = 16_777_216
+LONG_USERS = 500
 
 
 def alias_of(name, members):
     """Returns an alias of users."""
     return f"User_Alias {name} = {', '.join(members)}\n"
+
+
+def policy_of_long_users(count, step=1):
+    """Returns a policy of one rule with this number of commands, whose users have long names and stand in aliases."""
+    users = ["x" * 900 + f"{number:03}" for number in range(LONG_USERS)][::step]
+    aliases = "".join(alias_of(f"U{first}", users[first : first + 50]) for first in range(0, LONG_USERS, 50))
+    mentions = ", ".join(f"U{first}" for first in range(0, LONG_USERS, 50))
+    return aliases + f"{mentions} ALL = " + ", ".join(f"/bin/c{number}" for number in range(count)) + "\n"
 
 
 def run_limits(stand):
@@ -255,6 +265,10 @@ def run_limits(stand):
             stand.tally.note(f"{PART}: {name}, --overruled", difference("status", 0, came.status))
             came = stand.run("diff old new", folder, seconds=WORST_SECONDS)
             stand.tally.note(f"{PART}: {name}, diff", difference("last line", b"+ eve ALL = ALL", came.stdout[-200:].split(b"\n")[-2][:15] if came.stdout else b""))
+    for name, count, left in (("as many pairs of members as are compared", PAIRS_LIMIT // LONG_USERS**2, 0), ("more pairs of members", 80, 80 - PAIRS_LIMIT // LONG_USERS**2)):
+        with Folder({"old": policy_of_long_users(count), "new": policy_of_long_users(count, -1)}) as folder:
+            came = stand.run("diff --granted old new", folder, seconds=WORST_SECONDS)
+            stand.tally.note(f"{PART}: {name}, --granted", difference("status", 1 if left else 0, came.status) or difference("lines", left, came.stdout.count(b"\n")))
 
 
 # ---- random policies -----------------------------------------------------------------------
