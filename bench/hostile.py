@@ -109,6 +109,12 @@ def shuffled_lists():
     return b"".join(b", ".join(draw.sample(users, len(users))) + b" ALL=/a\n" for _ in range(16))
 
 
+def many_denials():
+    """Lines of 16,000 denials behind `ALL`, each on the 9,000 hosts of an alias."""
+    hosts = b",".join(b"h%d" % n for n in range(9_000))
+    return b"Host_Alias H=" + hosts + b"\n" + (b"ann H=ALL" + b",!/a" * 16_000 + b"\n") * 7
+
+
 def long_users(order=1):
     """A rule of 80 commands for 500 users with long names, in this order or in the other one."""
     users = [b"x" * 900 + b"%03d" % n for n in range(500)][::order]
@@ -197,6 +203,7 @@ def commands(folder):
     rules, shuffled = one_command(), shuffled_lists()
     turned = one_command(-1)
     named, renamed = long_users(), long_users(-1)
+    denials = many_denials()
     made = (
         ("`convert -e`, a chain of 4,096 and 65,400 mentions", 0, chain, converting(folder, "chain", chain, ("-e",), ("-e",), len(chain))),
         ("`convert -m`, 64 values and 16,384 aliases", 0, many, converting(folder, "values", many, ("-m", values), ("-m", "user=x1"), len(many))),
@@ -212,6 +219,7 @@ def commands(folder):
         ("`plan 'no-user u'`, a chain of 4,096 aliases", 0, leaver, planning(folder, "leaver", leaver, "no-user u")),
         ("`check --overruled`, 65,536 rules of one command", 0, rules, running(folder, "rules", rules, "check", "--overruled")),
         ("`check --overruled`, 16 rules of 9,000 users in another order", 0, shuffled, running(folder, "shuffled", shuffled, "check", "--overruled")),
+        ("`check --lint`, 112,000 denials behind `ALL` on 9,000 hosts", 0, denials, running(folder, "denials", denials, "check", "--lint")),
         ("`diff`, 65,536 rules in the other order", 1, rules, comparing(folder, "turned", rules, turned)),
         ("`diff --granted`, 500 long users in another order and 80 commands", 1, named, comparing(folder, "named", named, renamed, "--granted")),
         ("`list COMMAND`, `*` and 30,000 `[`", 0, unclosed, listing(folder, "unclosed", unclosed, b"", (), ("/b", "[" * 60_000))),

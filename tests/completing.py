@@ -43,9 +43,12 @@ OPTIONS_OF_LIST = (
 )
 OPTIONS_OF_CHECK = (
     *("-h", "--help", "-q", "-s", "--root", "--skipped", "--installed", "--dialect", "--for", "--all", "--json"),
-    *("--error-status", "--explain", "--overruled", "--plain"),
+    *("--error-status", "--explain", "--lint", "--overruled", "--plain"),
 )
-OPTIONS_OF_DIFF = ("--dialect", "--explain", "--granted", "-h", "--help", "--new-root", "--old-root", "--plain")
+OPTIONS_OF_DIFF = (
+    *("--dialect", "--explain", "--granted", "-h", "--help", "--new-root", "--old-root", "--plain"),
+    *("--passwd", "--group-file", "--host", "--moment", "--interfaces"),
+)
 OPTIONS_OF_SHOW = ("--dialect", "--error-status", "--explain", "-h", "--help", "--json", "--members", "--plain", "--root")
 OPTIONS_OF_MACHINE = (
     *("--dialect", "--policy", "--passwd", "--group-file", "--host", "--moment", "--interfaces", "--json"),
@@ -110,6 +113,8 @@ ROWS = (
     (("show", "--j"), ("--json",)),
     (("check", "--o"), ("--overruled",)),
     (("check", "--overruled", "w"), ("web team",)),
+    (("check", "--l"), ("--lint",)),
+    (("check", "--lint", "w"), ("web team",)),
     (("check", "--r"), ("--root",)),
     (("check", "--root", ""), (FOLDER,)),
     (("check", "--root", "p"), ()),
@@ -181,7 +186,12 @@ ROWS = (
     (("diff", "policy", "w"), ("web team",)),
     (("diff", "-", "p"), ("policy",)),
     (("diff", "policy", "--pl"), ("--plain",)),
-    (("diff", "policy", "policy", "w"), ()),
+    (("diff", "policy", "policy", "roo"), ("root",)),
+    (("diff", "policy", "policy", "root", "roo"), ("root",)),
+    (("diff", "--passwd", "p"), ("policy",)),
+    (("diff", "--group-file", "w"), ("web team",)),
+    (("diff", "--host", "h", "p"), ("policy",)),
+    (("diff", "--moment", "2026", "--interfaces", "10.0.0.1/8", "policy", "w"), ("web team",)),
     (("l",), ("list",)),
     (("list", "-"), OPTIONS_OF_LIST),
     (("list", "--o"), ("--other-user",)),

@@ -335,14 +335,20 @@ BY_PROGRAM = {
     "comparing": (
         "compare::choose_marks",
         "compare::find_overrulings",
+        "compare::find_overrulings_of_specs",
         "compare::flatten_runas_defaults",
         "compare::flatten_scope",
         "compare::flatten_specs",
         "compare::list_flat_rows",
         "compare::mark_changed_rows",
+        "compare::mark_changed_rows_of_specs",
         "review::append_row",
         "review::make_changes_text",
         "review::make_overruled_text",
+    ),
+    "linting": (
+        "lint::find_lint_findings",
+        "lint::make_lint_text",
     ),
 }
 

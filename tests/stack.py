@@ -24,6 +24,7 @@ ARGUMENT = "a" * 65_536
 COMMANDS = (
     *((words, ()) for words in (("show",), ("show", "--json"), ("check",), ("check", "-s"), ("check", "--all", "--json"))),
     (("check", "--overruled"), ()),
+    (("check", "--lint"), ()),
     (("diff", "../people/none"), ()),
     *((("convert", "-f", form, *more), ()) for form in ("sudoers", "json") for more in ((), ("-e",))),
     *((("convert", "-f", "sudoers", *more, "-m", "user=bob,host=h1"), ()) for more in ((), ("-e", "-p"))),

@@ -15,7 +15,7 @@ function __sudoers_tool_plain_words
         else if test -z "$no_options"; and string match --quiet -- '-?*' $word
             # These options take the next word.
             contains -- "$plain[1]" adapt apply check convert edit list place plan show what who why; and contains -- $word --root --error-status; and set option $word
-            contains -- "$plain[1]" diff; and contains -- $word --old-root --new-root; and set option $word
+            contains -- "$plain[1]" diff; and contains -- $word --old-root --new-root --passwd --group-file --host --moment --interfaces; and set option $word
             contains -- "$plain[1]" check convert; and contains -- $word --for; and set option $word
             contains -- "$plain[1]" check convert diff list show what who why; and contains -- $word --dialect; and set option $word
             contains -- "$plain[1]" apply plan; and contains -- $word --also --after --before; and set option $word
@@ -44,6 +44,12 @@ function __sudoers_tool_argument_of
     test (count $plain) -eq 1; or test $plain[1] = check; and return 0
     test $plain[1]:(count $plain) = diff:2; and return 0
     test $plain[1]:(count $plain) = apply:2; and not string match --quiet -- '--wish*' (commandline -opc)
+end
+
+# Succeeds if the next word is a user of diff.
+function __sudoers_tool_user_of_diff
+    set -l plain (__sudoers_tool_plain_words); or return 1
+    test (count $plain) -ge 3; and test $plain[1] = diff
 end
 
 # Succeeds if the next word is a wish of plan.
@@ -156,6 +162,7 @@ complete -c sudoers_tool -n '__fish_seen_subcommand_from check' -l skipped -d 'L
 complete -c sudoers_tool -n '__fish_seen_subcommand_from check' -l installed -d 'List links, and what sudo refuses for its owner or mode'
 complete -c sudoers_tool -n '__fish_seen_subcommand_from check' -l for -x -a 'sudo sudo-rs' -d 'List Defaults, other forms and includes that this program refuses'
 complete -c sudoers_tool -n '__fish_seen_subcommand_from check' -l overruled -d 'List the commands that never decide'
+complete -c sudoers_tool -n '__fish_seen_subcommand_from check' -l lint -d 'Warn of rules that give away more than they seem to'
 complete -c sudoers_tool -n '__fish_seen_subcommand_from check convert diff show' -l dialect -x -a sudo -d 'Read the policy in this dialect'
 complete -c sudoers_tool -n __sudoers_tool_option_of_list -l dialect -x -a sudo -d 'Read the policy in this dialect'
 complete -c sudoers_tool -n '__sudoers_tool_option_of what who why' -l dialect -x -a sudo -d 'Read the policy in this dialect'
@@ -168,6 +175,12 @@ complete -c sudoers_tool -n '__fish_seen_subcommand_from convert' -s p -l prune-
 complete -c sudoers_tool -n '__fish_seen_subcommand_from diff' -l granted -d 'Print only what may grant something'
 complete -c sudoers_tool -n '__fish_seen_subcommand_from diff' -l old-root -x -a '(__fish_complete_directories)' -d 'Folder that is the root for OLD and the files that it includes'
 complete -c sudoers_tool -n '__fish_seen_subcommand_from diff' -l new-root -x -a '(__fish_complete_directories)' -d 'Folder that is the root for NEW and the files that it includes'
+complete -c sudoers_tool -n '__fish_seen_subcommand_from diff' -l passwd -r -F -d 'File of users, as /etc/passwd: print what each is granted otherwise'
+complete -c sudoers_tool -n '__fish_seen_subcommand_from diff' -l group-file -r -F -d 'File of groups, as /etc/group'
+complete -c sudoers_tool -n '__fish_seen_subcommand_from diff' -l host -x -d 'Long name of the host'
+complete -c sudoers_tool -n '__fish_seen_subcommand_from diff' -l moment -x -d 'Moment of examples in UTC, as 20260101120000Z'
+complete -c sudoers_tool -n '__fish_seen_subcommand_from diff' -l interfaces -x -d 'Addresses of the host, as 10.1.2.9/24'
+complete -c sudoers_tool -n __sudoers_tool_user_of_diff -a '(__fish_complete_users)'
 complete -c sudoers_tool -n '__fish_seen_subcommand_from edit' -l files -r -F -d 'Script for a policy and the files that it includes'
 complete -c sudoers_tool -n '__fish_seen_subcommand_from apply edit plan' -l also -r -F -d 'Further file, spelled as show spells it'
 complete -c sudoers_tool -n '__fish_seen_subcommand_from edit' -l undo -x -d 'Number of edits to take back after the script'

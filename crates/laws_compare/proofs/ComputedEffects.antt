@@ -95,7 +95,7 @@ verdict_decided_allow_is_allow Allow e = refl
 verdict_decided_allow_is_allow v e = absurd (true≢false (sym e))
 
 module _ (law : FlatListIsUnique) (lines : List Line) (who : Who) where
-  abbrev HasOwnRowsWithGrants : List PrivilegeRow → List Grant → Type 0
+  abbrev pub HasOwnRowsWithGrants : List PrivilegeRow → List Grant → Type 0
   HasOwnRowsWithGrants rows grants = (own : List PrivilegeRow) × AreAllItemsWith (IsRowForUserOnHost lines who) rows own × IsPointwiseRelated (IsGrantOfRow lines) own grants
 
   row_decided_for_user_on_host_is_for_user_on_host : (row : PrivilegeRow) (flat : FlatPrivilegeRow) → IsFlatRowOf lines row flat
@@ -118,7 +118,7 @@ module _ (law : FlatListIsUnique) (lines : List Line) (who : Who) where
       ap (λ (v : Verdict). is_allow_verdict v && is_allowed_by_flat_list (is_host_atom_match who) flat.hosts) user ∙ ap is_allow_verdict host in
       true≢false (sym both ∙ e)
 
-  rows_for_user_on_host_have_computed_grants : (rows : List PrivilegeRow) (flats : List FlatPrivilegeRow) → IsPointwiseRelated (IsFlatRowOf lines) rows flats
+  pub rows_for_user_on_host_have_computed_grants : (rows : List PrivilegeRow) (flats : List FlatPrivilegeRow) → IsPointwiseRelated (IsFlatRowOf lines) rows flats
       → HasOwnRowsWithGrants rows (grants_of_rows_for_user_on_host who flats)
   rows_for_user_on_host_have_computed_grants [] [] all = ([], no_item_more, tt)
   rows_for_user_on_host_have_computed_grants [] (f ∷ flats) all = absurd all

@@ -8,5 +8,5 @@ mod SameGrants
 mod ComputedContents
 pub mod SameAtoms
 mod DecidedCovers
-mod ComputedEffects
+pub mod ComputedEffects
 mod NoMore

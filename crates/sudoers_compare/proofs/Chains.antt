@@ -170,3 +170,46 @@ chain_goes_on passes row later rows next_numbers (suc most) n k next found some 
     let many : nat_lt (suc most) (length (filter passes (drop n rows))) ≡ nat_lt most (length (filter passes (drop (k + 1) rows))) = ap (nat_lt (suc most)) first.passing ∙ one_fewer_of_one_fewer most (length (filter passes (drop (k + 1) rows))) in
     is ∙ ap (λ (m : ℕ). overruling_among_passing passes row m (k + 1) (drop (k + 1) rows)) less
     ∙ sym (ap₂ (λ by more. the_overruling by (not (is_some by) && more)) number many)
+
+-- ---- a search along a chain
+
+-- What is found among so many rows from here on is what is found among all.
+pub record IsOnChain (passes : FlatPrivilegeRow → Bool) (rows : List FlatPrivilegeRow) (row : FlatPrivilegeRow) (most n : ℕ) (reached : Option ℕ) (left : ℕ) : Type 0 where
+  pub from : ℕ
+  pub stands : reached ≡ first_passing_number passes from (drop from rows)
+  pub same : overruling_among_passing passes row left from (drop from rows) ≡ overruling_among_passing passes row most n (drop n rows)
+
+pub chain_begins : (passes : FlatPrivilegeRow → Bool) (rows : List FlatPrivilegeRow) (row : FlatPrivilegeRow) (most n : ℕ) (start : Option ℕ) → start ≡ first_passing_number passes n (drop n rows)
+    → IsOnChain passes rows row most n start most
+chain_begins passes rows row most n start stands = record { from = n; stands = stands; same = refl }
+
+pub chain_leads_on : (passes : FlatPrivilegeRow → Bool) (row later : FlatPrivilegeRow) (rows : List FlatPrivilegeRow) (next_numbers : List (Option ℕ)) (most n k left : ℕ) (next : Option ℕ)
+    → IsOnChain passes rows row most n (Some k) left → 0 < left → AreNextNumbers passes rows next_numbers → slice_get rows k ≡ Some later → is_covering_row later row ≡ false
+    → ((is : Option ℕ) → slice_get next_numbers k ≡ Some is → next ≡ is) → IsOnChain passes rows row most n next (left - 1)
+chain_leads_on passes row later rows next_numbers most n k left next so_far some are stands denied is_next =
+    let first = first_passing_is_next passes rows so_far.from (drop so_far.from rows) k refl (sym so_far.stands) in
+    let behind = first_passing_number passes (k + 1) (drop (k + 1) rows) in
+    record {
+      from = k + 1;
+      stands = is_next behind (are k first.later first.stands first.pass);
+      same = chain_goes_on passes row later rows next_numbers left so_far.from k behind (overruling_among_passing passes row (left - 1) (k + 1) (drop (k + 1) rows)) some are (sym so_far.stands) stands denied
+          (λ is e. one_item_is_the_other (sym (are k first.later first.stands first.pass) ∙ e)) (λ _. refl)
+          ∙ so_far.same;
+    }
+
+pub chain_ends : (passes : FlatPrivilegeRow → Bool) (rows : List FlatPrivilegeRow) (row : FlatPrivilegeRow) (most n left : ℕ) (reached : Option ℕ) → IsOnChain passes rows row most n reached left → reached ≡ None
+    → the_overruling None false ≡ overruling_among_passing passes row most n (drop n rows)
+chain_ends passes rows row most n left reached so_far none =
+    no_row_is_found_off_chain passes row left so_far.from (drop so_far.from rows) (sym so_far.stands ∙ none) ∙ so_far.same
+
+pub chain_is_left : (passes : FlatPrivilegeRow → Bool) (rows : List FlatPrivilegeRow) (row : FlatPrivilegeRow) (most n k left : ℕ) → IsOnChain passes rows row most n (Some k) left → left ≡ 0
+    → the_overruling None true ≡ overruling_among_passing passes row most n (drop n rows)
+chain_is_left passes rows row most n k left so_far none = rows_are_left_out_at_limit passes row rows left so_far.from k none (sym so_far.stands) ∙ so_far.same
+
+pub row_on_chain_covers : (passes : FlatPrivilegeRow → Bool) (row later : FlatPrivilegeRow) (rows : List FlatPrivilegeRow) (most n k left : ℕ) → IsOnChain passes rows row most n (Some k) left → 0 < left
+    → slice_get rows k ≡ Some later → is_covering_row later row ≡ true → the_overruling (Some k) false ≡ overruling_among_passing passes row most n (drop n rows)
+row_on_chain_covers passes row later rows most n k left so_far some stands covers = covering_row_is_found passes row later rows left so_far.from k some (sym so_far.stands) stands covers ∙ so_far.same
+
+pub no_row_is_missing_on_chain : (passes : FlatPrivilegeRow → Bool) (rows : List FlatPrivilegeRow) (row : FlatPrivilegeRow) (most n k left : ℕ) → IsOnChain passes rows row most n (Some k) left
+    → (later : FlatPrivilegeRow) × (slice_get rows k ≡ Some later)
+no_row_is_missing_on_chain passes rows row most n k left so_far = row_on_chain_stands passes rows so_far.from k (sym so_far.stands)

@@ -106,7 +106,7 @@ found_first_or_second : (a b : Option ℕ) (number : ℕ) → option_or a b ≡ 
 found_first_or_second None b number e = inr e
 found_first_or_second (Some k) b number e = inl e
 
-overruling_row_covers : (row : FlatPrivilegeRow) (n : ℕ) (behind : List FlatPrivilegeRow) (number : ℕ) → overruling_row_number row n behind ≡ Some number → IsCoveredByNumber row n behind number
+pub overruling_row_covers : (row : FlatPrivilegeRow) (n : ℕ) (behind : List FlatPrivilegeRow) (number : ℕ) → overruling_row_number row n behind ≡ Some number → IsCoveredByNumber row n behind number
 overruling_row_covers row n behind number e =
     let by_same = covering_row_number (is_row_of_same_command row) row compared_row_limit n behind in
     let by_all = covering_row_number is_row_of_all row compared_row_limit n behind in

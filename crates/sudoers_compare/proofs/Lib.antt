@@ -2,10 +2,15 @@ mod Chains
 mod EqualContents
 mod FlatCommands
 mod FlatSettings
-mod FoundRows
+pub mod FoundRows
+mod KeptLists
+mod KeptMembers
+mod KnownLists
+mod ListBits
 mod MarkedRows
+mod MemberIndexes
 mod NextNumbers
 mod PlacedRows
 mod SameMembers
-mod SameRows
+pub mod SameRows
 mod SameSettings

@@ -167,14 +167,14 @@ runas_lists_are_alike a = both_true (option_is_alike is_same_flat_list flat_list
 value_is_alike : (a : Option (List ℕ)) → is_same_option_value a a ≡ true
 value_is_alike a = option_is_alike bytes_eq bytes_are_alike a
 
-option_values_are_alike : (a : OptionValues) → are_same_option_values a a ≡ true
+pub option_values_are_alike : (a : OptionValues) → are_same_option_values a a ≡ true
 option_values_are_alike a =
     both_true (both_true (both_true (both_true (both_true (both_true (both_true (both_true (both_true (value_is_alike a.role) (value_is_alike a.kind)) (value_is_alike a.apparmor_profile)) (value_is_alike a.privs)) (value_is_alike a.limitprivs)) (value_is_alike a.notbefore)) (value_is_alike a.notafter)) (value_is_alike a.timeout)) (value_is_alike a.cwd)) (value_is_alike a.chroot)
 
 tag_is_alike : (a : Option Bool) → is_same_tag a a ≡ true
 tag_is_alike a = option_is_alike is_same_bool truth_values_are_alike a
 
-tags_are_alike : (a : CommandTags) → are_same_tags a a ≡ true
+pub tags_are_alike : (a : CommandTags) → are_same_tags a a ≡ true
 tags_are_alike a =
     both_true (both_true (both_true (both_true (both_true (both_true (both_true (tag_is_alike a.exec) (tag_is_alike a.follow)) (tag_is_alike a.intercept)) (tag_is_alike a.log_input)) (tag_is_alike a.log_output)) (tag_is_alike a.mail)) (tag_is_alike a.passwd)) (tag_is_alike a.setenv)
 

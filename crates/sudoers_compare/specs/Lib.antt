@@ -1,8 +1,13 @@
 pub mod AllInForce
+pub mod AtomNumbers
 pub mod FlatDefaults
 pub mod FlatRow
 pub mod FlatSpecs
+pub mod KnownAnswers
 pub mod Marked
+pub mod MemberIndex
 pub mod NextRows
 pub mod Overruled
+pub mod RowLists
+pub mod SameLists
 pub mod SameRow

@@ -9,6 +9,7 @@ use crate::command_atoms::is_command_atom_wider;
 use crate::flat_lists::is_list_wider;
 use crate::flat_row::FlatRow;
 use crate::runas_specs::is_runas_spec_wider;
+use std::alloc::Global;
 
 /// Returns whether there is no bound `wide`, or it is the same as `narrow`.
 fn is_time_bound_wider(wide: Option<&[u8]>, narrow: Option<&[u8]>) -> bool
@@ -25,7 +26,14 @@ fn is_time_bound_wider(wide: Option<&[u8]>, narrow: Option<&[u8]>) -> bool
 pub fn covers_grant(wide: &FlatRow<'_>, narrow: &FlatRow<'_>) -> bool
     ensures { result ≡ is_covering_grant (grant_of_view wide.now) (grant_of_view narrow.now) }
 {
-    is_runas_spec_wider(&wide.runas, &narrow.runas)
+    covers_grant_in(None, wide, narrow)
+}
+
+/// Returns the same as `covers_grant`. Long lists are indexed if there is `memory`.
+pub fn covers_grant_in(memory: Option<Global>, wide: &FlatRow<'_>, narrow: &FlatRow<'_>) -> bool
+    ensures { result ≡ is_covering_grant (grant_of_view wide.now) (grant_of_view narrow.now) }
+{
+    is_runas_spec_wider(memory, &wide.runas, &narrow.runas)
         && is_time_bound_wider(wide.options.notbefore, narrow.options.notbefore)
         && is_time_bound_wider(wide.options.notafter, narrow.options.notafter)
         && wide.member.digests.rows.is_empty()

@@ -52,7 +52,7 @@ fn keeps_all_in_force(so_far: bool, member: &Member<'_>) -> bool
 }
 
 /// Returns whether `row` says in `tables` what `other` says in `others`, with the same sign.
-fn is_same_member(row: &MemberRow, tables: &Tables, other: &MemberRow, others: &Tables) -> bool
+pub fn is_same_member(row: &MemberRow, tables: &Tables, other: &MemberRow, others: &Tables) -> bool
     ensures { result ≡ is_same_signed_atom (signed_atom_of_member (member_in_tables tables.now row.now)) (signed_atom_of_member (member_in_tables others.now other.now)) }
 {
     row.is_alike_across_tables(tables, other, others)
@@ -69,7 +69,7 @@ pub fn is_same_flat_list(
 }
 
 /// Returns whether the flat list `members` has the member `row` of `tables`, with its sign.
-fn has_member(members: &RowsOfTable<'_, MemberRow>, row: &MemberRow, tables: &Tables) -> bool
+pub fn has_member(members: &RowsOfTable<'_, MemberRow>, row: &MemberRow, tables: &Tables) -> bool
     ensures { result ≡ list_any (is_same_signed_atom (signed_atom_of_member (member_in_tables tables.now row.now))) (signed_atoms_of_view members.now) }
 {
     let mut rest = members.rows;

@@ -48,7 +48,11 @@ fn view_of_flat_runas<'f>(
 }
 
 /// Appends the rows of `command` to `out`. It stands on the line with the number `line`, behind these users and hosts.
-fn append_rows_of_command<'f>(
+///
+/// # Errors
+///
+/// Memory ran out.
+pub fn append_rows_of_command<'f>(
     line: usize,
     users: RowsOfTable<'f, MemberRow>,
     hosts: RowsOfTable<'f, MemberRow>,

@@ -112,10 +112,10 @@ fn flatten_commands<'a>(
         ≡ flat_map (placed_rows_of_command source.now.policy.now number users hosts) (commands_with_settings empty_command_settings (commands_of_range_in_tables source.now.lines.tables.now range))) }
 {
     let tables = source.lines.tables;
-    let mut commands = Vec::new(alloc);
+    let mut left = rows_in(tables.commands.as_slice(), range);
+    let mut commands = Vec::with_capacity(alloc, left.len())?;
     let mut settings = CommandSettings::make_empty_settings();
     let mut runas = None;
-    let mut left = rows_in(tables.commands.as_slice(), range);
     while let Some((row, behind)) = left.split_first() {
         settings.apply_settings_of_command(&tables.command_of_row(row));
         runas = row.runas.or(runas);
@@ -168,7 +168,7 @@ fn flatten_host_groups<'a>(
     ensures { IfOk result (λ groups. (number : ℕ) (users : List MemberOf) → flat_map (placed_rows_of_flat_host_group source.now.lines.tables.now number (flat_list_of_members OfUsers source.now.policy.now users)) groups.items
         ≡ flat_map (placed_rows_of_host_group source.now.policy.now number users) (map (host_group_in_tables source.now.lines.tables.now) rows.now)) }
 {
-    let mut groups = Vec::new(alloc);
+    let mut groups = Vec::with_capacity(alloc, rows.len())?;
     for row in rows {
         append_flat_host_group(alloc, source, row, allowance, &mut groups)?;
     }

@@ -1,12 +1,12 @@
 //! Rows that say the same.
 
-ghost use Rattle.std.specs.Prelude.{◌≡◌, ◌↔◌, true};
+ghost use Rattle.std.specs.Prelude.{◌≡◌, ◌↔◌, ◌&&◌, true};
 ghost use Rattle.std.specs.Option.{option_map};
 ghost use Rattle.sudoers_line_rows.specs.View.{member_of_view};
 ghost use Rattle.sudoers_match_list.specs.Flat.{signed_atom_of_member};
 ghost use Rattle.sudoers_match.specs.Values.{option_value_of_view, option_values_of_view};
-ghost use Rattle.laws_compare.specs.Decided.{is_same_signed_atom};
-ghost use Rattle.sudoers_compare.specs.FlatRow.{flat_row_of_view, flat_runas_spec_of_view, grant_of_view, optional_signed_atoms_of_view};
+ghost use Rattle.laws_compare.specs.Decided.{is_same_flat_list, is_same_signed_atom};
+ghost use Rattle.sudoers_compare.specs.FlatRow.{flat_row_of_view, flat_runas_spec_of_view, grant_of_view, optional_signed_atoms_of_view, signed_atoms_of_view};
 ghost use Rattle.sudoers_compare.specs.SameRow.{are_same_option_values, are_same_tags, have_same_effect, is_narrowed_row, is_same_flat_row, is_same_flat_runas_spec, is_same_grant, is_same_option_value, is_same_optional_flat_list, is_same_tag, is_unchanged_row};
 
 use crate::covering::covers_row;
@@ -64,7 +64,7 @@ fn is_same_value(value: Option<&[u8]>, other: Option<&[u8]>) -> bool
 }
 
 /// Returns whether each option has the same value in both.
-fn are_same_options(options: &CommandOptions<'_>, others: &CommandOptions<'_>) -> bool
+pub fn are_same_options(options: &CommandOptions<'_>, others: &CommandOptions<'_>) -> bool
     ensures { result ≡ are_same_option_values (option_values_of_view options.now) (option_values_of_view others.now) }
 {
     is_same_value(options.role, others.role)
@@ -91,7 +91,7 @@ fn is_same_tag(tag: Option<bool>, other: Option<bool>) -> bool
 }
 
 /// Returns whether each tag is set the same in both.
-fn are_same_tags(tags: &CommandTags, others: &CommandTags) -> bool
+pub fn are_same_tags(tags: &CommandTags, others: &CommandTags) -> bool
     ensures { result ≡ are_same_tags tags.now others.now }
 {
     is_same_tag(tags.exec, others.exec)
@@ -114,7 +114,7 @@ fn is_same_member(member: &Member<'_>, other: &Member<'_>) -> bool
 }
 
 /// Returns whether the rows allow or forbid the same. Users and hosts do not count.
-fn is_same_grant(row: &FlatRow<'_>, other: &FlatRow<'_>) -> bool
+pub fn is_same_grant(row: &FlatRow<'_>, other: &FlatRow<'_>) -> bool
     ensures { result ≡ is_same_grant (grant_of_view row.now) (grant_of_view other.now) }
 {
     is_same_runas_spec(&row.runas, &other.runas)
@@ -162,5 +162,22 @@ pub fn is_unchanged_row(counted: CountedChanges, old: &FlatRow<'_>, new: &FlatRo
     match counted {
         CountedChanges::All => has_same_parts(old, new),
         CountedChanges::Granting => has_same_parts(old, new) || is_narrowed_row(old, new),
+    }
+}
+
+/// Returns the same as `is_unchanged_row`. `are_same` says whether the users and the hosts of both are the same.
+pub fn is_unchanged_row_of_lists(
+    counted: CountedChanges,
+    are_same: bool,
+    old: &FlatRow<'_>,
+    new: &FlatRow<'_>,
+) -> bool
+    ensures { are_same ≡ (is_same_flat_list (signed_atoms_of_view old.now.users) (signed_atoms_of_view new.now.users) && is_same_flat_list (signed_atoms_of_view old.now.hosts) (signed_atoms_of_view new.now.hosts))
+        → result ≡ is_unchanged_row counted (flat_row_of_view old.now) (flat_row_of_view new.now) }
+{
+    let is_same = are_same && is_same_grant(old, new);
+    match counted {
+        CountedChanges::All => is_same,
+        CountedChanges::Granting => is_same || is_narrowed_row(old, new),
     }
 }

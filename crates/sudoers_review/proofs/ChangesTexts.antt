@@ -22,7 +22,7 @@ pub record AreMarksOfViews (which : CountedChanges) (olds news : List PlacedFlat
 rows_of_views_are_rows : (held : List PlacedFlatRow) (placed : List PlacedRow) → map placed_row_of_view held ≡ placed → map row_of_placed_view held ≡ map row_of_placed placed
 rows_of_views_are_rows held placed e = sym (rows_of_placed_are_rows_of_views held) ∙ ap (map row_of_placed) e
 
-marks_of_views_are_marks : (which : CountedChanges) (olds news : List PlacedFlatRow) (placed placed_too : List PlacedRow) (gone came : List Bool) → map placed_row_of_view olds ≡ placed → map placed_row_of_view news ≡ placed_too
+pub marks_of_views_are_marks : (which : CountedChanges) (olds news : List PlacedFlatRow) (placed placed_too : List PlacedRow) (gone came : List Bool) → map placed_row_of_view olds ≡ placed → map placed_row_of_view news ≡ placed_too
     → AreMarksOfViews which olds news gone came → AreChangeMarks which (map row_of_placed placed) (map row_of_placed placed_too) gone came
 marks_of_views_are_marks which olds news placed placed_too gone came e e_too are =
     let left : map row_of_placed_view olds ≡ map row_of_placed placed = rows_of_views_are_rows olds placed e in

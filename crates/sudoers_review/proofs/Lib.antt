@@ -1,7 +1,7 @@
-mod ChangesTexts
+pub mod ChangesTexts
 mod OverruledRows
 mod RowTexts
 mod SettingLines
-mod ShownRows
-mod SilentChanges
+pub mod ShownRows
+pub mod SilentChanges
 mod SilentGrants

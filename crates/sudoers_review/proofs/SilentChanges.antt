@@ -42,7 +42,7 @@ new_rows_without_line_are_unmarked old new ((false, row) ∷ olds) news e =
     no_marked_row_in_either_part news (rows_without_line_are_none new (marked_rows_in_front news) both.0)
     (new_rows_without_line_are_unmarked old new olds (rows_behind_first_unmarked news) both.1)
 
-rows_without_marks_are_left : (marks : List Bool) (rows : List PlacedRow) → marked_rows (rows_with_marks marks rows) ≡ [] → unmarked_items marks (map row_of_placed rows) ≡ map row_of_placed rows
+pub rows_without_marks_are_left : (marks : List Bool) (rows : List PlacedRow) → marked_rows (rows_with_marks marks rows) ≡ [] → unmarked_items marks (map row_of_placed rows) ≡ map row_of_placed rows
 rows_without_marks_are_left marks [] e = refl
 rows_without_marks_are_left [] (row ∷ rows) e = refl
 rows_without_marks_are_left (true ∷ marks) (row ∷ rows) e = absurd (item_is_not_nothing _ _ e)

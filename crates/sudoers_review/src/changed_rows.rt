@@ -23,7 +23,7 @@ pub struct MarkedRows<'p, 'r, 'f, 'm> {
 }
 
 /// Returns whether the row with this number is marked.
-fn is_marked(marks: &[bool], number: usize) -> bool
+pub fn is_marked(marks: &[bool], number: usize) -> bool
     ensures { result ≡ get_or marks.now number false }
 {
     match marks.get(number) {
@@ -33,7 +33,11 @@ fn is_marked(marks: &[bool], number: usize) -> bool
 }
 
 /// Appends to `out` the line on `placed`, a row of `policy`, behind `sign`.
-fn append_changed_row(
+///
+/// # Errors
+///
+/// `TooLarge`: the text or the lists of the row have more than 16 MiB. `NoMemory`: memory ran out.
+pub fn append_changed_row(
     alloc: Global,
     out: &mut Vec<u8>,
     sign: &[u8],

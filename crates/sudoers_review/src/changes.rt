@@ -13,7 +13,9 @@ use crate::compare_fault::CompareFault;
 use crate::flat_policy::FlatPolicy;
 use crate::other_defaults::make_changed_other_defaults_text;
 use std::alloc::Global;
-use sudoers_compare::{CountedChanges, PlacedFlatRow, RowMarks, mark_changed_rows};
+use sudoers_compare::{
+    CountedChanges, PlacedFlatRow, RowMarks, RowsOfSpecs, mark_changed_rows_of_specs,
+};
 use sudoers_tree::Policy;
 
 /// Appends to `out` the lines on the rows of `old` and `new` that are marked.
@@ -77,7 +79,17 @@ pub fn make_changes_text(
     let new_flat = FlatPolicy::new(alloc, new)?;
     let old_rows = old_flat.list_rows(alloc)?;
     let new_rows = new_flat.list_rows(alloc)?;
-    let marks = mark_changed_rows(alloc, counted, old_rows.as_slice(), new_rows.as_slice())?;
+    let olds = RowsOfSpecs {
+        tables: old_flat.tables,
+        specs: old_flat.specs.as_slice(),
+        rows: old_rows.as_slice(),
+    };
+    let news = RowsOfSpecs {
+        tables: new_flat.tables,
+        specs: new_flat.specs.as_slice(),
+        rows: new_rows.as_slice(),
+    };
+    let marks = mark_changed_rows_of_specs(alloc, counted, olds, news)?;
     let mut answers = Vec::new(alloc);
     append_rows_with_marks(
         alloc,

@@ -15,7 +15,9 @@ use crate::compare_fault::CompareFault;
 use crate::flat_policy::FlatPolicy;
 use crate::row_text::TEXT_LIMIT;
 use std::alloc::{AllocError, Global};
-use sudoers_compare::{Overruling, PlacedFlatRow, find_overrulings, has_same_effect};
+use sudoers_compare::{
+    Overruling, PlacedFlatRow, RowsOfSpecs, find_overrulings_of_specs, has_same_effect,
+};
 use sudoers_cvt_spell::append_member;
 use sudoers_list::append_place_on_walk_line;
 use sudoers_text::append_decimal_number;
@@ -188,7 +190,12 @@ pub fn make_overruled_text(alloc: Global, policy: &Policy) -> Result<Vec<u8>, Co
 {
     let flat = FlatPolicy::new(alloc, policy)?;
     let rows = flat.list_rows(alloc)?;
-    let found = find_overrulings(alloc, rows.as_slice())?;
+    let given = RowsOfSpecs {
+        tables: flat.tables,
+        specs: flat.specs.as_slice(),
+        rows: rows.as_slice(),
+    };
+    let found = find_overrulings_of_specs(alloc, given)?;
     let mut text = Vec::new(alloc);
     append_overruled_lines(alloc, &mut text, policy, rows.as_slice(), found.as_slice())?;
     append_undecided_rows_line(alloc, &mut text, policy, rows.as_slice(), found.as_slice())?;

@@ -88,7 +88,11 @@ fn settings_of_row<'a>(row: &FlatRow<'a>) -> CommandSettings<'a>
 }
 
 /// Appends the command of `row` with all that is said of it to `out`.
-fn append_command_of_row(
+///
+/// # Errors
+///
+/// Memory ran out.
+pub fn append_command_of_row(
     alloc: Global,
     out: &mut Vec<u8>,
     row: &FlatRow<'_>,

@@ -120,11 +120,23 @@ fn add_machine_options<'a>(
     command: Command<'a>,
     top: Arg<'a>,
 ) -> Result<Command<'a>, AllocError> {
-    let command = command
-        .after_help(EXIT_STATUS)
-        .arg(make_machine_option(alloc, POLICY, "policy", "FILE").help(
-            "Policy file, or `-` for standard input; without it /etc/sudoers",
-        ))?
+    let command = command.after_help(EXIT_STATUS).arg(make_machine_option(
+        alloc, POLICY, "policy", "FILE",
+    ).help("Policy file, or `-` for standard input; without it /etc/sudoers"))?;
+    let command = add_people_options(alloc, command)?
+        .arg(make_interfaces_option(alloc))?
+        .arg(make_dialect_option(alloc))?
+        .arg(make_json_flag(alloc))?
+        .arg(top)?;
+    add_explaining_options(alloc, command)
+}
+
+/// Returns `command` with the options that name the users and groups of a machine, its name, and a moment.
+pub fn add_people_options<'a>(
+    alloc: Global,
+    command: Command<'a>,
+) -> Result<Command<'a>, AllocError> {
+    command
         .arg(make_machine_option(alloc, "PASSWD", "passwd", "FILE").help(
             "File with the users, as passwd(5); without it /etc/passwd",
         ))?
@@ -136,12 +148,7 @@ fn add_machine_options<'a>(
         ))?
         .arg(make_machine_option(alloc, "STAMP", "moment", "STAMP").help(
             "Moment in UTC, as 20300131120000Z; without it now",
-        ))?
-        .arg(make_interfaces_option(alloc))?
-        .arg(make_dialect_option(alloc))?
-        .arg(make_json_flag(alloc))?
-        .arg(top)?;
-    add_explaining_options(alloc, command)
+        ))
 }
 
 /// Returns the option `long`, whose value is called `value`.

@@ -9,12 +9,17 @@ use crate::files::{KeptDisk, open_kept_files};
 use crate::json_output::write_document;
 use crate::overruled_notes::fault_of_comparison;
 use crate::terminal::print_error_line;
+use crate::user_diff::{
+    UserDiffTrouble, add_conflicts_with_users, add_user_options, are_users_asked,
+    make_user_changes_of_words, make_users_argument,
+};
 use clap::{Arg, ArgAction, ArgMatches, Command};
 use std::alloc::{AllocError, Global};
 use sudoers_compare::CountedChanges;
 use sudoers_explain::append_help;
 use sudoers_files::gather;
 use sudoers_review::{ChangesText, CompareFault, make_changes_text};
+use sudoers_review_users::UserChangesText;
 use sudoers_run::{LayerFault, ToolFault};
 use sudoers_tree::Policy;
 
@@ -96,13 +101,14 @@ pub fn make_diff_subcommand<'a>(alloc: Global) -> Result<Command<'a>, AllocError
             "Print the rules that went from a policy and those that came, with their aliases replaced, one for each command; print nothing if each request has the same answer, tags and options",
         )
         .after_help(EXIT_STATUS)
-        .arg(granted)?
+        .arg(add_conflicts_with_users(granted)?)?
         .arg(old_top)?
         .arg(new_top)?
         .arg(make_dialect_option(alloc))?
         .arg(old)?
-        .arg(new)?;
-    add_explaining_options(alloc, command)
+        .arg(new)?
+        .arg(make_users_argument(alloc))?;
+    add_explaining_options(alloc, add_user_options(alloc, command)?)
 }
 
 /// Compares the policies that `words` name, and prints in what they differ, or an error. Returns the exit status.
@@ -123,12 +129,39 @@ pub fn run_diff_command(rt: &HostRuntime, words: &ArgMatches<'_>) -> u8 {
         Ok(policy) => policy,
         Err(fault) => return explain_error_of_side(rt, words, NEW_SIDE, &mut new_files, fault),
     };
-    match make_changes_text(rt.alloc(), choose_counted_changes(words), &old, &new) {
-        Ok(changes) => print_changes(rt, words, changes),
-        Err(fault) => {
-            let side = find_side_of_fault(rt.alloc(), fault, &old, &new);
-            explain_comparison_fault(rt, words, side, fault)
+    let fault = if are_users_asked(words) {
+        match make_user_changes_of_words(rt, words, &old, &new) {
+            Ok(changes) => return print_user_changes(rt, changes),
+            Err(UserDiffTrouble::Machine(trouble)) => {
+                return print_diff_error(rt, &trouble, b"", &[]);
+            }
+            Err(UserDiffTrouble::Policies(fault)) => fault,
         }
+    } else {
+        match make_changes_text(rt.alloc(), choose_counted_changes(words), &old, &new) {
+            Ok(changes) => return print_changes(rt, words, changes),
+            Err(fault) => fault,
+        }
+    };
+    let side = find_side_of_fault(rt.alloc(), fault, &old, &new);
+    explain_comparison_fault(rt, words, side, fault)
+}
+
+/// Prints what the policies grant users otherwise. Returns the exit status: 0 if nothing is printed.
+fn print_user_changes(rt: &HostRuntime, changes: UserChangesText) -> u8 {
+    let mut text = changes.users;
+    let joined = match text.extend_from_slice(changes.left.as_slice()) {
+        Ok(()) => text.extend_from_slice(changes.others.as_slice()),
+        Err(error) => Err(error),
+    };
+    let printed = match joined {
+        Ok(()) if text.is_empty() => return 0,
+        Ok(()) => write_document(rt, text.as_slice()),
+        Err(error) => Err(ToolFault::from(error)),
+    };
+    match printed {
+        Ok(()) => OTHER_STATUS,
+        Err(fault) => print_diff_error(rt, &FileTrouble::from(fault), b"", &[]),
     }
 }
 

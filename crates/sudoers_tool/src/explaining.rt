@@ -4,6 +4,7 @@ use crate::file_trouble::FileTrouble;
 use crate::files::{KeptDisk, STDIN, TOP, words_of_error_kind};
 use crate::installed::are_installed_notes_asked;
 use crate::json_output::is_json_asked;
+use crate::lint_notes::{LINT_ERROR_STATUS, are_lint_notes_asked};
 use crate::machine::{name_of_group_file, name_of_passwd_file};
 use crate::overruled_notes::{OVERRULED_ERROR_STATUS, are_overruled_notes_asked};
 use crate::target_notes::are_target_notes_asked;
@@ -61,6 +62,8 @@ fn make_error_status_option<'a>(alloc: Global) -> Arg<'a> {
 pub fn error_status_of_words(words: &ArgMatches<'_>) -> u8 {
     let status = if are_overruled_notes_asked(words) {
         OVERRULED_ERROR_STATUS
+    } else if are_lint_notes_asked(words) {
+        LINT_ERROR_STATUS
     } else {
         1
     };
@@ -100,6 +103,7 @@ pub fn are_files_read_again(rt: &HostRuntime, words: &ArgMatches<'_>) -> bool {
         || are_installed_notes_asked(words)
         || are_target_notes_asked(words)
         || are_overruled_notes_asked(words)
+        || are_lint_notes_asked(words)
         || are_errors_explained(rt, words)
 }
 

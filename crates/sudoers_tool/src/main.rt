@@ -24,6 +24,7 @@ mod found_words;
 mod installed;
 mod json_output;
 mod kept_files;
+mod lint_notes;
 mod list_command;
 mod machine;
 mod new_faults;
@@ -40,6 +41,7 @@ mod subcommands;
 mod target_notes;
 mod terminal;
 mod usage_errors;
+mod user_diff;
 mod wish_options;
 mod word_notes;
 
@@ -63,6 +65,7 @@ use crate::installed::{are_installed_notes_asked, find_installed_notes};
 use crate::json_output::{
     is_json_asked, print_error_document, run_check_as_json, run_show_as_json,
 };
+use crate::lint_notes::find_lint_notes;
 use crate::list_command::run_list_command;
 use crate::overruled_notes::find_overruled_notes;
 use crate::place_command::{PLACE, run_place_command};
@@ -333,9 +336,12 @@ fn run_check_command(
     installed.print(rt, words)?;
     refused.print(rt, words)?;
     find_overruled_notes(rt, words, file, files)?.print(rt, words)?;
+    let warned = find_lint_notes(rt, words, file, files)?;
+    warned.print(rt, words)?;
     let noted = installed
         .status_of_words(words)
-        .max(refused.status_of_words(words));
+        .max(refused.status_of_words(words))
+        .max(warned.status_of_words(words));
     Ok(status.max(noted))
 }
 

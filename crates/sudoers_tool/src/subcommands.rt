@@ -12,6 +12,7 @@ use crate::explaining::add_error_options;
 use crate::files::TOP;
 use crate::installed::make_installed_flag;
 use crate::json_output::make_json_flag;
+use crate::lint_notes::make_lint_flag;
 use crate::list_command::make_list_subcommand;
 use crate::overruled_notes::make_overruled_flag;
 use crate::place_command::make_place_subcommand;
@@ -26,7 +27,7 @@ const VERSION: &str = "0.8.0";
 
 /// What help prints last.
 const EXIT_STATUS: &str =
-    "Exit status: 0 success; 1 an error, a policy that `check` does not pass, a command that `list` does not allow, or something that `plan --check` finds to do; 2 a wrong command line; 3 an error of `apply`, `check --overruled`, `diff`, `place`, `plan`, `who`, `what` or `why`. See sudoers_tool(8).";
+    "Exit status: 0 success; 1 an error, a policy that `check` does not pass, a command that `list` does not allow, or something that `plan --check` finds to do; 2 a wrong command line; 3 an error of `apply`, `check --overruled`, `check --lint`, `diff`, `place`, `plan`, `who`, `what` or `why`. See sudoers_tool(8).";
 
 /// Returns the command line of `show`.
 fn make_show_subcommand<'a>(alloc: Global) -> Result<Command<'a>, AllocError> {
@@ -109,6 +110,7 @@ fn make_check_subcommand<'a>(alloc: Global) -> Result<Command<'a>, AllocError> {
         .arg(make_installed_flag(alloc)?)?
         .arg(make_target_option(alloc)?)?
         .arg(make_overruled_flag(alloc)?)?
+        .arg(make_lint_flag(alloc)?)?
         .arg(make_dialect_option(alloc))?
         .arg(make_all_flag(alloc))?
         .arg(make_json_flag(alloc))?

@@ -8,8 +8,8 @@ use Rattle.sudoers_compare.proofs.flattening.flatten_commands.Goals as goal
 
 pub loop-row-init : goal.loop-row-init
 loop-row-init c =
-    no_command_is_flat_yet c.args.source.now.lines.tables.now c.args.source.now.policy.now c.args.range c.new-commands.result.items c.make_empty_settings-settings.result c.rows_in-left.result.now
-    c.new-commands.ensures.items c.make_empty_settings-settings.ensures (c.rows_in-left.ensures ∙ ap (λ rows. slice_range rows c.args.range.from c.args.range.to) c.as_slice.ensures.value)
+    no_command_is_flat_yet c.args.source.now.lines.tables.now c.args.source.now.policy.now c.args.range c.in_ok-commands.commands.items c.make_empty_settings-settings.result c.rows_in-left.result.now
+    c.in_ok-commands.ensures.items c.make_empty_settings-settings.ensures (c.rows_in-left.ensures ∙ ap (λ rows. slice_range rows c.args.range.from c.args.range.to) c.as_slice.ensures.value)
 
 pub loop-row-preserved : goal.loop-row-preserved
 loop-row-preserved c =

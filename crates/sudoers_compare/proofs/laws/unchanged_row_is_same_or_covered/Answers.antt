@@ -1,7 +1,5 @@
 use Rattle.std.proofs.Common.{◌≡◌, ◌⊎◌, inl, inr, ◌&&◌, ◌||◌, Bool, true, false, refl}
 use Rattle.std.proofs.lemmas.Bool.{and_parts}
-use Rattle.laws_compare.specs.Content.{FlatPrivilegeRow}
-use Rattle.laws_compare.specs.Covers.{RowCoversRow}
 use Rattle.laws_compare.specs.Decided.{is_covering_row}
 use Rattle.sudoers_compare.specs.SameRow.{have_same_effect, is_narrowed_row, is_same_flat_row}
 use Rattle.sudoers_compare.proofs.SameRows.{alike_rows_are_same}

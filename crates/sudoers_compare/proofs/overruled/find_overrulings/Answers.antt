@@ -1,16 +1,8 @@
-use Rattle.std.proofs.Common.{◌∙◌, map}
-use Rattle.std.specs.Prelude.{slice_index_or}
-use Rattle.sudoers_compare.specs.Overruled.{overrulings_of_rows}
+use Rattle.std.proofs.Common.{map}
 use Rattle.sudoers_compare.specs.FlatSpecs.{row_of_placed_view}
-use Rattle.sudoers_compare.proofs.Chains.{item_of_mapped_list_at}
-use Rattle.sudoers_compare.proofs.NextNumbers.{one_more_row_has_finding}
+use Rattle.sudoers_compare.proofs.KeptLists.{no_lists, no_lists_are_kept}
+use Rattle.sudoers_compare.proofs.KnownLists.{nothing_known_is_right}
 use Rattle.sudoers_compare.proofs.overruled.find_overrulings.Goals as goal
 
-pub loop-number-preserved : goal.loop-number-preserved
-loop-number-preserved c =
-    let rows = map row_of_placed_view c.args.rows.now in
-    let number = c.loop-number.number in
-    let row = row_of_placed_view (slice_index_or c.args.rows.now number c.index-rows-number.result) in
-    let stands = item_of_mapped_list_at row_of_placed_view c.args.rows.now number c.index-rows-number.result c.loop-number-test.true in
-    let one = c.find_overruling.ensures (c.as_slice-same.ensures.value ∙ c.in_ok-next_same.ensures) (c.as_slice-all.ensures.value ∙ c.in_ok-next_all.ensures) stands in
-    one_more_row_has_finding rows number row c.loop-number.found.items c.push.new.self.items (overrulings_of_rows 0 rows) c.find_overruling.result stands c.loop-number.invariant one c.in_ok-push.ensures.items
+pub returns : goal.returns
+returns c = c.find_overrulings_by_lists.ensures no_lists (no_lists_are_kept no_lists (map row_of_placed_view c.args.rows.now)) (nothing_known_is_right no_lists)

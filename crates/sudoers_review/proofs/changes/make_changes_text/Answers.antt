@@ -19,8 +19,8 @@ returns-clause-text c =
     let gone = c.in_ok-marks.marks.gone.items in
     let came = c.in_ok-marks.marks.came.items in
     let marks = c.in_ok-marks.ensures in
-    let value = c.as_slice.ensures.value in
-    let value_too = c.as_slice-2.ensures.value in
+    let value = c.as_slice-2.ensures.value in
+    let value_too = c.as_slice-4.ensures.value in
     let are : AreMarksOfViews c.args.counted olds news gone came = record {
       each_old = marks.each.0 ∙ ap length value;
       each_new = marks.each.1 ∙ ap length value_too;
@@ -31,7 +31,7 @@ returns-clause-text c =
     let lines : List PlacedFlatRow → List PlacedFlatRow → List ℕ = λ (held other : List PlacedFlatRow). changed_row_lines c.args.counted old new
     (rows_with_marks gone (map placed_row_of_view held)) (rows_with_marks came (map placed_row_of_view other)) in
     let first : c.append_rows_with_marks.new.out.items ≡ lines olds news =
-    c.in_ok-append_rows_with_marks.ensures.lines ∙ ap₂ (λ (o text : List ℕ). o ++ text) c.new-answers.ensures.items (ap₂ lines c.as_slice-3.ensures.value c.as_slice-4.ensures.value) in
+    c.in_ok-append_rows_with_marks.ensures.lines ∙ ap₂ (λ (o text : List ℕ). o ++ text) c.new-answers.ensures.items (ap₂ lines c.as_slice-5.ensures.value c.as_slice-6.ensures.value) in
     let settings = c.in_ok-append_changed_settings.ensures.text in
     let is : IsSettingsText (content_of_lines old.walk.lines).runas_defaults (content_of_lines new.walk.lines).runas_defaults settings.0 =
     subst (λ (list : List FlatRunasDefault). IsSettingsText (content_of_lines old.walk.lines).runas_defaults list settings.0) c.in_ok-new_flat.ensures.settings

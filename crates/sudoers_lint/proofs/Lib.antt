@@ -1,0 +1,3 @@
+mod LintLines
+mod SameHosts
+mod Visits

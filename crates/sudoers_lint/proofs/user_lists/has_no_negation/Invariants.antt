@@ -1,0 +1,12 @@
+use Rattle.std.proofs.Common.{◌≡◌, length, map}
+use Rattle.sudoers_line_rows.specs.Tables.{member_in_tables}
+use Rattle.sudoers_match_list.specs.Flat.{signed_atom_of_member}
+use Rattle.laws_compare.specs.Decided.{has_no_negation}
+use Rattle.sudoers_compare.specs.FlatRow.{signed_atoms_of_view}
+use Rattle.sudoers_lint.proofs.user_lists.has_no_negation.Given as goal
+
+abbrev pub invariant-loop-row : goal.invariant-loop-row
+invariant-loop-row l = has_no_negation (map signed_atom_of_member (map (member_in_tables l.members.tables.now) l.rest)) ≡ has_no_negation (signed_atoms_of_view l.members)
+
+abbrev pub decreases-loop-row : goal.decreases-loop-row
+decreases-loop-row l = length l.rest

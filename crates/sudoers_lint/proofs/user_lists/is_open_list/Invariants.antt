@@ -1,0 +1,12 @@
+use Rattle.std.proofs.Common.{◌≡◌, length, map}
+use Rattle.sudoers_line_rows.specs.Tables.{member_in_tables}
+use Rattle.sudoers_match_list.specs.Flat.{signed_atom_of_member}
+use Rattle.sudoers_compare.specs.FlatRow.{signed_atoms_of_view}
+use Rattle.sudoers_lint.specs.Lint.{is_open_list}
+use Rattle.sudoers_lint.proofs.user_lists.is_open_list.Given as goal
+
+abbrev pub invariant-loop-row : goal.invariant-loop-row
+invariant-loop-row l = is_open_list (map signed_atom_of_member (map (member_in_tables l.members.tables.now) l.rest)) ≡ is_open_list (signed_atoms_of_view l.members)
+
+abbrev pub decreases-loop-row : goal.decreases-loop-row
+decreases-loop-row l = length l.rest

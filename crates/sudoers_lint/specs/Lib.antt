@@ -1,0 +1,11 @@
+pub mod Comments
+pub mod Findings
+pub mod Known
+pub mod Lint
+pub mod LintText
+pub mod Names
+pub mod RuleSets
+pub mod Rules
+pub mod Silenced
+pub mod Views
+pub mod Walked

@@ -1,0 +1,9 @@
+pub mod AllUsers
+pub mod Faults
+pub mod FlatRows
+pub mod Ready
+pub mod Reviewed
+pub mod SameAnswer
+pub mod Untouched
+pub mod UserChanges
+pub mod UserRows
