@@ -3,7 +3,7 @@
 A row of a table has texts in which `<1>`, `<2>` mark places. They are taken out, and `{1}` in the expected output is the place FILE:LINE:COL.
 Then random policies are compared with texts that mean the same: as `convert` prints them, with aliases replaced or not, and with other
 names of aliases. `diff` has to print nothing. Two random policies are compared, too: where `list` answers a request otherwise, `diff` has
-to print a line. Growths of memory are refused.
+to print a line. Growths of memory are refused. Each case is run again with `--json` (json_lines.py).
 """
 
 import random
@@ -12,9 +12,10 @@ from dataclasses import dataclass
 
 from cases import Case
 from explaining import stand_in
+from json_lines import SpellingStand
 from preload import with_library
 from program import NAME, Answer, Wanted, fault
-from stand import Folder, Stand
+from stand import Folder
 from tally import difference
 
 PART = "comparing"
@@ -208,7 +209,7 @@ WRONG_WORDS = (
     ("diff --old-root none old new", b"invalid value 'none' for '--old-root <DIR>'"),
     ("diff --new-root none old new", b"invalid value 'none' for '--new-root <DIR>'"),
     ("diff --root before old new", b"unexpected argument '--root'"),
-    ("check --overruled --json main", b"cannot be used with"),
+    ("check --overruled --for sudo --json main", b"cannot be used with"),
 )
 
 MEMBER_LIMIT = 65_536
@@ -347,6 +348,8 @@ def run_pairs(stand):
         with Folder({"old": old, "new": new, **PEOPLE}) as folder:
             came = stand.run("diff old new", folder)
             granted = stand.run("diff --granted old new", folder)
+            stand.note_documents(f"other policies {number}", "diff old new", came, folder)
+            stand.note_documents(f"other policies {number}", "diff --granted old new", granted, folder)
             before, behind = answers(stand, folder, "old"), answers(stand, folder, "new")
         problems = ["nothing is printed"] if before != behind and came.status == 0 else []
         stand.tally.note(f"{PART}: other policies {number}", problems + difference("status", bool(came.stdout), came.status == 1))
@@ -404,7 +407,7 @@ def run_growths(stand):
 
 def run_all(program, tally):
     """Runs all of it."""
-    stand = Stand(PART, program, tally)
+    stand = SpellingStand(PART, program, tally)
     for row in OVERRULED:
         run_overruled(stand, row)
     for row in CHANGES:

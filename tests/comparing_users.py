@@ -2,7 +2,7 @@
 
 A row of a table has two policies with marks of places, as comparing.py has them, and the lines that are expected of each user. Then random
 policies are compared for each user. A user without a line has the same answers of `why` in both. Each printed example has another answer in
-the other policy, and where sudo is installed, `sudo -l` says so too.
+the other policy, and where sudo is installed, `sudo -l` says so too. Each case is run again with `--json` (json_lines.py).
 """
 
 import os
@@ -12,8 +12,9 @@ import shutil
 import subprocess
 
 from comparing import HEADING, Change, filled_in, random_policy, without_marks
+from json_lines import SpellingStand
 from program import SECONDS, Wanted, fault
-from stand import Folder, Stand
+from stand import Folder
 from tally import difference
 
 PART = "comparing_users"
@@ -129,6 +130,7 @@ def run_pairs(stand):
             new = "".join(lines)
         with Folder({"old": old, "new": new, **PEOPLE}) as folder:
             came = stand.run(f"diff {MACHINE} old new", folder)
+            stand.note_documents(f"policies {number}", f"diff {MACHINE} old new", came, folder)
             text = came.stdout.decode()
             problems = []
             named = {line.split(" ")[1] for line in text.partition(OTHERS)[0].splitlines()}
@@ -220,7 +222,7 @@ def run_costs(stand):
 
 def run_all(program, tally):
     """Runs all of it."""
-    stand = Stand(PART, program, tally)
+    stand = SpellingStand(PART, program, tally)
     for row in ROWS:
         run_row(stand, row)
     for name, machine, users, old, new, lines in WORDS_ROWS:

@@ -47,7 +47,7 @@ OPTIONS_OF_CHECK = (
 )
 OPTIONS_OF_DIFF = (
     *("--dialect", "--explain", "--granted", "-h", "--help", "--new-root", "--old-root", "--plain"),
-    *("--passwd", "--group-file", "--host", "--moment", "--interfaces"),
+    *("--passwd", "--group-file", "--host", "--moment", "--interfaces", "--json"),
 )
 OPTIONS_OF_SHOW = ("--dialect", "--error-status", "--explain", "-h", "--help", "--json", "--members", "--plain", "--root")
 OPTIONS_OF_MACHINE = (
@@ -174,6 +174,8 @@ ROWS = (
     (("diff", "w"), ("web team",)),
     (("diff", "-"), OPTIONS_OF_DIFF),
     (("diff", "--d"), ("--dialect",)),
+    (("diff", "--j"), ("--json",)),
+    (("diff", "--json", "w"), ("web team",)),
     (("diff", "--dialect", ""), ("sudo",)),
     (("diff", "--dialect", "sudo", "w"), ("web team",)),
     (("diff", "--o"), ("--old-root",)),

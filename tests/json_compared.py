@@ -19,6 +19,8 @@ SCHEMA = os.path.join(TOP, "docs", "json.schema.json")
 HELP = b"  = help: "
 EXCERPT = re.compile(rb"^ *--> (.*):(\d+):(\d+)$", re.M)
 PRINTED_PLACE = re.compile(rb"(.*):(\d+):(\d+): ", re.S)
+# The command of a line on commands with too many later rows. A document lacks it.
+NOT_DECIDED = re.compile(rb"(?<=: not decided: ).*(?=; commands with more than 64 later rows: \d+$)", re.M)
 # A blank at the end that no backslash makes a part of a word.
 BLANK_END = re.compile(rb"(?<!\\)[ \t\n]\Z")
 
@@ -47,14 +49,19 @@ def validator():
     return Draft202012Validator(schema)
 
 
+def spelled(document):
+    """Returns a document as it is printed."""
+    return json.dumps(document, sort_keys=True, ensure_ascii=False, separators=(",", ":")).encode() + b"\n"
+
+
 def document_of(output):
     """Returns the document that an output is, and what is wrong with its form."""
     try:
         document = json.loads(output)
-        spelled = json.dumps(document, sort_keys=True, ensure_ascii=False, separators=(",", ":")).encode() + b"\n"
+        text = spelled(document)
     except ValueError as error:
         return {}, [f"{output!r} is no JSON: {error}"]
-    problems = difference("compact text with sorted keys", spelled, output)
+    problems = difference("compact text with sorted keys", text, output)
     if validator() is not None and len(output) <= MOST_VALIDATED:
         problems += [f"{'/'.join(map(str, error.path))}: {error.message}" for error in validator().iter_errors(document)]
     return document, problems
@@ -63,6 +70,11 @@ def document_of(output):
 def place_text(place):
     """Returns a place as an error begins with it."""
     return b"%s:%d:%d: " % (bytes_of(place["file"]), place["line"], place["column"])
+
+
+def spot_text(place):
+    """Returns a place as it stands within a line."""
+    return place_text(place).removesuffix(b": ")
 
 
 def notes_text(document, word):
@@ -78,14 +90,39 @@ def errors_text(document):
     return b"".join(bytes_of(error["text"]) + b"\n" for error in document["errors"])
 
 
+def without_command(text):
+    """Returns what `check` prints without the command that a document lacks."""
+    return NOT_DECIDED.sub(b"", text)
+
+
+def overruled_line(one):
+    """Returns the line on a command that never decides."""
+    return place_text(one["place"]) + b"%s %s: %s decides\n" % (one["kind"].encode(), bytes_of(one["command"]), spot_text(one["decider"]))
+
+
+def overruled_text(document):
+    """Returns the lines on commands that never decide."""
+    text, rest = b"".join(map(overruled_line, document["overruled"] or ())), document["not_decided"]
+    if rest is None:
+        return text
+    return text + place_text(rest["first"]) + b"not decided: ; commands with more than 64 later rows: %d\n" % rest["count"]
+
+
+def warning_line(one):
+    """Returns the line on a warning of lint."""
+    return place_text(one["place"]) + b"warning: %s: %s: %s\n" % tuple(bytes_of(one[key]) for key in ("rule", "text", "reason"))
+
+
 def check_text(document):
     """Returns what `check` prints for its document."""
     report = errors_text(document)
     if document["read"]:
         report = b"".join(notes_text(document, word) for word in ("undefined", "cyclic", "unused"))
-        report += bytes_of(document["policy"]) + (b": parsed OK\n" if document["passed"] else b": faults found\n")
+        has_faults = not document["passed"] and (document["undefined"] or document["cyclic"])
+        report += bytes_of(document["policy"]) + (b": faults found\n" if has_faults else b": parsed OK\n")
     unread = document["not_read"] or ()
-    return report + b"".join(b"%s: not read: %s\n" % (bytes_of(one["name"]), one["reason"].encode()) for one in unread)
+    report += b"".join(b"%s: not read: %s\n" % (bytes_of(one["name"]), one["reason"].encode()) for one in unread)
+    return report + overruled_text(document) + b"".join(map(warning_line, document["lint"] or ()))
 
 
 def lines_of_file(document, name):

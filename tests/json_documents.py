@@ -2,8 +2,8 @@
 
 Each worked policy and each policy of tests/explained is checked and shown: the documents have to say the same errors,
 notes, lines and places, with the same exit status. json_asked.py asks them with `who`, `what` and `why`.
-docs/json.schema.json has to accept each document, if the library `jsonschema` is installed. The rows of json_rows.py have
-whole documents. Each growth of memory of some runs is refused.
+docs/json.schema.json has to accept each document, if the library `jsonschema` is installed. The rows of json_rows.py and
+json_changes.py have whole documents. Each growth of memory of some runs is refused.
 """
 
 import glob
@@ -13,11 +13,13 @@ import subprocess
 import tempfile
 
 import json_asked
+import json_changes
 import json_compared as compared
 import worked_policies
 from all_errors import has_place
 from cases import Case
 from explaining import TABLES, files_of_row, stand_in
+from json_lines import has_document
 from json_rows import GROWTHS, ROWS, UNREADABLE
 from preload import with_library
 from program import NAME, Answer, Wanted
@@ -28,8 +30,9 @@ from tally import difference
 
 PART = "json"
 
-# The words with which each policy is checked, and those with which one with an error is checked too.
+# The words with which each policy is checked, with its lines where they are no error, and those with which one with an error is checked too.
 WORDS = ("check", "-s", "--skipped")
+LINE_WORDS = (*WORDS, "--overruled", "--lint")
 ALL_WORDS = ("check", "--all")
 # A policy of more lines is checked alone: Python takes minutes for the documents with its lines, or with an error of each.
 MOST_LINES = 5_000
@@ -84,6 +87,10 @@ class Printed:
         """What the program answers to these words and the policy."""
         return self.ground.start((*words, *ROOT, "--", self.file), self.stdin, self.folder)
 
+    def words_of_check(self):
+        """The words with which the policy is checked."""
+        return WORDS if self.run(*LINE_WORDS).stderr else LINE_WORDS
+
     def problems_of_errors(self, words, errors):
         """What is wrong with the errors of a document of `check`."""
         problems = [line for error in errors for line in compared.error_problems(self.files, error)]
@@ -129,7 +136,7 @@ def run_policies(program, tally):
                 printed = Printed(ground, number, files)
             except OSError:
                 continue
-            problems = printed.problems_of_check(WORDS)
+            problems = printed.problems_of_check(printed.words_of_check())
             if printed.count_lines() <= MOST_LINES:
                 wrong, is_read = printed.problems_of_show()
                 wrong += json_asked.problems_of_policy(ground, number, printed.files, printed.folder, printed.file, printed.stdin)
@@ -157,12 +164,19 @@ def run_growths(stand):
     """If a growth of memory is refused, the whole document comes, with or without the error, or none and the error of memory."""
 
     def check(library):
-        for words, tree in GROWTHS:
+        for words, tree in (*GROWTHS, *json_changes.GROWTHS):
             with Folder(tree) as folder:
                 ample = stand.run(words, folder)
                 case = Case(words, tuple(words.split(" ")), b"", stand_in(ample), folder=folder)
-                without = {Answer(b"", told, 1) for told in (NAME + b"NoMemory\n", b"", ample.stderr)}
-                allowed = {ample, Answer(ample.stdout, b"", ample.status), *without}
+                outputs = {ample.stdout: ample.stderr}
+                if words in json_changes.OF_NONE:
+                    document, told = json_changes.OF_NONE[words]
+                    outputs[compared.spelled(document)] = told
+                statuses = (1, json_asked.ERROR_STATUS) if has_document(words.split(" ")) else (1,)
+                stderrs = (NAME + b"NoMemory\n", b"", *outputs.values())
+                without = {Answer(b"", told, status) for told in stderrs for status in statuses}
+                whole = {Answer(text, told, ample.status) for text, error in outputs.items() for told in (error, b"")}
+                allowed = {ample, *whole, *without}
                 came = set()
                 for refusal in ("refuse_growth", "refuse_from"):
                     for number, (answer, _) in enumerate(library.run_each(stand.program, case, refusal), 1):
@@ -177,9 +191,9 @@ def run_growths(stand):
 
 def run_pipes(stand):
     """A named pipe is read once."""
-    for words in ("check --json", "check --all --json", "show --json"):
+    for words in ("check --json", "check --all --json", "check --overruled --lint --json", "show --json", "diff --json other"):
         for text in (b"bob ALL\n", b"User_Alias A = x\nbob ALL = /bin/a\n"):
-            with Folder({"main": text, "pipe": PIPE}) as folder:
+            with Folder({"main": text, "other": "", "pipe": PIPE}) as folder:
                 wanted = stand.run(f"{words} main", folder)
                 with subprocess.Popen("cat main > pipe", shell=True, cwd=folder):
                     came = stand.run(f"{words} pipe", folder)
@@ -190,16 +204,20 @@ def run_pipes(stand):
 
 def run_full_device(stand):
     """A document that cannot be written is the error `Write`; of an error that is none of the policy that error is printed."""
-    for words, tree, told in (
-        ("check --json main", {"main": "bob ALL\n"}, b"Write"),
-        ("check --json main", {"main": "# a\n"}, b"Write"),
-        ("show --json main", {"main": "# a\n"}, b"Write"),
-        ("show --json main", {"main": "bob ALL\n"}, b"Write"),
-        ("check --json none", {}, b"NoRoot"),
+    for words, tree, told, status in (
+        ("check --json main", {"main": "bob ALL\n"}, b"Write", 1),
+        ("check --json main", {"main": "# a\n"}, b"Write", 1),
+        ("show --json main", {"main": "# a\n"}, b"Write", 1),
+        ("show --json main", {"main": "bob ALL\n"}, b"Write", 1),
+        ("check --json none", {}, b"NoRoot", 1),
+        ("check --json --lint main", {"main": "# a\n"}, b"Write", 3),
+        ("diff --json old new", {"old": "", "new": "bob ALL = /bin/a\n"}, b"Write", 3),
+        ("diff --json old new", {"old": "", "new": "bob ALL\n"}, b"new:1:8: syntax error: EndOfLine", 3),
+        ("diff --json old none", {"old": ""}, b"none: NoRoot", 3),
     ):
         with Folder(tree) as folder, open("/dev/full", "wb") as full:
             done = subprocess.run([stand.program, *words.split(" ")], stdout=full, stderr=subprocess.PIPE, cwd=folder, env={}, check=False)
-        problems = difference("stderr", NAME + told + b"\n", done.stderr) + difference("status", 1, done.returncode)
+        problems = difference("stderr", NAME + told + b"\n", done.stderr) + difference("status", status, done.returncode)
         stand.tally.note(f"{PART}: {words} on a full device, {tree}", problems)
 
 
@@ -216,9 +234,9 @@ def run_all(program, tally):
     if compared.validator() is None:
         tally.skip(f"{PART}: docs/json.schema.json", "the library jsonschema is missing")
     stand = Stand(PART, program, tally)
-    run_rows(stand, ROWS)
+    run_rows(stand, (*ROWS, *json_changes.ROWS))
     with stand_of_nobody(PART, program, tally) as nobody:
-        run_rows(nobody, UNREADABLE)
+        run_rows(nobody, (*UNREADABLE, *json_changes.UNREADABLE))
     run_pipes(stand)
     run_full_device(stand)
     run_other_commands(stand)

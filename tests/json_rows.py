@@ -28,8 +28,9 @@ def advised(text, cause, where, advice, **known):
 def check(policy, errors=(), passed=True, not_read=None, **notes):
     """Returns the document of `check`."""
     sorts = {sort: notes.get(sort, []) for sort in ("cyclic", "undefined", "unused")}
+    lines = {key: notes.get(key) for key in ("lint", "not_decided", "overruled")}
     same = {"command": "check", "policy": policy, "errors": list(errors), "not_read": not_read}
-    return {**same, **sorts, "read": not errors, "passed": passed and not errors}
+    return {**same, **sorts, **lines, "read": not errors, "passed": passed and not errors}
 
 
 def show(policy, files=(), lines=(), errors=()):

@@ -1,8 +1,8 @@
 """Warns of rules that give away more than they seem to, with `check --lint`.
 
-A row of a table has a text in which `<1>`, `<2>` mark places, and what is found there: the number of a mark, a rule and a subject. The mark
-0 is the beginning of the file. Then comments silence rules. The page docs/linting.md has the words of each rule and two tables of names:
-these are those of the code, and the program finds each name. Large inputs take little time. Growths of memory are refused.
+A row of a table has a text in which `<1>`, `<2>` mark places, and what is found there: the number of a mark, a rule and a subject. Then
+comments silence rules. The page docs/linting.md has the words of each rule and two tables of names: these are those of the code, and the
+program finds each name. Large inputs take little time. Growths of memory are refused. Each case is run again with `--json` (json_lines.py).
 """
 
 import os
@@ -12,9 +12,10 @@ from dataclasses import dataclass
 from cases import Case
 from comparing import without_marks
 from explaining import stand_in
+from json_lines import SpellingStand
 from preload import with_library
 from program import NAME, Answer, Wanted, fault
-from stand import Folder, Stand
+from stand import Folder
 from tally import difference
 
 PART = "linting"
@@ -97,19 +98,27 @@ ENVIRONMENT = (
     Linted("a tag", "ann ALL=SETENV: <1>/bin/a, <2>/bin/b, NOSETENV: /bin/c\n", ((1, "environment", "/bin/a"), (2, "environment", "/bin/b"))),
     Linted("a denial", "ann ALL=SETENV: !/bin/a\n"),
     Linted("all implies it", "ann ALL=ALL\n"),
-    Linted("setenv", "Defaults setenv\nDefaults !setenv\n", ((0, "environment", "setenv"),)),
+    Linted("setenv", "Defaults <1>setenv\nDefaults !setenv\n", ((1, "environment", "setenv"),)),
     Linted("env_reset", "Defaults env_reset\nDefaults !!env_reset\n"),
-    Linted("no env_reset", "Defaults !env_reset\n", ((0, "environment", "!env_reset"),)),
-    Linted("a scope", "Defaults:ann use_pty, setenv, !env_reset\n", ((0, "environment", "setenv"), (0, "environment", "!env_reset"))),
-    Linted("env_keep", "Defaults env_keep=PATH\n", ((0, "environment", "env_keep=PATH"),)),
-    Linted("env_keep with more", 'Defaults env_keep += "EDITOR HOME  LANG"\n', ((0, "environment", 'env_keep+="EDITOR HOME  LANG"'),)),
-    Linted("a tab", 'Defaults env_keep="EDITOR\tHOME"\n', ((0, "environment", "env_keep=EDITOR\\\tHOME"),)),
+    Linted("no env_reset", "Defaults <1>!env_reset\n", ((1, "environment", "!env_reset"),)),
+    Linted("negated thrice", "Defaults  !use_pty,<1>! ! !env_reset\n", ((1, "environment", "!env_reset"),)),
+    Linted("negated twice", "Defaults <1>!!setenv\n", ((1, "environment", "setenv"),)),
+    Linted("a scope", "Defaults:ann use_pty, <1>setenv, <2>!env_reset\n", ((1, "environment", "setenv"), (2, "environment", "!env_reset"))),
+    Linted("a scope that is negated", "Defaults@!h1, h2 <1>!env_reset\n", ((1, "environment", "!env_reset"),)),
+    Linted("a scope of commands", "Defaults!/bin/a <1>!env_reset\nDefaults!/bin/a <2>setenv\n", ((1, "environment", "!env_reset"), (2, "environment", "setenv"))),
+    Linted("a scope of the same name", "Defaults:setenv use_pty, <1>setenv\n", ((1, "environment", "setenv"),)),
+    Linted("a value with a sign before it", 'Defaults secure_path=!setenv, <1>setenv, secure_path="!a, setenv", <2>setenv\n', ((1, "environment", "setenv"), (2, "environment", "setenv"))),
+    Linted("a sign before a continuation", "Defaults use_pty, <1>!\\\n env_reset, \\\n\t<2>setenv\n", ((1, "environment", "!env_reset"), (2, "environment", "setenv"))),
+    Linted("behind blanks", " \tDefaults \t <1>setenv\t,  <2>! env_reset\n", ((1, "environment", "setenv"), (2, "environment", "!env_reset"))),
+    Linted("env_keep", "Defaults <1>env_keep=PATH\n", ((1, "environment", "env_keep=PATH"),)),
+    Linted("env_keep with more", 'Defaults <1>env_keep += "EDITOR HOME  LANG"\n', ((1, "environment", 'env_keep+="EDITOR HOME  LANG"'),)),
+    Linted("a tab", 'Defaults <1>env_keep="EDITOR\tHOME"\n', ((1, "environment", "env_keep=EDITOR\\\tHOME"),)),
     Linted("env_keep with less", "Defaults env_keep-=PATH, !env_keep\n"),
     Linted("other variables", 'Defaults env_keep="LANG LC_* PATHX XPATH path PAT PA_* *PATH"\n'),
-    Linted("a pattern of the table", "Defaults env_keep=LD_PRELOAD\n", ((0, "environment", "env_keep=LD_PRELOAD"),)),
-    Linted("a pattern of the policy", 'Defaults env_keep="PYTHON*"\n', ((0, "environment", 'env_keep="PYTHON*"'),)),
-    Linted("a pattern of both", 'Defaults env_keep="LD*"\n', ((0, "environment", 'env_keep="LD*"'),)),
-    Linted("any variable", 'Defaults env_keep="*"\n', ((0, "environment", 'env_keep="*"'),)),
+    Linted("a pattern of the table", "Defaults <1>env_keep=LD_PRELOAD\n", ((1, "environment", "env_keep=LD_PRELOAD"),)),
+    Linted("a pattern of the policy", 'Defaults <1>env_keep="PYTHON*"\n', ((1, "environment", 'env_keep="PYTHON*"'),)),
+    Linted("a pattern of both", 'Defaults <1>env_keep="LD*"\n', ((1, "environment", 'env_keep="LD*"'),)),
+    Linted("any variable", 'Defaults <1>env_keep="*"\n', ((1, "environment", 'env_keep="*"'),)),
     Linted("other parameters", "Defaults env_check=PATH, env_delete=PATH, secure_path=/bin\n"),
 )
 WAY_OUT = (
@@ -134,12 +143,12 @@ ROOT = (
 ORDER = (
     Linted(
         "all rules of a row, and then Defaults",
-        "Defaults setenv\nALL, !bob ALL=(ALL, !root) NOPASSWD: SETENV: <1>ALL, <2>!/bin/a, <3>/bin/vi\n",
+        "Defaults <4>setenv\nALL, !bob ALL=(ALL, !root) NOPASSWD: SETENV: <1>ALL, <2>!/bin/a, <3>/bin/vi\n",
         (
             *((1, rule, "ALL") for rule in ("everyone", "all-but", "nopasswd-any", "environment")),
             (2, "deny-list", "!/bin/a"),
             *((3, rule, "/bin/vi") for rule in ("everyone", "all-but", "environment", "way-out")),
-            (0, "environment", "setenv"),
+            (4, "environment", "setenv"),
         ),
     ),
     Linted("nothing", "# lint\nann ALL=/bin/a\nDefaults use_pty\n"),
@@ -175,7 +184,7 @@ SILENCED = (
     Linted("the line behind it", ONE + "\n# lint: allow everyone\n", FOUND),
     Linted("the next line but one", "# lint: allow everyone\nALL ALL=/bin/a\n" + ONE + "\n", FOUND),
     Linted("parameters", "Defaults setenv, !env_reset # lint: allow environment\n# lint: allow environment\nDefaults env_keep=PATH\n"),
-    Linted("another rule of parameters", "Defaults setenv # lint: allow everyone\n", ((0, "environment", "setenv"),)),
+    Linted("another rule of parameters", "Defaults <1>setenv # lint: allow everyone\n", ((1, "environment", "setenv"),)),
 )
 TABLES = (EVERYONE, ALL_BUT, NOPASSWD_ANY, DENY_LIST, ENVIRONMENT, WAY_OUT, ROOT, ORDER, SILENCED)
 
@@ -187,7 +196,7 @@ def lint_line(place, rule, subject):
 
 def run_linted(stand, row):
     """Runs one row: with its lines, with -s, and with -q."""
-    places = {0: "main:1:1"}
+    places = {}
     text = without_marks("main", row.text, places)
     lines = "".join(lint_line(places[mark], rule, subject) for mark, rule, subject in row.found)
     status = 1 if lines else 0
@@ -255,7 +264,7 @@ OF_MAIN = (("main:2:9", "everyone", "/bin/b"), ("b:1:9", "everyone", "/bin/c"))
 def run_files(stand):
     """Policies of several files; then what is wrong."""
     a_line, b_line = lint_line("a:2:9", "everyone", "/bin/a"), lint_line("b:1:9", "everyone", "/bin/c")
-    defaults = lint_line("a:1:1", "environment", "setenv") + lint_line("main:4:1", "environment", "!env_reset")
+    defaults = lint_line("a:1:10", "environment", "setenv") + lint_line("main:4:10", "environment", "!env_reset")
     main = "main: parsed OK\n" + a_line + "".join(lint_line(*one) for one in OF_MAIN) + defaults
     with Folder(TREES) as folder:
         stand.note("included files", "check --lint main", Wanted(main.encode()), folder)
@@ -280,7 +289,7 @@ def run_files(stand):
         stand.note("a cycle", "check --lint --error-status 7 cycle", Wanted(None, None, 7, **told), folder)
         stand.note("a policy with an error", "check --lint --plain wrong", Wanted(b"wrong:1:8: syntax error: EndOfLine\n", status=1), folder)
         stand.note("no file", "check --lint --plain none", fault("NoRoot", 3), folder)
-        stand.note("wrong words", "check --lint --json main", Wanted(b"", None, 2, stderr_has=(b"cannot be used with",)), folder)
+        stand.note("wrong words", "check --lint --for sudo --json main", Wanted(b"", None, 2, stderr_has=(b"cannot be used with",)), folder)
 
 
 MEMBER_LIMIT = 65_536
@@ -313,6 +322,7 @@ def run_limits(stand):
     for name, text, count in worst_policies():
         with Folder({"main": text}) as folder:
             came = stand.run("check --lint main", folder, seconds=WORST_SECONDS)
+            stand.note_documents(name, "check --lint main", came, folder, seconds=WORST_SECONDS)
             if count is None:
                 told = {"stdout_has": (b"main: parsed OK\n",), "stderr_has": (b"sudoers_tool: TooLarge\n",)}
                 stand.tally.note(f"{PART}: {name}", Wanted(None, None, 3, **told).problems(came))
@@ -367,7 +377,7 @@ def run_growths(stand):
 
 def run_all(program, tally):
     """Runs all of it."""
-    stand = Stand(PART, program, tally)
+    stand = SpellingStand(PART, program, tally)
     for table in TABLES:
         for row in table:
             run_linted(stand, row)

@@ -26,6 +26,8 @@ COMMANDS = (
     (("check", "--overruled"), ()),
     (("check", "--lint"), ()),
     (("diff", "../people/none"), ()),
+    (("diff", "--json", "../people/none"), ()),
+    (("check", "--json", "--overruled", "--lint"), ()),
     *((("convert", "-f", form, *more), ()) for form in ("sudoers", "json") for more in ((), ("-e",))),
     *((("convert", "-f", "sudoers", *more, "-m", "user=bob,host=h1"), ()) for more in ((), ("-e", "-p"))),
     *((LIST, words) for words in ((), ("/bin/a",), ("/a", ARGUMENT))),

@@ -157,7 +157,7 @@ complete -c sudoers_tool -n '__fish_seen_subcommand_from plan' -l check -d 'Set 
 complete -c sudoers_tool -n '__fish_seen_subcommand_from check' -s q -d 'Print no report; only set the exit status'
 complete -c sudoers_tool -n '__fish_seen_subcommand_from check' -s s -d 'Treat undefined and cyclic aliases as errors'
 complete -c sudoers_tool -n '__fish_seen_subcommand_from check' -l all -d 'Print the first error of each line of all files'
-complete -c sudoers_tool -n '__fish_seen_subcommand_from check show' -l json -d 'Print one JSON document, also for an error'
+complete -c sudoers_tool -n '__fish_seen_subcommand_from check diff show' -l json -d 'Print one JSON document, also for an error'
 complete -c sudoers_tool -n '__fish_seen_subcommand_from check' -l skipped -d 'List the folders and the files in included folders that are not read'
 complete -c sudoers_tool -n '__fish_seen_subcommand_from check' -l installed -d 'List links, and what sudo refuses for its owner or mode'
 complete -c sudoers_tool -n '__fish_seen_subcommand_from check' -l for -x -a 'sudo sudo-rs' -d 'List Defaults, other forms and includes that this program refuses'

@@ -1,6 +1,6 @@
 -- What lint finds in a policy, and where.
-use Rattle.std.specs.Prelude.{ℕ, ◌+◌, not, List, [], ◌∷◌, ◌++◌, map, Option, None}
-use Rattle.std.specs.List.{filter, flat_map}
+use Rattle.std.specs.Prelude.{ℕ, ◌+◌, not, List, [], ◌∷◌, ◌++◌, drop, map, Option, None}
+use Rattle.std.specs.List.{filter}
 use Rattle.sudoers_grammar.specs.Node.{Node, Param}
 use Rattle.sudoers_grammar.specs.Node as node
 use Rattle.sudoers_tree.specs.Line.{Line}
@@ -10,6 +10,7 @@ use Rattle.sudoers_compare.specs.FlatSpecs.{PlacedRow, placed_rows_of_policy}
 use Rattle.sudoers_review.specs.OverruledText.{command_text_of_row}
 use Rattle.sudoers_lint.specs.declared.lint_rule.LintRule.{LintRule}
 use Rattle.sudoers_lint.specs.Lint.{AllowedAll, allowed_all_after, broken_rules_of_param, broken_rules_of_row}
+use Rattle.sudoers_lint.specs.ParameterStarts.{parameter_starts}
 use Rattle.sudoers_lint.specs.Silenced.{is_silenced_on_line}
 
 -- A rule that is broken: on the line of the walk with this number, at this byte there. The subject is the command or the parameter.
@@ -34,22 +35,32 @@ findings_of_rows before (placed ∷ rows) = findings_of_row before placed ++ fin
 
 -- ---- Defaults lines
 
-abbrev pub findings_of_param : ℕ → Param → List Finding
-findings_of_param number p = map (finding_at number 0 (printed_param p)) (broken_rules_of_param p)
+abbrev pub findings_of_param : ℕ → ℕ → Param → List Finding
+findings_of_param number start p = map (finding_at number start (printed_param p)) (broken_rules_of_param p)
 
--- the findings of the line with this number that says this
-abbrev pub findings_of_node : ℕ → Node → List Finding
-findings_of_node number (node.Defaults scope params) = flat_map (findings_of_param number) params
-findings_of_node number node.Blank = []
-findings_of_node number node.Comment = []
-findings_of_node number (node.Include dir path) = []
-findings_of_node number (node.Alias k defs) = []
-findings_of_node number (node.Spec users groups) = []
+-- the first of these places, or 0
+abbrev pub first_start : List ℕ → ℕ
+first_start [] = 0
+first_start (start ∷ starts) = start
+
+-- those of parameters in their order, which begin at these places
+abbrev pub findings_of_params : ℕ → List ℕ → List Param → List Finding
+findings_of_params number starts [] = []
+findings_of_params number starts (p ∷ ps) = findings_of_param number (first_start starts) p ++ findings_of_params number (drop 1 starts) ps
+
+-- the findings of the line with this number that has this text and says this
+abbrev pub findings_of_node : ℕ → List ℕ → Node → List Finding
+findings_of_node number text (node.Defaults scope params) = findings_of_params number (parameter_starts text) params
+findings_of_node number text node.Blank = []
+findings_of_node number text node.Comment = []
+findings_of_node number text (node.Include dir path) = []
+findings_of_node number text (node.Alias k defs) = []
+findings_of_node number text (node.Spec users groups) = []
 
 -- those of Defaults lines; the lines are numbered from this number on
 abbrev pub findings_of_lines : ℕ → List Line → List Finding
 findings_of_lines number [] = []
-findings_of_lines number (line ∷ lines) = findings_of_node number line.node ++ findings_of_lines (number + 1) lines
+findings_of_lines number (line ∷ lines) = findings_of_node number line.text line.node ++ findings_of_lines (number + 1) lines
 
 -- ---- a policy
 

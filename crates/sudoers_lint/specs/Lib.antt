@@ -4,6 +4,7 @@ pub mod Known
 pub mod Lint
 pub mod LintText
 pub mod Names
+pub mod ParameterStarts
 pub mod RuleSets
 pub mod Rules
 pub mod Silenced

@@ -1,18 +1,19 @@
 //! What lint finds in Defaults lines.
 
 ghost use Rattle.std.specs.Prelude.{◌≡◌, ◌++◌, map, IfErr, IfOk, OnOk};
-ghost use Rattle.std.specs.List.{flat_map, list_any};
+ghost use Rattle.std.specs.List.{list_any};
 ghost use Rattle.std.specs.Option.{option_map};
 ghost use Rattle.sudoers_line_rows.specs.Tables.{node_in_tables, parameters_of_range_in_tables};
 ghost use Rattle.sudoers_line_rows.specs.View.{parameter_of_view, setting_of_view};
 ghost use Rattle.sudoers_tree.specs.Line.{lines_of_rows};
 ghost use Rattle.sudoers_review.specs.Faults.{IsMemoryOrSizeFault};
-ghost use Rattle.sudoers_lint.specs.Findings.{findings_of_lines, findings_of_node, findings_of_param};
+ghost use Rattle.sudoers_lint.specs.Findings.{findings_of_lines, findings_of_node, findings_of_param, findings_of_params, first_start};
 ghost use Rattle.sudoers_lint.specs.Lint.{does_set_risky_variable, is_param_with_environment};
 ghost use Rattle.sudoers_lint.specs.Names.{is_risky_variable, texts_of_view};
 ghost use Rattle.sudoers_lint.specs.Views.{findings_of_view};
 
 use crate::finding_list::FindingList;
+use crate::parameter_starts::list_parameter_starts;
 use crate::rule_set::RuleSet;
 use crate::variables::is_risky_variable;
 use crate::words::list_words_of_value;
@@ -64,14 +65,15 @@ fn is_param_with_environment(alloc: Global, param: &Param<'_>) -> Result<bool, A
     Ok(false)
 }
 
-/// Adds to `found` what is found of `param`, which stands on the line with the number `line`.
+/// Adds to `found` what is found of `param`, which begins at the byte `start` of the line with the number `line`.
 fn add_findings_of_param(
     alloc: Global,
     line: usize,
+    start: usize,
     param: &Param<'_>,
     found: &mut FindingList,
 ) -> Result<(), CompareFault>
-    ensures added { OnOk result (findings_of_view found.new.findings.items ≡ findings_of_view found.old.findings.items ++ findings_of_param line (parameter_of_view param.now)) }
+    ensures added { OnOk result (findings_of_view found.new.findings.items ≡ findings_of_view found.old.findings.items ++ findings_of_param line start (parameter_of_view param.now)) }
     ensures fault { IfErr result IsMemoryOrSizeFault }
 {
     if !is_param_with_environment(alloc, param)? {
@@ -81,40 +83,57 @@ fn add_findings_of_param(
     append_param(alloc, &mut subject, param)?;
     let mut rules = RuleSet::new();
     rules.environment = true;
-    found.add_findings(alloc, rules, line, 0, subject.as_slice())
+    found.add_findings(alloc, rules, line, start, subject.as_slice())
 }
 
-/// Adds to `found` what is found of the parameters `params`, rows of `tables`. They stand on the line with the number `line`.
+/// Returns the first of `starts`, or 0.
+fn find_first_start(starts: &[usize]) -> usize
+    ensures { result ≡ first_start starts.now }
+{
+    match starts {
+        [start, ..] => *start,
+        [] => 0,
+    }
+}
+
+/// Adds to `found` what is found of the parameters `params`, rows of `tables`. They begin at the bytes `starts` of the line with the number
+/// `line`.
 fn add_findings_of_params(
     alloc: Global,
     tables: &Tables,
     line: usize,
+    starts: &[usize],
     params: RowRange,
     found: &mut FindingList,
 ) -> Result<(), CompareFault>
-    ensures added { OnOk result (findings_of_view found.new.findings.items ≡ findings_of_view found.old.findings.items ++ flat_map (findings_of_param line) (parameters_of_range_in_tables tables.now params)) }
+    ensures added { OnOk result (findings_of_view found.new.findings.items ≡ findings_of_view found.old.findings.items ++ findings_of_params line starts.now (parameters_of_range_in_tables tables.now params)) }
     ensures fault { IfErr result IsMemoryOrSizeFault }
 {
+    let mut left = starts;
     for row in rows_in(tables.params.as_slice(), params) {
-        add_findings_of_param(alloc, line, &tables.parameter_of_row(row), found)?;
+        let param = tables.parameter_of_row(row);
+        add_findings_of_param(alloc, line, find_first_start(left), &param, found)?;
+        left = left.get(1..).unwrap_or(&[]);
     }
     Ok(())
 }
 
-/// Adds to `found` what is found of a Defaults line that `row` says, if it is one. It has the number `line`.
+/// Adds to `found` what is found of a Defaults line that `row` says, if it is one. It has the number `line` and the text `text`.
 fn add_findings_of_node(
     alloc: Global,
     tables: &Tables,
     line: usize,
+    text: &[u8],
     row: &NodeRow,
     found: &mut FindingList,
 ) -> Result<(), CompareFault>
-    ensures added { OnOk result (findings_of_view found.new.findings.items ≡ findings_of_view found.old.findings.items ++ findings_of_node line (node_in_tables tables.now row.now)) }
+    ensures added { OnOk result (findings_of_view found.new.findings.items ≡ findings_of_view found.old.findings.items ++ findings_of_node line text.now (node_in_tables tables.now row.now)) }
     ensures fault { IfErr result IsMemoryOrSizeFault }
 {
     match row {
         NodeRow::Defaults { params, .. } => {
-            add_findings_of_params(alloc, tables, line, *params, found)
+            let starts = list_parameter_starts(alloc, text)?;
+            add_findings_of_params(alloc, tables, line, starts.as_slice(), *params, found)
         }
         _ => Ok(()),
     }
@@ -130,7 +149,8 @@ pub fn add_findings_of_lines(
     ensures fault { IfErr result IsMemoryOrSizeFault }
 {
     for (line, row) in lines.rows.iter().enumerate() {
-        add_findings_of_node(alloc, lines.tables, line, &row.node, found)?;
+        let text = lines.tables.bytes_of_text_row(row.text);
+        add_findings_of_node(alloc, lines.tables, line, text, &row.node, found)?;
     }
     Ok(())
 }

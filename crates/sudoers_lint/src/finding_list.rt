@@ -23,7 +23,7 @@ const FINDING_BYTES: usize = 32;
 pub struct LintFinding {
     /// The number of the line on the walk, from 0.
     pub line: usize,
-    /// The byte of the line, from 0, at which the command begins. Of a parameter it is 0.
+    /// The byte of the line, from 0, at which the command or the parameter begins.
     pub start: usize,
     pub rule: LintRule,
     /// The command or the parameter, as it is printed.

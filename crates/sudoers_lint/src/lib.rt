@@ -8,6 +8,7 @@ mod finding_list;
 mod findings;
 mod lint_rule;
 mod lint_text;
+mod parameter_starts;
 mod programs;
 mod row_findings;
 mod rule_set;

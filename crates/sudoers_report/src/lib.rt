@@ -19,11 +19,11 @@ mod show_document;
 mod syntax_faults;
 mod walked_lines;
 
-pub use check_document::{CheckDocument, PolicyAndReport, make_check_document};
+pub use check_document::{CheckDocument, OverruledValues, PolicyAndReport, make_check_document};
 pub use cut_files::FileLine;
 pub use error_values::{ErrorWords, LoadErrors, make_error_value};
 pub use json_document::{JsonDocument, JsonList};
-pub use json_texts::make_text_value;
+pub use json_texts::{make_optional_text_value, make_text_value};
 pub use loading::load_or_list_faults;
 pub use not_read::make_not_read_list;
 pub use place::{LineAndColumn, PlaceInPolicy, make_optional_place_value};

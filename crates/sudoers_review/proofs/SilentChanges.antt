@@ -7,7 +7,7 @@ use Rattle.laws_compare.specs.Content.{FlatPrivilegeRow, FlatRunasDefault}
 use Rattle.sudoers_compare.specs.FlatSpecs.{PlacedRow, placed_rows_of_policy}
 use Rattle.sudoers_compare.specs.Marked.{unmarked_items}
 use Rattle.sudoers_compare.specs.declared.same_row.CountedChanges.TheVariants as counted
-use Rattle.sudoers_review.specs.ChangedText.{changed_row_line, changed_row_lines, line_of_new_row, marked_rows, marked_rows_in_front, printed_setting, row_of_placed, rows_behind_first_unmarked, rows_with_marks, AreSettingLines, no_setting_line, next_setting_line, IsChangesText, IsSettingsText, same_settings, other_settings}
+use Rattle.sudoers_review.specs.ChangedText.{changed_row_lines, line_of_new_row, marked_rows, marked_rows_in_front, printed_setting, row_of_placed, rows_behind_first_unmarked, rows_with_marks, AreSettingLines, no_setting_line, next_setting_line, IsChangesText, IsSettingsText, same_settings, other_settings}
 
 pub parts_of_nothing_are_nothing : {X : Type 0} → (xs ys : List X) → xs ++ ys ≡ [] → (xs ≡ []) × (ys ≡ [])
 parts_of_nothing_are_nothing [] ys e = (refl, e)

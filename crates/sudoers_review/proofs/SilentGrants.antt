@@ -1,5 +1,5 @@
 -- Where nothing is printed of what a change may grant, the new rows are the old ones without some that allow, and with some more that deny.
-use Rattle.std.proofs.Common.{◌≡◌, ◌⊎◌, inl, inr, ℕ, Bool, true, false, if◌then◌else◌, List, [], ◌∷◌, ◌++◌, codes, map, refl, sym, ap, subst, ◌∙◌, true≢false}
+use Rattle.std.proofs.Common.{◌≡◌, ◌⊎◌, inl, inr, ℕ, Bool, true, false, if◌then◌else◌, List, [], ◌∷◌, map, refl, sym, ap, subst, ◌∙◌, true≢false}
 use Rattle.std.proofs.lemmas.Bool.{and_parts}
 use Rattle.std.specs.List.{AllByRecursion, flat_map}
 use Rattle.sudoers_tree.specs.Load.{LoadedPolicy}
@@ -12,7 +12,7 @@ use Rattle.sudoers_line_rows.specs.Alike.{are_lists_alike}
 use Rattle.sudoers_compare.specs.Marked.{unmarked_items}
 use Rattle.sudoers_compare.specs.SameRow.{is_unchanged_row}
 use Rattle.sudoers_compare.specs.declared.same_row.CountedChanges.TheVariants as counted
-use Rattle.sudoers_review.specs.ChangedText.{changed_row_line, changed_row_lines, line_of_new_row, line_of_old_row, marked_rows, marked_rows_in_front, row_of_placed, rows_behind_first_unmarked, rows_with_marks, IsChangesText}
+use Rattle.sudoers_review.specs.ChangedText.{changed_row_lines, line_of_new_row, line_of_old_row, marked_rows, marked_rows_in_front, row_of_placed, rows_behind_first_unmarked, rows_with_marks, IsChangesText}
 use Rattle.sudoers_review.proofs.SilentChanges.{item_is_not_nothing, parts_of_nothing_are_nothing, settings_without_text_are_same}
 
 abbrev IsAllowing : PlacedRow → Type 0

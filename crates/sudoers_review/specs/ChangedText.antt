@@ -14,10 +14,17 @@ use Rattle.sudoers_compare.specs.FlatSpecs.{PlacedRow, placed_rows_of_policy}
 use Rattle.sudoers_compare.specs.Marked.{unmarked_items, AreUnchangedRows}
 use Rattle.sudoers_compare.specs.declared.same_row.CountedChanges.{CountedChanges}
 use Rattle.sudoers_compare.specs.declared.same_row.CountedChanges.TheVariants as counted
+use Rattle.sudoers_review.specs.declared.change_lines.RuleChange.{RuleChange}
+use Rattle.sudoers_review.specs.declared.change_lines.RuleChange.TheVariants as change
 use Rattle.sudoers_review.specs.OverruledText.{place_text_of_row}
 use Rattle.sudoers_review.specs.RowText.{members_of_signed_atoms, printed_row}
 
 -- ---- rows
+
+-- what stands before a line
+abbrev pub sign_of_change : RuleChange → List ℕ
+sign_of_change change.Went = codes "- "
+sign_of_change change.Came = codes "+ "
 
 -- the line on a row behind this sign: what it says, and where its command stands
 abbrev pub changed_row_line : List ℕ → LoadedPolicy → PlacedRow → List ℕ
@@ -82,6 +89,10 @@ runas_default_param name = record { negated = false; name = codes "runas_default
 
 abbrev pub printed_setting : FlatRunasDefault → List ℕ
 printed_setting setting = codes "Defaults" ++ printed_scope setting.scope ++ codes " " ++ printed_param (runas_default_param setting.name)
+
+-- the line on a setting behind this sign, with this place
+abbrev pub setting_line : List ℕ → List ℕ → FlatRunasDefault → List ℕ
+setting_line sign place setting = sign ++ printed_setting setting ++ codes "  " ++ place ++ codes "\n"
 
 -- the lines on settings behind this sign, each with a place
 pub data AreSettingLines (sign : List ℕ) : List FlatRunasDefault → List ℕ → Type 0 where

@@ -1,5 +1,6 @@
 pub mod ChangedText
 pub mod Faults
+pub mod LineEnd
 pub mod OverruledText
 pub mod RowText
 pub mod RowViews

@@ -7,11 +7,12 @@ ghost use Rattle.sudoers_compare.specs.FlatSpecs.{placed_row_of_view};
 ghost use Rattle.sudoers_review.specs.ChangedText.{changed_row_lines, rows_with_marks, IsChangesText};
 ghost use Rattle.sudoers_review.specs.Faults.{IsMemoryOrSizeFault};
 
+use crate::change_lines::ChangeLines;
 use crate::changed_rows::{MarkedRows, append_changed_rows};
 use crate::changed_settings::append_changed_settings;
 use crate::compare_fault::CompareFault;
 use crate::flat_policy::FlatPolicy;
-use crate::other_defaults::make_changed_other_defaults_text;
+use crate::other_defaults::list_changed_other_defaults;
 use std::alloc::Global;
 use sudoers_compare::{
     CountedChanges, PlacedFlatRow, RowMarks, RowsOfSpecs, mark_changed_rows_of_specs,
@@ -21,7 +22,7 @@ use sudoers_tree::Policy;
 /// Appends to `out` the lines on the rows of `old` and `new` that are marked.
 fn append_rows_with_marks(
     alloc: Global,
-    out: &mut Vec<u8>,
+    out: &mut ChangeLines,
     counted: CountedChanges,
     old: &Policy,
     old_rows: &[PlacedFlatRow<'_>],
@@ -29,7 +30,7 @@ fn append_rows_with_marks(
     new_rows: &[PlacedFlatRow<'_>],
     marks: &RowMarks,
 ) -> Result<(), CompareFault>
-    ensures lines { OnOk result (out.new.items ≡ out.old.items ++ changed_row_lines counted old.now new.now
+    ensures lines { OnOk result (out.new.text.items ≡ out.old.text.items ++ changed_row_lines counted old.now new.now
         (rows_with_marks marks.now.gone.items (map placed_row_of_view old_rows.now)) (rows_with_marks marks.now.came.items (map placed_row_of_view new_rows.now))) }
     ensures fault { IfErr result IsMemoryOrSizeFault }
 {
@@ -48,11 +49,11 @@ fn append_rows_with_marks(
 
 /// What is printed of two policies that differ.
 #[derive(Drop)]
-pub struct ChangesText {
+pub struct PolicyChanges {
     /// The lines on rows and on settings of runas_default. On these the answers depend.
-    pub answers: Vec<u8>,
+    pub answers: ChangeLines,
     /// The lines on other parameters of Defaults, behind a heading. No answer depends on them.
-    pub others: Vec<u8>,
+    pub others: ChangeLines,
 }
 
 /// Returns the lines on what `old` and `new` grant otherwise, the aliases replaced: each row that went behind `-`, and each that came behind `+`,
@@ -64,14 +65,14 @@ pub struct ChangesText {
 ///
 /// `Cycle`: a reachable alias of one of them is cyclic. `TooLarge`: in one of them more than 65,536 members come in the place of
 /// aliases, or the lines have more than 16 MiB. `NoMemory`: memory ran out.
-pub fn make_changes_text(
+pub fn list_changes(
     alloc: Global,
     counted: CountedChanges,
     old: &Policy,
     new: &Policy,
-) -> Result<ChangesText, CompareFault>
-    ensures text { IfOk result (λ text. IsChangesText counted old.now new.now text.answers.items) }
-    ensures straight { IfOk result (λ text. (HasCyclicAliasReachedFromSpecOrDefaults old.now.walk.lines → ⊥) × (HasCyclicAliasReachedFromSpecOrDefaults new.now.walk.lines → ⊥)) }
+) -> Result<PolicyChanges, CompareFault>
+    ensures text { IfOk result (λ changes. IsChangesText counted old.now new.now changes.answers.text.items) }
+    ensures straight { IfOk result (λ _. (HasCyclicAliasReachedFromSpecOrDefaults old.now.walk.lines → ⊥) × (HasCyclicAliasReachedFromSpecOrDefaults new.now.walk.lines → ⊥)) }
     ensures fault { IfErr result (λ fault. (fault ≡ NoMemory) ⊎ ((fault ≡ TooLarge) ⊎ ((fault ≡ Cycle)
         × (HasCyclicAliasReachedFromSpecOrDefaults old.now.walk.lines ⊎ HasCyclicAliasReachedFromSpecOrDefaults new.now.walk.lines)))) }
 {
@@ -90,7 +91,7 @@ pub fn make_changes_text(
         rows: new_rows.as_slice(),
     };
     let marks = mark_changed_rows_of_specs(alloc, counted, olds, news)?;
-    let mut answers = Vec::new(alloc);
+    let mut answers = ChangeLines::new(alloc);
     append_rows_with_marks(
         alloc,
         &mut answers,
@@ -102,6 +103,6 @@ pub fn make_changes_text(
         &marks,
     )?;
     append_changed_settings(alloc, &mut answers, &old_flat, &new_flat)?;
-    let others = make_changed_other_defaults_text(alloc, &old_flat, &new_flat)?;
-    Ok(ChangesText { answers, others })
+    let others = list_changed_other_defaults(alloc, &old_flat, &new_flat)?;
+    Ok(PolicyChanges { answers, others })
 }

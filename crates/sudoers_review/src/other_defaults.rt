@@ -3,6 +3,9 @@
 ghost use Rattle.std.specs.Prelude.{IfErr};
 ghost use Rattle.sudoers_review.specs.Faults.{IsMemoryOrSizeFault};
 
+use crate::change_lines::{
+    ChangeLine, ChangeLines, PlaceOnWalk, RuleChange, TextPart, append_line_end, sign_of,
+};
 use crate::changed_settings::append_flat_scope;
 use crate::compare_fault::CompareFault;
 use crate::flat_policy::FlatPolicy;
@@ -11,7 +14,6 @@ use std::alloc::{AllocError, Global};
 use sudoers_compare::{ComparedLists, FlatScope, choose_marks, find_unmarked, flatten_scope};
 use sudoers_cvt_spell::append_param;
 use sudoers_line_rows::{NodeRow, ParamRow, RowRange, ScopeRow, Tables, rows_in};
-use sudoers_list::append_place_on_walk_line;
 use sudoers_match::read_runas_default_param;
 use sudoers_match_list::ExpansionSource;
 use sudoers_tree::Policy;
@@ -127,63 +129,65 @@ impl OtherDefaults {
     }
 }
 
-/// Appends to `out` the line on `default`, of `policy`, behind `sign`.
+/// Appends to `out` the line on `default`, of `policy`, to which `change` happened.
 fn append_default_line(
     alloc: Global,
-    out: &mut Vec<u8>,
-    sign: &[u8],
+    out: &mut ChangeLines,
+    change: RuleChange,
     policy: &Policy,
     default: &OtherDefault,
 ) -> Result<(), AllocError> {
-    out.extend_from_slice(sign)?;
-    out.extend_from_slice(default.text.as_slice())?;
-    out.extend_from_slice(b"  ")?;
-    append_place_on_walk_line(alloc, out, policy, default.line, 0)?;
-    out.extend_from_slice(b"\n")
+    out.text.extend_from_slice(sign_of(change))?;
+    let start = out.text.len();
+    out.text.extend_from_slice(default.text.as_slice())?;
+    let stop = out.text.len();
+    let rule = TextPart { start, stop };
+    let line = ChangeLine::from_rule(change, rule, PlaceOnWalk::from_line(default.line));
+    append_line_end(alloc, out, policy, line)
 }
 
-/// Appends to `out` the lines on the parameters from number `from` up to `to`, behind `sign`.
+/// Appends to `out` the lines on the parameters from number `from` up to `to`, to which `change` happened.
 fn append_default_lines(
     alloc: Global,
-    out: &mut Vec<u8>,
-    sign: &[u8],
+    out: &mut ChangeLines,
+    change: RuleChange,
     flat: &FlatPolicy<'_>,
     from: usize,
     to: usize,
 ) -> Result<(), AllocError> {
     for number in from..to {
         if let Some(default) = flat.others.list.get(number) {
-            append_default_line(alloc, out, sign, flat.policy, default)?;
+            append_default_line(alloc, out, change, flat.policy, default)?;
         }
     }
     Ok(())
 }
 
 /// Returns a heading and the lines on the parameters in which the policies differ, or nothing if these are the same in both.
-pub fn make_changed_other_defaults_text(
+pub fn list_changed_other_defaults(
     alloc: Global,
     old: &FlatPolicy<'_>,
     new: &FlatPolicy<'_>,
-) -> Result<Vec<u8>, AllocError> {
+) -> Result<ChangeLines, AllocError> {
     let lists = ComparedDefaults {
         old: old.others.list.as_slice(),
         new: new.others.list.as_slice(),
     };
     let marks = choose_marks(alloc, &lists, lists.old.len(), lists.new.len())?;
-    let mut text = Vec::new(alloc);
-    text.extend_from_slice(b"Defaults that this program does not weigh:\n")?;
-    let heading = text.len();
+    let mut out = ChangeLines::new(alloc);
+    out.text
+        .extend_from_slice(b"Defaults that this program does not weigh:\n")?;
     let (mut i, mut j) = (0, 0);
     while i < lists.old.len() || j < lists.new.len() {
         let old_end = find_unmarked(marks.gone.as_slice(), i);
         let new_end = find_unmarked(marks.came.as_slice(), j);
-        append_default_lines(alloc, &mut text, b"- ", old, i, old_end)?;
-        append_default_lines(alloc, &mut text, b"+ ", new, j, new_end)?;
+        append_default_lines(alloc, &mut out, RuleChange::Went, old, i, old_end)?;
+        append_default_lines(alloc, &mut out, RuleChange::Came, new, j, new_end)?;
         i = old_end.saturating_add(1);
         j = new_end.saturating_add(1);
     }
-    if text.len() == heading {
-        text.truncate(0);
+    if out.lines.is_empty() {
+        out.text.truncate(0);
     }
-    Ok(text)
+    Ok(out)
 }

@@ -11,6 +11,8 @@ ghost use Rattle.sudoers_review.specs.Undecided.{AreCountedRows};
 ghost use Rattle.sudoers_review.specs.declared.compare_fault.CompareFault.TheVariants.{Cycle, NoMemory, TooLarge};
 ghost use Rattle.sudoers_review.specs.OverruledText.{command_text_of_row, overruled_lines, overruled_row_line, overruled_row_line_if_any, overruled_text, place_text_of_row, text_of_overrulings, undecided_rows, undecided_rows_line, useless_or_overruled_words};
 
+use crate::change_lines::{PlaceOnWalk, TextPart};
+use crate::changed_rows::place_of_row;
 use crate::compare_fault::CompareFault;
 use crate::flat_policy::FlatPolicy;
 use crate::row_text::TEXT_LIMIT;
@@ -57,22 +59,73 @@ fn append_command_text(
     append_member(alloc, out, false, Kind::Cmnd, &placed.row.member)
 }
 
+/// A command that never decides.
+#[derive(Clone, Copy)]
+pub struct OverruledCommand {
+    /// Whether the row that decides has the sign, the tags and the options of its row.
+    pub is_useless: bool,
+    /// The command, as it is printed.
+    pub command: TextPart,
+    /// Where it stands.
+    pub place: PlaceOnWalk,
+    /// Where the command stands that decides.
+    pub decider: PlaceOnWalk,
+}
+
+/// The commands of which it is not decided whether they never decide: how many they are, and where the first stands.
+#[derive(Clone, Copy)]
+pub struct UndecidedCommands {
+    pub count: usize,
+    pub first: PlaceOnWalk,
+}
+
+/// The lines on the commands of a policy that never decide, and what they say.
+#[derive(Drop)]
+pub struct OverruledCommands {
+    pub text: Vec<u8>,
+    pub commands: Vec<OverruledCommand>,
+    pub undecided: Option<UndecidedCommands>,
+}
+
+impl OverruledCommands {
+    /// Returns no lines.
+    fn new(alloc: Global) -> OverruledCommands
+        ensures { result.text.items ≡ [] }
+    {
+        OverruledCommands {
+            text: Vec::new(alloc),
+            commands: Vec::new(alloc),
+            undecided: None,
+        }
+    }
+}
+
 /// Appends the line on `placed` to `out`, which `later` covers.
 fn append_overruled_row_line(
     alloc: Global,
-    out: &mut Vec<u8>,
+    out: &mut OverruledCommands,
     policy: &Policy,
     placed: &PlacedFlatRow<'_>,
     later: &PlacedFlatRow<'_>,
 ) -> Result<(), AllocError>
-    ensures { OnOk result (out.new.items ≡ out.old.items ++ overruled_row_line policy.now (placed_row_of_view placed.now) (placed_row_of_view later.now)) }
+    ensures { OnOk result (out.new.text.items ≡ out.old.text.items ++ overruled_row_line policy.now (placed_row_of_view placed.now) (placed_row_of_view later.now)) }
 {
-    append_place_of_row(alloc, out, policy, placed)?;
-    out.extend_from_slice(choose_words(has_same_effect(&placed.row, &later.row)))?;
-    append_command_text(alloc, out, placed)?;
-    out.extend_from_slice(b": ")?;
-    append_place_of_row(alloc, out, policy, later)?;
-    out.extend_from_slice(b" decides\n")
+    let is_useless = has_same_effect(&placed.row, &later.row);
+    append_place_of_row(alloc, &mut out.text, policy, placed)?;
+    out.text.extend_from_slice(choose_words(is_useless))?;
+    let start = out.text.len();
+    append_command_text(alloc, &mut out.text, placed)?;
+    let stop = out.text.len();
+    out.text.extend_from_slice(b": ")?;
+    append_place_of_row(alloc, &mut out.text, policy, later)?;
+    out.text.extend_from_slice(b" decides\n")?;
+    out.commands.push(OverruledCommand {
+        is_useless,
+        command: TextPart { start, stop },
+        place: place_of_row(placed),
+        decider: place_of_row(later),
+    })?;
+    Ok(())
 }
 
 /// Returns the row with this number, if there is one.
@@ -91,12 +144,12 @@ fn find_row<'r, 'f>(
 /// Appends the line on `placed` to `out`, if `later` covers it.
 fn append_line_of_overruling(
     alloc: Global,
-    out: &mut Vec<u8>,
+    out: &mut OverruledCommands,
     policy: &Policy,
     placed: &PlacedFlatRow<'_>,
     later: Option<&PlacedFlatRow<'_>>,
 ) -> Result<(), AllocError>
-    ensures { OnOk result (out.new.items ≡ out.old.items
+    ensures { OnOk result (out.new.text.items ≡ out.old.text.items
         ++ overruled_row_line_if_any policy.now (placed_row_of_view placed.now) (option_map (λ (row : Bor PlacedFlatRowOf). placed_row_of_view row.now) later.entry)) }
 {
     match later {
@@ -108,18 +161,18 @@ fn append_line_of_overruling(
 /// Appends to `out` the lines on those of `rows` that later ones cover. `found` says which.
 fn append_overruled_lines(
     alloc: Global,
-    out: &mut Vec<u8>,
+    out: &mut OverruledCommands,
     policy: &Policy,
     rows: &[PlacedFlatRow<'_>],
     found: &[Overruling],
 ) -> Result<(), CompareFault>
-    ensures lines { OnOk result (out.new.items ≡ out.old.items ++ overruled_lines policy.now (map placed_row_of_view rows.now) (map placed_row_of_view rows.now) found.now) }
+    ensures lines { OnOk result (out.new.text.items ≡ out.old.text.items ++ overruled_lines policy.now (map placed_row_of_view rows.now) (map placed_row_of_view rows.now) found.now) }
     ensures fault { IfErr result IsMemoryOrSizeFault }
 {
     for number in 0..rows.len().min(found.len()) {
         let later = find_row(rows, found[number].by);
         append_line_of_overruling(alloc, out, policy, &rows[number], later)?;
-        if out.len() > TEXT_LIMIT {
+        if out.text.len() > TEXT_LIMIT {
             return Err(CompareFault::TooLarge);
         }
     }
@@ -152,13 +205,13 @@ fn count_undecided_rows(found: &[Overruling]) -> UndecidedRows
 /// Appends to `out` the line on those of `rows` of which it is not decided whether a later one covers them.
 fn append_undecided_rows_line(
     alloc: Global,
-    out: &mut Vec<u8>,
+    out: &mut OverruledCommands,
     policy: &Policy,
     rows: &[PlacedFlatRow<'_>],
     found: &[Overruling],
 ) -> Result<(), AllocError>
     requires { length found.now ≡ length rows.now }
-    ensures { OnOk result (out.new.items ≡ out.old.items ++ undecided_rows_line policy.now (undecided_rows (map placed_row_of_view rows.now) found.now)) }
+    ensures { OnOk result (out.new.text.items ≡ out.old.text.items ++ undecided_rows_line policy.now (undecided_rows (map placed_row_of_view rows.now) found.now)) }
 {
     let undecided = count_undecided_rows(found);
     if undecided.count == 0 {
@@ -167,12 +220,18 @@ fn append_undecided_rows_line(
     let Some(first) = rows.get(undecided.first) else {
         return Ok(());
     };
-    append_place_of_row(alloc, out, policy, first)?;
-    out.extend_from_slice(b": not decided: ")?;
-    append_command_text(alloc, out, first)?;
-    out.extend_from_slice(b"; commands with more than 64 later rows: ")?;
-    append_decimal_number(alloc, out, undecided.count)?;
-    out.extend_from_slice(b"\n")
+    append_place_of_row(alloc, &mut out.text, policy, first)?;
+    out.text.extend_from_slice(b": not decided: ")?;
+    append_command_text(alloc, &mut out.text, first)?;
+    out.text
+        .extend_from_slice(b"; commands with more than 64 later rows: ")?;
+    append_decimal_number(alloc, &mut out.text, undecided.count)?;
+    out.text.extend_from_slice(b"\n")?;
+    out.undecided = Some(UndecidedCommands {
+        count: undecided.count,
+        first: place_of_row(first),
+    });
+    Ok(())
 }
 
 /// Returns a line for each command of `policy` that never decides, since a later row covers its row: where it stands, the command, and where
@@ -183,8 +242,11 @@ fn append_undecided_rows_line(
 ///
 /// `Cycle`: a reachable alias is cyclic. `TooLarge`: more than 65,536 members come in the place of aliases, or the lines have more than
 /// 16 MiB. `NoMemory`: memory ran out.
-pub fn make_overruled_text(alloc: Global, policy: &Policy) -> Result<Vec<u8>, CompareFault>
-    ensures text { IfOk result (λ text. text.items ≡ overruled_text policy.now) }
+pub fn list_overruled_commands(
+    alloc: Global,
+    policy: &Policy,
+) -> Result<OverruledCommands, CompareFault>
+    ensures text { IfOk result (λ found. found.text.items ≡ overruled_text policy.now) }
     ensures straight { IfOk result (λ _. HasCyclicAliasReachedFromSpecOrDefaults policy.now.walk.lines → ⊥) }
     ensures fault { IfErr result (λ fault. (fault ≡ NoMemory) ⊎ ((fault ≡ TooLarge) ⊎ ((fault ≡ Cycle) × HasCyclicAliasReachedFromSpecOrDefaults policy.now.walk.lines))) }
 {
@@ -196,8 +258,8 @@ pub fn make_overruled_text(alloc: Global, policy: &Policy) -> Result<Vec<u8>, Co
         rows: rows.as_slice(),
     };
     let found = find_overrulings_of_specs(alloc, given)?;
-    let mut text = Vec::new(alloc);
-    append_overruled_lines(alloc, &mut text, policy, rows.as_slice(), found.as_slice())?;
-    append_undecided_rows_line(alloc, &mut text, policy, rows.as_slice(), found.as_slice())?;
-    Ok(text)
+    let mut out = OverruledCommands::new(alloc);
+    append_overruled_lines(alloc, &mut out, policy, rows.as_slice(), found.as_slice())?;
+    append_undecided_rows_line(alloc, &mut out, policy, rows.as_slice(), found.as_slice())?;
+    Ok(out)
 }

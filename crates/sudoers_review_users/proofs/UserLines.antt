@@ -40,11 +40,11 @@ item_is_among (x ∷ xs) (suc n) d within = inr (item_is_among xs n d (omega (ar
 
 -- ---- one line, part by part
 
-pub five_parts_are_grouped : (o a b c d e : List ℕ) → ((((o ++ a) ++ b) ++ c) ++ d) ++ e ≡ o ++ (a ++ b ++ c ++ d ++ e)
-five_parts_are_grouped o a b c d e = simp append_assoc
-
-pub nine_parts_are_grouped : (o a b c d e f g h i : List ℕ) → ((((((((o ++ a) ++ b) ++ c) ++ d) ++ e) ++ f) ++ g) ++ h) ++ i ≡ o ++ (a ++ b ++ c ++ d ++ e ++ f ++ g ++ h ++ i)
+pub nine_parts_are_grouped : (o a b c d e f g h i : List ℕ) → ((((((o ++ a) ++ b) ++ c) ++ d) ++ e) ++ f) ++ (g ++ h ++ i) ≡ o ++ (a ++ b ++ c ++ d ++ e ++ f ++ g ++ h ++ i)
 nine_parts_are_grouped o a b c d e f g h i = simp append_assoc
+
+pub six_parts_are_grouped : (o a b c d e f : List ℕ) → (((((o ++ a) ++ b) ++ c) ++ d) ++ e) ++ f ≡ o ++ (a ++ b ++ (c ++ d) ++ e ++ f)
+six_parts_are_grouped o a b c d e f = simp append_assoc
 
 pub example_is_appended : (o so_far first new words : List ℕ) → so_far ≡ o → first ≡ so_far ++ codes "e.g. " → new ≡ first ++ words → new ≡ o ++ (codes "e.g. " ++ words)
 example_is_appended o so_far first new words same begun e =

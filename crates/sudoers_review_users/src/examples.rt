@@ -13,6 +13,7 @@ use std::alloc::{AllocError, Global};
 use sudoers_grammar::Items;
 use sudoers_list_people::People;
 use sudoers_match::{Group, Request, join_words};
+use sudoers_review::TextPart;
 
 /// A user for whom two policies are compared.
 #[derive(Clone, Copy)]
@@ -99,7 +100,7 @@ fn append_request(
 }
 
 /// Appends to `out` the first of `examples` that the policies of `review` answer otherwise for the user of `request`, or that none was found.
-/// Leaves the last of `examples` that was asked in `request`.
+/// Returns which part of `out` is the example. Leaves the last of `examples` that was asked in `request`.
 ///
 /// # Errors
 ///
@@ -110,7 +111,7 @@ pub fn append_example(
     review: &UserReview<'_, '_, '_, '_>,
     request: &mut Request,
     examples: Vec<ExampleRequest>,
-) -> Result<(), AllocError>
+) -> Result<Option<TextPart>, AllocError>
     requires { IsReadyReview request.old.who review.now }
     ensures user { request.new.who ≡ request.old.who }
     ensures text { OnOk result ((text : List ℕ) × (out.new.items ≡ out.old.items ++ text) × IsExampleOfReview review.now request.old.who text) }
@@ -123,8 +124,12 @@ pub fn append_example(
         request.moment = example.moment;
         if has_other_answer(alloc, review, request)? {
             out.extend_from_slice(b"e.g. ")?;
-            return append_request(alloc, out, review, request);
+            let start = out.len();
+            append_request(alloc, out, review, request)?;
+            let stop = out.len();
+            return Ok(Some(TextPart { start, stop }));
         }
     }
-    out.extend_from_slice(b"no example found")
+    out.extend_from_slice(b"no example found")?;
+    Ok(None)
 }

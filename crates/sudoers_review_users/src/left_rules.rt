@@ -9,7 +9,7 @@ use std::alloc::{AllocError, Global};
 use sudoers_compare::{FlatRow, PlacedFlatRow};
 use sudoers_line_rows::{BorrowedAtom, MemberRow, RowsOfTable};
 use sudoers_match::Who;
-use sudoers_review::{CompareFault, append_changed_row};
+use sudoers_review::{ChangeLines, CompareFault, RuleChange, append_changed_row};
 use sudoers_tree::Policy;
 
 /// What stands before the lines.
@@ -87,11 +87,11 @@ fn is_row_left(row: &FlatRow<'_>, is_taken: bool, asked: LeftRulesAsked) -> bool
         || has_undecided_member(&row.hosts, asked.has_interfaces)
 }
 
-/// Appends to `out` the lines on the marked rows of `policy` that are left, each behind `sign`.
+/// Appends to `out` the lines on the marked rows of `policy` that are left, to which `change` happened.
 fn append_left_rows(
     alloc: Global,
-    out: &mut Vec<u8>,
-    sign: &[u8],
+    out: &mut ChangeLines,
+    change: RuleChange,
     policy: &Policy,
     rows: &[PlacedFlatRow<'_>],
     marks: &[bool],
@@ -102,7 +102,7 @@ fn append_left_rows(
 {
     for number in 0..rows.len().min(marks.len()).min(taken.len()) {
         if marks[number] && is_row_left(&rows[number].row, taken[number], asked) {
-            append_changed_row(alloc, out, sign, policy, &rows[number])?;
+            append_changed_row(alloc, out, change, policy, &rows[number])?;
         }
     }
     Ok(())
@@ -113,20 +113,21 @@ fn append_left_rows(
 /// # Errors
 ///
 /// `TooLarge`: the lines have more than 16 MiB. `NoMemory`: memory ran out.
-pub fn make_left_rules_text(
+pub fn list_left_rules(
     alloc: Global,
     compared: &ComparedPolicies<'_>,
     rules: &ChangedRules<'_>,
     taken: &TakenRules,
     asked: LeftRulesAsked,
-) -> Result<Vec<u8>, CompareFault>
+) -> Result<ChangeLines, CompareFault>
     ensures { IfErr result IsMemoryOrSizeFault }
 {
-    let mut text = Vec::from_slice(alloc, HEADING)?;
+    let mut out = ChangeLines::new(alloc);
+    out.text.extend_from_slice(HEADING)?;
     append_left_rows(
         alloc,
-        &mut text,
-        b"- ",
+        &mut out,
+        RuleChange::Went,
         compared.old.policy,
         rules.old_rows.as_slice(),
         rules.marks.gone.as_slice(),
@@ -135,16 +136,16 @@ pub fn make_left_rules_text(
     )?;
     append_left_rows(
         alloc,
-        &mut text,
-        b"+ ",
+        &mut out,
+        RuleChange::Came,
         compared.new.policy,
         rules.new_rows.as_slice(),
         rules.marks.came.as_slice(),
         taken.new.as_slice(),
         asked,
     )?;
-    if text.len() == HEADING.len() {
-        text.truncate(0);
+    if out.lines.is_empty() {
+        out.text.truncate(0);
     }
-    Ok(text)
+    Ok(out)
 }

@@ -17,5 +17,5 @@ mod user_rows;
 mod users;
 mod users_fault;
 
-pub use users::{AskedUsers, UserChangesText, make_user_changes_text};
+pub use users::{AskedUsers, UserChanges, list_user_changes};
 pub use users_fault::UserChangesFault;

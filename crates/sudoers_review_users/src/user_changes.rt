@@ -14,13 +14,13 @@ use std::alloc::Global;
 use sudoers_compare::{CountedChanges, mark_changed_rows};
 use sudoers_list_people::People;
 use sudoers_match::{Request, find_runas_default_for};
-use sudoers_review::CompareFault;
+use sudoers_review::{ChangeLines, CompareFault, RuleChange};
 
 /// Appends to `out` what the policies of `review` grant its user otherwise. `request` is one of his. `rules` are the rows in which they differ.
 /// Takes from `left` what is looked at for examples.
 fn append_changes_of_review(
     alloc: Global,
-    out: &mut Vec<u8>,
+    out: &mut ChangeLines,
     review: &UserReview<'_, '_, '_, '_>,
     rules: &ChangedRules<'_>,
     request: &mut Request,
@@ -28,7 +28,7 @@ fn append_changes_of_review(
 ) -> Result<(), CompareFault>
     requires review { IsReadyReview request.old.who review.now }
     requires rules { AreChangedRules review.now.compared.now rules.now }
-    ensures text { OnOk result ((text : List ℕ) × (out.new.items ≡ out.old.items ++ text)
+    ensures text { OnOk result ((text : List ℕ) × (out.new.text.items ≡ out.old.text.items ++ text)
         × IsUserChangesText (old_policy review.now.compared.now) (new_policy review.now.compared.now) review.now.moment review.now.name.now request.old.who text) }
     ensures fault { IfErr result IsMemoryOrSizeFault }
 {
@@ -46,7 +46,7 @@ fn append_changes_of_review(
     append_user_row_lines(
         alloc,
         out,
-        b"- ",
+        RuleChange::Went,
         old.policy,
         went.as_slice(),
         review,
@@ -56,7 +56,7 @@ fn append_changes_of_review(
     append_user_row_lines(
         alloc,
         out,
-        b"+ ",
+        RuleChange::Came,
         new.policy,
         came.as_slice(),
         review,
@@ -73,7 +73,7 @@ fn append_changes_of_review(
 /// `TooLarge`: the lines have more than 16 MiB. `NoMemory`: memory ran out.
 pub fn append_user_changes(
     alloc: Global,
-    out: &mut Vec<u8>,
+    out: &mut ChangeLines,
     compared: &ComparedPolicies<'_>,
     rules: &ChangedRules<'_>,
     people: &People,
@@ -84,7 +84,7 @@ pub fn append_user_changes(
 ) -> Result<(), CompareFault>
     requires compared { IsReadyComparison compared.now }
     requires rules { AreChangedRules compared.now rules.now }
-    ensures text { OnOk result ((text : List ℕ) × (out.new.items ≡ out.old.items ++ text)
+    ensures text { OnOk result ((text : List ℕ) × (out.new.text.items ≡ out.old.text.items ++ text)
         × IsUserChangesText (old_policy compared.now) (new_policy compared.now) moment name.now request.old.who text) }
     ensures fault { IfErr result IsMemoryOrSizeFault }
 {

@@ -11,14 +11,14 @@ ghost use Rattle.sudoers_review_users.specs.Ready.{new_policy, old_policy, AreCh
 use crate::changed_rules::ChangedRules;
 use crate::compared_policies::ComparedPolicies;
 use crate::example_requests::MOST_LOOKED_AT;
-use crate::left_rules::{LeftRulesAsked, TakenRules, make_left_rules_text};
+use crate::left_rules::{LeftRulesAsked, TakenRules, list_left_rules};
 use crate::user_changes::append_user_changes;
 use crate::users_fault::UserChangesFault;
 use std::alloc::Global;
 use sudoers_grammar::Items;
 use sudoers_list_people::{People, who_for};
 use sudoers_match::{Person, Request, Who};
-use sudoers_review::make_changed_other_defaults_text;
+use sudoers_review::{ChangeLines, list_changed_other_defaults};
 use sudoers_tree::Policy;
 
 /// The users for whom two policies are compared, and where and when.
@@ -38,13 +38,13 @@ pub struct AskedUsers<'w> {
 
 /// What is printed of users whom two policies grant something otherwise.
 #[derive(Drop)]
-pub struct UserChangesText {
+pub struct UserChanges {
     /// The lines of each user.
-    pub users: Vec<u8>,
+    pub users: ChangeLines,
     /// The rules that changed and are of none of the users, or are not decided, behind a heading.
-    pub left: Vec<u8>,
+    pub left: ChangeLines,
     /// The lines on other parameters of Defaults, behind a heading. No answer depends on them.
-    pub others: Vec<u8>,
+    pub others: ChangeLines,
 }
 
 /// Returns a request of `who` at the moment `now`, which asks for nothing yet.
@@ -69,7 +69,7 @@ fn make_empty_request(alloc: Global, who: Who, now: u64) -> Request
 /// which the policies differ, and from `left` what is looked at for examples.
 fn append_changes_of_named_user(
     alloc: Global,
-    out: &mut Vec<u8>,
+    out: &mut ChangeLines,
     compared: &ComparedPolicies<'_>,
     people: &People,
     asked: &AskedUsers<'_>,
@@ -80,7 +80,7 @@ fn append_changes_of_named_user(
 ) -> Result<(), UserChangesFault>
     requires compared { IsReadyComparison compared.now }
     requires rules { AreChangedRules compared.now rules.now }
-    ensures text { OnOk result ((text : List ℕ) × (out.new.items ≡ out.old.items ++ text)
+    ensures text { OnOk result ((text : List ℕ) × (out.new.text.items ≡ out.old.text.items ++ text)
         × IsTextOfNamedUser (old_policy compared.now) (new_policy compared.now) asked.now.moment people.now asked.now.host.now asked.now.interfaces.now name.now text) }
     ensures fault { IfErr result (λ fault. IsMemoryOrSizeFaultForUsers fault ⊎ IsFaultOfNamedUser people.now asked.now.host.now asked.now.interfaces.now name.now fault) }
 {
@@ -103,25 +103,25 @@ fn append_changes_of_named_user(
 
 /// Returns the lines of the users `asked.names` of `people`, in their order, on what the policies of `compared` grant them
 /// otherwise. Takes their rows among `rules`, in which the policies differ.
-fn make_text_of_users(
+fn list_changes_of_users(
     alloc: Global,
     compared: &ComparedPolicies<'_>,
     people: &People,
     asked: &AskedUsers<'_>,
     rules: &ChangedRules<'_>,
     taken: &mut TakenRules,
-) -> Result<Vec<u8>, UserChangesFault>
+) -> Result<ChangeLines, UserChangesFault>
     requires compared { IsReadyComparison compared.now }
     requires rules { AreChangedRules compared.now rules.now }
-    ensures text { IfOk result (λ text. IsTextOfNamedUsers (old_policy compared.now) (new_policy compared.now) asked.now.moment people.now asked.now.host.now asked.now.interfaces.now asked.now.names.now text.items) }
+    ensures text { IfOk result (λ lines. IsTextOfNamedUsers (old_policy compared.now) (new_policy compared.now) asked.now.moment people.now asked.now.host.now asked.now.interfaces.now asked.now.names.now lines.text.items) }
     ensures fault { IfErr result (λ fault. IsMemoryOrSizeFaultForUsers fault ⊎ IsFaultOfNamedUsers people.now asked.now.host.now asked.now.interfaces.now asked.now.names.now fault) }
 {
-    let mut text = Vec::new(alloc);
+    let mut out = ChangeLines::new(alloc);
     let mut left = MOST_LOOKED_AT;
     for name in asked.names {
         append_changes_of_named_user(
             alloc,
-            &mut text,
+            &mut out,
             compared,
             people,
             asked,
@@ -131,24 +131,24 @@ fn make_text_of_users(
             &mut left,
         )?;
     }
-    Ok(text)
+    Ok(out)
 }
 
 /// Returns what is printed of the users `asked.names` of `people`, for whom the policies of `compared` are compared.
-fn make_text_of_compared(
+fn list_changes_of_compared(
     alloc: Global,
     compared: &ComparedPolicies<'_>,
     people: &People,
     asked: &AskedUsers<'_>,
-) -> Result<UserChangesText, UserChangesFault>
+) -> Result<UserChanges, UserChangesFault>
     requires { IsReadyComparison compared.now }
-    ensures users { IfOk result (λ text. IsTextOfNamedUsers (old_policy compared.now) (new_policy compared.now) asked.now.moment people.now asked.now.host.now asked.now.interfaces.now asked.now.names.now text.users.items) }
+    ensures users { IfOk result (λ changes. IsTextOfNamedUsers (old_policy compared.now) (new_policy compared.now) asked.now.moment people.now asked.now.host.now asked.now.interfaces.now asked.now.names.now changes.users.text.items) }
     ensures fault { IfErr result (λ fault. IsMemoryOrSizeFaultForUsers fault ⊎ IsFaultOfNamedUsers people.now asked.now.host.now asked.now.interfaces.now asked.now.names.now fault) }
 {
     let rules = ChangedRules::new(alloc, compared)?;
     let mut taken = TakenRules::new(alloc, &rules)?;
-    let users = make_text_of_users(alloc, compared, people, asked, &rules, &mut taken)?;
-    let left = make_left_rules_text(
+    let users = list_changes_of_users(alloc, compared, people, asked, &rules, &mut taken)?;
+    let left = list_left_rules(
         alloc,
         compared,
         &rules,
@@ -158,8 +158,8 @@ fn make_text_of_compared(
             has_interfaces: !asked.interfaces.is_empty(),
         },
     )?;
-    let others = make_changed_other_defaults_text(alloc, &compared.old, &compared.new)?;
-    Ok(UserChangesText {
+    let others = list_changed_other_defaults(alloc, &compared.old, &compared.new)?;
+    Ok(UserChanges {
         users,
         left,
         others,
@@ -175,19 +175,19 @@ fn make_text_of_compared(
 /// `Compare(Cycle)`: a reachable alias of a policy is cyclic. `Compare(TooLarge)`: in one of them more than 65,536 members come in the place of
 /// aliases, or the lines have more than 16 MiB. `Compare(NoMemory)`: memory ran out. `Who(NoUser)`: no user has a name of `asked`.
 /// `Who(BadAddress)`: the interfaces are not in their form.
-pub fn make_user_changes_text(
+pub fn list_user_changes(
     alloc: Global,
     old: &Policy,
     new: &Policy,
     people: &People,
     asked: &AskedUsers<'_>,
-) -> Result<UserChangesText, UserChangesFault>
-    ensures users { IfOk result (λ text. IsTextOfNamedUsers old.now new.now asked.now.moment people.now asked.now.host.now asked.now.interfaces.now asked.now.names.now text.users.items) }
-    ensures straight { IfOk result (λ text. (HasCyclicAliasReachedFromSpecOrDefaults old.now.walk.lines → ⊥) × (HasCyclicAliasReachedFromSpecOrDefaults new.now.walk.lines → ⊥)) }
+) -> Result<UserChanges, UserChangesFault>
+    ensures users { IfOk result (λ changes. IsTextOfNamedUsers old.now new.now asked.now.moment people.now asked.now.host.now asked.now.interfaces.now asked.now.names.now changes.users.text.items) }
+    ensures straight { IfOk result (λ _. (HasCyclicAliasReachedFromSpecOrDefaults old.now.walk.lines → ⊥) × (HasCyclicAliasReachedFromSpecOrDefaults new.now.walk.lines → ⊥)) }
     ensures fault { IfErr result (λ fault. IsMemoryOrSizeFaultForUsers fault ⊎ (((fault ≡ Compare Cycle)
         × (HasCyclicAliasReachedFromSpecOrDefaults old.now.walk.lines ⊎ HasCyclicAliasReachedFromSpecOrDefaults new.now.walk.lines))
         ⊎ IsFaultOfNamedUsers people.now asked.now.host.now asked.now.interfaces.now asked.now.names.now fault)) }
 {
     let compared = ComparedPolicies::new(alloc, old, new)?;
-    make_text_of_compared(alloc, &compared, people, asked)
+    list_changes_of_compared(alloc, &compared, people, asked)
 }

@@ -6,9 +6,6 @@ use Rattle.std.specs.Prelude.{if◌then◌else◌}
 use Rattle.std.specs.Io.KnownBytes.{Consumes}
 use Rattle.sudoers_text.specs.Fault.{text_limit}
 use Rattle.sudoers_tree.specs.declared.named_files.NamedFile.{NamedFile}
-use Rattle.sudoers_run.specs.declared.fault.LayerFault.{LayerFault}
-use Rattle.sudoers_run.specs.declared.fault.LayerFault.TheVariants as layer
-use Rattle.sudoers_run.specs.declared.fault.ToolFault.TheVariants as tool
 use Rattle.sudoers_files.specs.Device.{ReaderMeter}
 use Rattle.sudoers_files.specs.Reading.{IsReadToEndOrBytePastLimit, IsTextOfReader, TooLarge, Whole}
 use Rattle.sudoers_run.specs.Reading.{WasReadToEndOrLimit, reading_end_of_read_bytes}

@@ -1,6 +1,7 @@
 -- What `check` writes for a policy.
-use Rattle.std.specs.Prelude.{ℕ, Bool, if◌then◌else◌, List, [], ◌++◌, codes, Result, Ok, Err}
+use Rattle.std.specs.Prelude.{ℕ, Bool, if◌then◌else◌, List, [], ◌++◌, codes, Option, Result, Ok, Err}
 use Rattle.std.specs.List.{flat_map}
+use Rattle.std.specs.Result.{result_ok}
 use Rattle.sudoers_grammar.specs.Piece.{has_byte}
 use Rattle.sudoers_tree.specs.declared.named_files.NamedFile.{NamedFile}
 use Rattle.sudoers_tree.specs.declared.load_fault.LoadFault.{LoadFault}
@@ -31,6 +32,10 @@ check_exit_status strict (Err fault) = 1
 -- the status for the policy that these files are from `root` on, or why they cannot be gathered
 abbrev pub check_status_from_root : Bool → List ℕ → List NamedFile → Result ℕ LayerFault
 check_status_from_root strict root known = result_after_loading_from_root (λ policy. Ok (check_exit_status strict policy)) root known
+
+-- the policy that these files are from `root` on, none if they have an error, or why they cannot be gathered
+abbrev pub policy_if_loaded_from_root : List ℕ → List NamedFile → Result (Option LoadedPolicy) LayerFault
+policy_if_loaded_from_root root known = result_after_loading_from_root (λ policy. Ok (result_ok policy)) root known
 
 -- why an include of its folder does not read the file with this name
 abbrev pub unread_reason_of_name : List ℕ → List ℕ

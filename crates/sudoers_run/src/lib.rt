@@ -17,7 +17,7 @@ mod output_form;
 mod show;
 mod undo_and_redo;
 
-pub use check::run_check;
+pub use check::{CheckedPolicy, run_check, run_check_and_keep_policy};
 pub use command_words::{CheckWords, ConvertWords, ListWords};
 pub use convert::run_convert;
 pub use edit::{INPUT_LIMIT, make_edit_output_of_files, run_edit};

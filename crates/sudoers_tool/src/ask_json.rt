@@ -10,7 +10,7 @@ use crate::ask_values::{
 };
 use crate::explaining::{explain_fault_of_words, reason_of_file};
 use crate::file_trouble::FileTrouble;
-use crate::files::KeptDisk;
+use crate::files::{KeptDisk, TOP};
 use crate::json_output::{
     make_list_of_faults, make_list_of_gather_fault, word_of_fault_kind, write_document,
 };
@@ -42,7 +42,8 @@ pub fn run_ask_as_json(
     if let Err(trouble) = &outcome
         && is_with_document(trouble.fault())
     {
-        let errors = make_list_of_trouble(rt, words, trouble)?;
+        let mut errors = JsonList::new(rt.alloc());
+        errors.add(&make_error_value_of_trouble(rt, words, trouble, b"")?)?;
         write_error_document(rt, name, words, &errors)?;
     }
     outcome
@@ -62,7 +63,7 @@ fn load_or_write_errors(
         Err(fault) => {
             let fault = ToolFault::from(LayerFault::from(fault));
             if is_with_document(&fault) {
-                let errors = make_list_of_gather_fault(rt, words, files, &fault)?;
+                let errors = make_list_of_gather_fault(rt, words.get_str(TOP), files, &fault, b"")?;
                 write_error_document(rt, name, words, &errors)?;
             }
             return Err(FileTrouble::from(fault));
@@ -71,7 +72,7 @@ fn load_or_write_errors(
     match load_or_list_faults(alloc, found.as_slice(), false)? {
         Ok(policy) => Ok(policy),
         Err(faults) => {
-            let (errors, first) = make_list_of_faults(alloc, found.as_slice(), faults)?;
+            let (errors, first) = make_list_of_faults(alloc, found.as_slice(), faults, b"")?;
             write_error_document(rt, name, words, &errors)?;
             Err(FileTrouble::from(first.unwrap_or(ToolFault::Read)))
         }
@@ -117,15 +118,17 @@ fn write_error_document(
     Ok(())
 }
 
-/// Returns the list with the error `trouble`, which is none of the policy.
-fn make_list_of_trouble(
+/// Returns the error `trouble`, which is none of the policy, as a value. Its text has `label` before it.
+pub fn make_error_value_of_trouble(
     rt: &HostRuntime,
     words: &ArgMatches<'_>,
     trouble: &FileTrouble,
-) -> Result<JsonList, AllocError> {
+    label: &[u8],
+) -> Result<Value, AllocError> {
     let alloc = rt.alloc();
     let fault = trouble.fault();
-    let text = trouble.text(alloc)?;
+    let mut text = Vec::from_slice(alloc, label)?;
+    text.extend_from_slice(trouble.text(alloc)?.as_slice())?;
     let bare = fault_text(alloc, fault)?;
     let explained = explain_fault_of_words(rt, words, trouble.file(), fault)?;
     let (reason, advice) = match (trouble.file(), fault) {
@@ -136,13 +139,19 @@ fn make_list_of_trouble(
         kind: word_of_fault_kind(fault),
         cause: last_word_of(bare.as_slice()),
         text: text.as_slice(),
-        file: trouble.file(),
+        file: file_of_trouble(trouble),
         reason,
         advice,
     };
-    let mut errors = JsonList::new(alloc);
-    errors.add(&make_error_value(alloc, &told)?)?;
-    Ok(errors)
+    make_error_value(alloc, &told)
+}
+
+/// Returns the file that the error `trouble` is about, if it is about one. A user who is missing is no file.
+fn file_of_trouble(trouble: &FileTrouble) -> Option<&[u8]> {
+    match trouble.fault() {
+        ToolFault::Layer(LayerFault::Who(_)) => None,
+        _ => trouble.file(),
+    }
 }
 
 /// Returns the advice of the explanation `text`, if it is one line with an advice.

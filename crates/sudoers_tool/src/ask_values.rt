@@ -27,16 +27,31 @@ pub struct RightsLists {
     pub undecided: Value,
 }
 
-/// Returns where `place` of the walk of `policy` stands.
-fn find_place_on_walk<'a>(policy: &'a Policy, place: WalkPlace) -> Option<PlaceInPolicy<'a>> {
-    let spot = policy.spots_of_walk_lines().get(place.line)?;
+/// Returns the line on the walk of `policy` with the number `number`, from 0.
+fn find_line_on_walk<'a>(policy: &'a Policy, number: usize) -> Option<FileLine<'a>> {
+    let spot = policy.spots_of_walk_lines().get(number)?;
     let lines = policy.lines();
-    let row = lines.rows.get(place.line)?;
-    let line = FileLine {
+    let row = lines.rows.get(number)?;
+    Some(FileLine {
         file: policy.file_name(spot.file),
         row: spot.row,
         text: Line::from_line_row(lines.tables, row).text,
-    };
+    })
+}
+
+/// Returns where byte `start` of the line with the number `number`, from 0, on the walk of `policy` stands.
+pub fn find_start_on_walk<'a>(
+    policy: &'a Policy,
+    number: usize,
+    start: usize,
+) -> Option<PlaceInPolicy<'a>> {
+    let place = find_line_on_walk(policy, number)?.place_of(start, start);
+    Some(PlaceInPolicy { end: None, ..place })
+}
+
+/// Returns where `place` of the walk of `policy` stands.
+fn find_place_on_walk<'a>(policy: &'a Policy, place: WalkPlace) -> Option<PlaceInPolicy<'a>> {
+    let line = find_line_on_walk(policy, place.line)?;
     Some(line.place_of(place.start, place.stop))
 }
 

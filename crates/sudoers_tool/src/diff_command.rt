@@ -1,25 +1,25 @@
 //! The subcommand `diff`: what two policies grant otherwise.
 
 use crate::dialect_option::make_dialect_option;
-use crate::explaining::{
-    add_explaining_options, are_errors_explained, explain_policy, print_explanation,
+use crate::diff_errors::{
+    NEW_SIDE, OLD_SIDE, Side, explain_comparison_fault, explain_error_of_side, find_side_of_fault,
+    print_trouble,
 };
+use crate::diff_json::{ComparedSides, print_document_of_changes, print_document_of_user_changes};
+use crate::explaining::{add_explaining_options, are_errors_explained};
 use crate::file_trouble::FileTrouble;
 use crate::files::{KeptDisk, open_kept_files};
-use crate::json_output::write_document;
-use crate::overruled_notes::fault_of_comparison;
-use crate::terminal::print_error_line;
+use crate::json_output::{is_json_asked, make_json_flag, write_document};
 use crate::user_diff::{
     UserDiffTrouble, add_conflicts_with_users, add_user_options, are_users_asked,
-    make_user_changes_of_words, make_users_argument,
+    list_user_changes_of_words, make_users_argument,
 };
 use clap::{Arg, ArgAction, ArgMatches, Command};
 use std::alloc::{AllocError, Global};
 use sudoers_compare::CountedChanges;
-use sudoers_explain::append_help;
 use sudoers_files::gather;
-use sudoers_review::{ChangesText, CompareFault, make_changes_text};
-use sudoers_review_users::UserChangesText;
+use sudoers_review::{ChangeLines, PolicyChanges, list_changes};
+use sudoers_review_users::UserChanges;
 use sudoers_run::{LayerFault, ToolFault};
 use sudoers_tree::Policy;
 
@@ -44,35 +44,9 @@ const GRANTED: &str = "granted";
 /// The exit status where the policies differ.
 const OTHER_STATUS: u8 = 1;
 
-/// The exit status of an error.
-const ERROR_STATUS: u8 = 3;
-
 /// What help prints last.
 const EXIT_STATUS: &str =
     "Exit status: 0 the policies grant the same, or with --granted NEW allows nothing more; 1 they differ, or may; 2 a wrong command line; 3 an error. See sudoers_tool(8).";
-
-/// One of the policies: the words that name its file, and the folder below which it is read.
-#[derive(Clone, Copy)]
-struct Side {
-    file: &'static str,
-    top: &'static str,
-    /// What stands before an error that does not say which policy it is about.
-    label: &'static [u8],
-}
-
-/// The policy before the change.
-const OLD_SIDE: Side = Side {
-    file: OLD,
-    top: OLD_TOP,
-    label: b"OLD: ",
-};
-
-/// The policy after the change.
-const NEW_SIDE: Side = Side {
-    file: NEW,
-    top: NEW_TOP,
-    label: b"NEW: ",
-};
 
 /// Returns the command line of `diff`.
 pub fn make_diff_subcommand<'a>(alloc: Global) -> Result<Command<'a>, AllocError> {
@@ -105,6 +79,7 @@ pub fn make_diff_subcommand<'a>(alloc: Global) -> Result<Command<'a>, AllocError
         .arg(old_top)?
         .arg(new_top)?
         .arg(make_dialect_option(alloc))?
+        .arg(make_json_flag(alloc))?
         .arg(old)?
         .arg(new)?
         .arg(make_users_argument(alloc))?;
@@ -115,11 +90,11 @@ pub fn make_diff_subcommand<'a>(alloc: Global) -> Result<Command<'a>, AllocError
 pub fn run_diff_command(rt: &HostRuntime, words: &ArgMatches<'_>) -> u8 {
     let mut old_files = match open_side(rt, words, OLD_SIDE) {
         Ok(files) => files,
-        Err(fault) => return print_diff_error(rt, &FileTrouble::from(fault), b"", &[]),
+        Err(fault) => return print_trouble(rt, words, &FileTrouble::from(fault)),
     };
     let mut new_files = match open_side(rt, words, NEW_SIDE) {
         Ok(files) => files,
-        Err(fault) => return print_diff_error(rt, &FileTrouble::from(fault), b"", &[]),
+        Err(fault) => return print_trouble(rt, words, &FileTrouble::from(fault)),
     };
     let old = match load_side(rt, words, OLD_SIDE, &mut old_files) {
         Ok(policy) => policy,
@@ -129,39 +104,73 @@ pub fn run_diff_command(rt: &HostRuntime, words: &ArgMatches<'_>) -> u8 {
         Ok(policy) => policy,
         Err(fault) => return explain_error_of_side(rt, words, NEW_SIDE, &mut new_files, fault),
     };
+    let sides = ComparedSides {
+        old: &old,
+        new: &new,
+    };
+    compare_sides(rt, words, sides)
+}
+
+/// Prints in what the policies `sides`, which `words` name, differ, or an error. Returns the exit status.
+fn compare_sides(rt: &HostRuntime, words: &ArgMatches<'_>, sides: ComparedSides<'_>) -> u8 {
+    let (old, new) = (sides.old, sides.new);
     let fault = if are_users_asked(words) {
-        match make_user_changes_of_words(rt, words, &old, &new) {
-            Ok(changes) => return print_user_changes(rt, changes),
-            Err(UserDiffTrouble::Machine(trouble)) => {
-                return print_diff_error(rt, &trouble, b"", &[]);
-            }
+        match list_user_changes_of_words(rt, words, old, new) {
+            Ok(changes) => return print_user_changes(rt, words, sides, changes),
+            Err(UserDiffTrouble::Machine(trouble)) => return print_trouble(rt, words, &trouble),
             Err(UserDiffTrouble::Policies(fault)) => fault,
         }
     } else {
-        match make_changes_text(rt.alloc(), choose_counted_changes(words), &old, &new) {
-            Ok(changes) => return print_changes(rt, words, changes),
+        match list_changes(rt.alloc(), choose_counted_changes(words), old, new) {
+            Ok(changes) => return print_changes(rt, words, sides, changes),
             Err(fault) => fault,
         }
     };
-    let side = find_side_of_fault(rt.alloc(), fault, &old, &new);
+    let side = find_side_of_fault(rt.alloc(), fault, old, new);
     explain_comparison_fault(rt, words, side, fault)
 }
 
-/// Prints what the policies grant users otherwise. Returns the exit status: 0 if nothing is printed.
-fn print_user_changes(rt: &HostRuntime, changes: UserChangesText) -> u8 {
-    let mut text = changes.users;
-    let joined = match text.extend_from_slice(changes.left.as_slice()) {
-        Ok(()) => text.extend_from_slice(changes.others.as_slice()),
-        Err(error) => Err(error),
+/// Prints what the policies `sides` grant users otherwise. Returns the exit status: 0 if there is nothing.
+fn print_user_changes(
+    rt: &HostRuntime,
+    words: &ArgMatches<'_>,
+    sides: ComparedSides<'_>,
+    changes: UserChanges,
+) -> u8 {
+    let differ = !changes.users.lines.is_empty()
+        || !changes.left.lines.is_empty()
+        || !changes.others.lines.is_empty();
+    let printed = if is_json_asked(words) {
+        print_document_of_user_changes(rt, words, sides, &changes, differ)
+    } else {
+        print_texts(rt, [&changes.users, &changes.left, &changes.others])
     };
-    let printed = match joined {
-        Ok(()) if text.is_empty() => return 0,
-        Ok(()) => write_document(rt, text.as_slice()),
-        Err(error) => Err(ToolFault::from(error)),
-    };
+    status_of_output(rt, words, printed, differ)
+}
+
+/// Prints the lines of `all`, one text after the other.
+fn print_texts(rt: &HostRuntime, all: [&ChangeLines; 3]) -> Result<(), ToolFault> {
+    let mut text = Vec::new(rt.alloc());
+    for lines in all {
+        text.extend_from_slice(lines.text.as_slice())?;
+    }
+    if text.is_empty() {
+        return Ok(());
+    }
+    write_document(rt, text.as_slice())
+}
+
+/// Returns the exit status of a comparison that was `printed`: 1 if the policies differ, or may. Prints the error of printing.
+fn status_of_output(
+    rt: &HostRuntime,
+    words: &ArgMatches<'_>,
+    printed: Result<(), ToolFault>,
+    differ: bool,
+) -> u8 {
     match printed {
-        Ok(()) => OTHER_STATUS,
-        Err(fault) => print_diff_error(rt, &FileTrouble::from(fault), b"", &[]),
+        Ok(()) if differ => OTHER_STATUS,
+        Ok(()) => 0,
+        Err(fault) => print_trouble(rt, words, &FileTrouble::from(fault)),
     }
 }
 
@@ -174,36 +183,9 @@ fn choose_counted_changes(words: &ArgMatches<'_>) -> CountedChanges {
     }
 }
 
-/// Returns the side that `fault` is about, if it is about one: that policy cannot be compared with itself.
-fn find_side_of_fault(
-    alloc: Global,
-    fault: CompareFault,
-    old: &Policy,
-    new: &Policy,
-) -> Option<Side> {
-    if fault == CompareFault::NoMemory {
-        return None;
-    }
-    if is_fault_of_policy(alloc, fault, old) {
-        return Some(OLD_SIDE);
-    }
-    if is_fault_of_policy(alloc, fault, new) {
-        return Some(NEW_SIDE);
-    }
-    None
-}
-
-/// Returns whether `policy` cannot be compared with itself because of `fault`.
-fn is_fault_of_policy(alloc: Global, fault: CompareFault, policy: &Policy) -> bool {
-    match make_changes_text(alloc, CountedChanges::Granting, policy, policy) {
-        Ok(_) => false,
-        Err(found) => found == fault,
-    }
-}
-
 /// Returns the files of a policy.
 fn open_side(rt: &HostRuntime, words: &ArgMatches<'_>, side: Side) -> Result<KeptDisk, ToolFault> {
-    let is_kept = are_errors_explained(rt, words);
+    let is_kept = are_errors_explained(rt, words) || is_json_asked(words);
     let file = words.get_str(side.file).unwrap_or("");
     open_kept_files(rt, words, words.get_str(side.top), file, is_kept)
 }
@@ -221,128 +203,22 @@ fn load_side(
     Ok(policy)
 }
 
-/// Prints in what the policies differ. Returns the exit status. It is 0 if nothing differs. If `words` have `--granted`, it is 0 too where
+/// Prints in what the policies `sides` differ. Returns the exit status. It is 0 if nothing differs. If `words` have `--granted`, it is 0 too where
 /// only parameters differ that this program does not weigh.
-fn print_changes(rt: &HostRuntime, words: &ArgMatches<'_>, changes: ChangesText) -> u8 {
-    let mut text = changes.answers;
-    let may_differ = !text.is_empty();
-    let has_other_defaults = !changes.others.is_empty();
-    let printed = match text.extend_from_slice(changes.others.as_slice()) {
-        Ok(()) if text.is_empty() => Ok(()),
-        Ok(()) => write_document(rt, text.as_slice()),
-        Err(error) => Err(ToolFault::from(error)),
-    };
-    match printed {
-        Ok(()) if may_differ || (has_other_defaults && !words.get_flag(GRANTED)) => OTHER_STATUS,
-        Ok(()) => 0,
-        Err(fault) => print_diff_error(rt, &FileTrouble::from(fault), b"", &[]),
-    }
-}
-
-/// Prints the error `fault` of one policy, with the lines that explain it. Returns the exit status.
-fn explain_error_of_side(
+fn print_changes(
     rt: &HostRuntime,
     words: &ArgMatches<'_>,
-    side: Side,
-    files: &mut KeptDisk,
-    fault: ToolFault,
+    sides: ComparedSides<'_>,
+    changes: PolicyChanges,
 ) -> u8 {
-    let file = words.get_str(side.file).unwrap_or("");
-    let explanation = if are_errors_explained(rt, words)
-        && let Ok(text) = explain_policy(rt, words.get_str(side.top), file, files)
-    {
-        text
+    let has_other_defaults = !changes.others.lines.is_empty();
+    let differ = !changes.answers.lines.is_empty()
+        || (has_other_defaults && !words.get_flag(GRANTED));
+    let printed = if is_json_asked(words) {
+        print_document_of_changes(rt, words, sides, &changes, differ)
     } else {
-        Vec::new(rt.alloc())
+        let none = ChangeLines::new(rt.alloc());
+        print_texts(rt, [&changes.answers, &changes.others, &none])
     };
-    let trouble = match fault {
-        ToolFault::Layer(LayerFault::Load(_) | LayerFault::NoMemory) => FileTrouble::from(fault),
-        fault => FileTrouble::from_fault_in_file(rt.alloc(), file.as_bytes(), fault),
-    };
-    print_diff_error(
-        rt,
-        &trouble,
-        label_of_side(words, side),
-        explanation.as_slice(),
-    )
-}
-
-/// Returns the label of `side` if `words` name one file for both policies, and else nothing.
-fn label_of_side(words: &ArgMatches<'_>, side: Side) -> &'static [u8] {
-    if words.get_str(OLD) == words.get_str(NEW) {
-        side.label
-    } else {
-        b""
-    }
-}
-
-/// Prints why policies are not compared, with the lines that explain it. It is about `side`, if one is given. Returns the exit status.
-fn explain_comparison_fault(
-    rt: &HostRuntime,
-    words: &ArgMatches<'_>,
-    side: Option<Side>,
-    fault: CompareFault,
-) -> u8 {
-    let explanation = if are_errors_explained(rt, words)
-        && let Ok(text) = advice_of_comparison(rt.alloc(), fault, side)
-    {
-        text
-    } else {
-        Vec::new(rt.alloc())
-    };
-    let fault = fault_of_comparison(fault);
-    match side {
-        Some(side) => {
-            let file = words.get_str(side.file).unwrap_or("");
-            let trouble = FileTrouble::from_fault_in_file(rt.alloc(), file.as_bytes(), fault);
-            print_diff_error(
-                rt,
-                &trouble,
-                label_of_side(words, side),
-                explanation.as_slice(),
-            )
-        }
-        None => print_diff_error(rt, &FileTrouble::from(fault), b"", explanation.as_slice()),
-    }
-}
-
-/// Returns the lines that explain why policies are not compared. That is about `side`, if one is given.
-fn advice_of_comparison(
-    alloc: Global,
-    fault: CompareFault,
-    side: Option<Side>,
-) -> Result<Vec<u8>, AllocError> {
-    let advice: &[u8] = match fault {
-        CompareFault::Cycle => {
-            b"an alias leads back to itself: `check` prints the aliases of the circle"
-        }
-        CompareFault::TooLarge if side.is_some() => {
-            b"more than 65536 members come in the place of its aliases, or its Defaults have more than 16 MiB then"
-        }
-        CompareFault::TooLarge => b"the lines that differ have more than 16 MiB",
-        CompareFault::NoMemory => return Ok(Vec::new(alloc)),
-    };
-    let mut text = Vec::new(alloc);
-    append_help(&mut text, &[advice])?;
-    Ok(text)
-}
-
-/// Prints an error with `label` before it, and the lines `explanation`. Want of memory is about no policy, and has no label. Returns the exit
-/// status.
-fn print_diff_error(
-    rt: &HostRuntime,
-    trouble: &FileTrouble,
-    label: &[u8],
-    explanation: &[u8],
-) -> u8 {
-    let label: &[u8] = match trouble.fault() {
-        ToolFault::Layer(LayerFault::NoMemory) => b"",
-        _ => label,
-    };
-    if let Ok(text) = trouble.text(rt.alloc())
-        && print_error_line(rt, &[label, text.as_slice()]).is_ok()
-    {
-        print_explanation(rt, explanation);
-    }
-    ERROR_STATUS
+    status_of_output(rt, words, printed, differ)
 }

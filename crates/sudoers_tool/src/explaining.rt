@@ -102,8 +102,6 @@ pub fn are_files_read_again(rt: &HostRuntime, words: &ArgMatches<'_>) -> bool {
     words.get_flag("all")
         || are_installed_notes_asked(words)
         || are_target_notes_asked(words)
-        || are_overruled_notes_asked(words)
-        || are_lint_notes_asked(words)
         || are_errors_explained(rt, words)
 }
 

@@ -1,5 +1,6 @@
 //! The documents of `check --json` and `show --json`, and their errors.
 
+use crate::check_json::{LintWarnings, OverruledNotes, list_lint_values, list_overruled_values};
 use crate::explaining::{advice_of_fault, find_reason_of_file};
 use crate::files::{KeptDisk, TOP};
 use crate::terminal::open_standard_output;
@@ -9,9 +10,9 @@ use std::io::Write;
 use sudoers_check::check;
 use sudoers_files::{GatherFault, find_missing_folders_and_skipped_files, gather};
 use sudoers_report::{
-    CheckDocument, ErrorWords, JsonList, LoadErrors, PolicyAndReport, load_or_list_faults,
-    make_check_document, make_error_value, make_not_read_list, make_show_document,
-    make_show_error_document,
+    CheckDocument, ErrorWords, JsonList, LoadErrors, OverruledValues, PolicyAndReport,
+    load_or_list_faults, make_check_document, make_error_value, make_not_read_list,
+    make_show_document, make_show_error_document,
 };
 use sudoers_run::{LayerFault, ToolFault, fault_text};
 use sudoers_tree::{LoadFault, NamedFile, Policy};
@@ -43,17 +44,29 @@ pub fn write_document(rt: &HostRuntime, text: &[u8]) -> Result<(), ToolFault> {
     }
 }
 
-/// Returns the list of the errors `faults` of the files `found`, and the first of them.
+/// Returns the text of the error `fault`, with `before` before it.
+fn make_text_of_fault(
+    alloc: Global,
+    before: &[u8],
+    fault: &ToolFault,
+) -> Result<Vec<u8>, AllocError> {
+    let mut text = Vec::from_slice(alloc, before)?;
+    text.extend_from_slice(fault_text(alloc, fault)?.as_slice())?;
+    Ok(text)
+}
+
+/// Returns the list of the errors `faults` of the files `found`, each with `before` before its text, and the first of them.
 pub fn make_list_of_faults(
     alloc: Global,
     found: &[NamedFile],
     faults: Vec<LoadFault>,
+    before: &[u8],
 ) -> Result<(JsonList, Option<ToolFault>), AllocError> {
     let mut errors = LoadErrors::new(alloc, found)?;
     let mut first = None;
     for fault in faults {
         let fault = ToolFault::Layer(LayerFault::from(fault));
-        let text = fault_text(alloc, &fault)?;
+        let text = make_text_of_fault(alloc, before, &fault)?;
         if let ToolFault::Layer(LayerFault::Load(fault)) = &fault {
             errors.add(fault, text.as_slice())?;
         }
@@ -80,6 +93,8 @@ fn make_error_document<'a>(
         root,
         errors,
         noted: None,
+        lint: None,
+        overruled: None,
         not_read,
         passed: false,
     };
@@ -115,11 +130,9 @@ pub fn run_check_as_json(
     let list = list_not_read(alloc, words, found.as_slice(), files)?;
     let (root, not_read) = (root.as_bytes(), list.as_ref());
     let (text, status) = match loaded {
-        Ok(policy) => {
-            make_document_of_policy(alloc, root, &policy, words.get_flag("strict"), not_read)?
-        }
+        Ok(policy) => make_document_of_policy(alloc, root, &policy, words, not_read)?,
         Err(faults) => {
-            let (errors, _) = make_list_of_faults(alloc, found.as_slice(), faults)?;
+            let (errors, _) = make_list_of_faults(alloc, found.as_slice(), faults, b"")?;
             let text = make_error_document(alloc, CHECK, root, &errors, not_read)?;
             (text, 1)
         }
@@ -130,29 +143,60 @@ pub fn run_check_as_json(
     Ok(status)
 }
 
-/// Returns the document of `check` for the policy `policy`, whose first file is `root`, and the exit status. With `strict`, undefined names and
-/// cyclic aliases are errors.
-fn make_document_of_policy(
+/// Returns the document of `check` for the policy `policy`, whose first file is `root`, and the exit status. If `words` are strict, undefined
+/// names, cyclic aliases and warnings of lint are errors.
+fn make_document_of_policy<'a>(
     alloc: Global,
-    root: &[u8],
-    policy: &Policy,
-    strict: bool,
-    not_read: Option<&JsonList>,
-) -> Result<(Vec<u8>, u8), AllocError> {
+    root: &'a [u8],
+    policy: &'a Policy,
+    words: &ArgMatches<'_>,
+    not_read: Option<&'a JsonList>,
+) -> Result<(Vec<u8>, u8), ToolFault> {
+    let strict = words.get_flag("strict");
     let report = check(alloc, policy)?;
-    let passed = report.is_parsed_ok(strict);
+    let overruled = list_overruled_values(alloc, words, policy)?;
+    let warnings = list_lint_values(alloc, words, policy)?;
+    let is_warned = match &warnings {
+        Some(warnings) => warnings.is_any,
+        None => false,
+    };
+    let passed = report.is_parsed_ok(strict) && !(strict && is_warned);
+    let errors = JsonList::new(alloc);
+    let lint = list_of_warnings(&warnings);
+    let values = values_of_overruled(&overruled);
     let document = CheckDocument {
         root,
-        errors: &JsonList::new(alloc),
+        errors: &errors,
         noted: Some(PolicyAndReport {
             policy,
             report: &report,
         }),
+        lint,
+        overruled: values,
         not_read,
         passed,
     };
     let text = make_check_document(alloc, &document)?;
     Ok((text, if passed { 0 } else { 1 }))
+}
+
+/// Returns the list of `warnings`, if there is one.
+fn list_of_warnings(warnings: &Option<LintWarnings>) -> Option<&JsonList> {
+    match warnings {
+        Some(warnings) => Some(&warnings.list),
+        None => None,
+    }
+}
+
+/// Returns what is found of the commands that never decide, if it was asked for.
+fn values_of_overruled(notes: &Option<OverruledNotes>) -> Option<OverruledValues<'_>> {
+    match notes {
+        Some(notes) => Some(OverruledValues {
+            commands: &notes.commands,
+            not_decided: &notes.not_decided,
+        }),
+        None => None,
+    }
 }
 
 /// Shows the policy `root` as a document. If the policy has an error, writes the document with it.
@@ -170,7 +214,7 @@ pub fn run_show_as_json(
             Ok(0)
         }
         Err(faults) => {
-            let (errors, first) = make_list_of_faults(alloc, found.as_slice(), faults)?;
+            let (errors, first) = make_list_of_faults(alloc, found.as_slice(), faults, b"")?;
             let text = make_show_error_document(alloc, root.as_bytes(), &errors)?;
             write_document(rt, text.as_slice())?;
             match first {
@@ -216,33 +260,35 @@ fn make_document_of_fault(
     files: &KeptDisk,
     fault: &ToolFault,
 ) -> Result<Vec<u8>, AllocError> {
-    let errors = make_list_of_gather_fault(rt, words, files, fault)?;
+    let errors = make_list_of_gather_fault(rt, words.get_str(TOP), files, fault, b"")?;
     make_error_document(rt.alloc(), name, root.as_bytes(), &errors, None)
 }
 
-/// Returns the list with the error `fault` of gathering `files`.
+/// Returns the list with the error `fault` of gathering `files`, below the folder `top` if one is given. Its text has `before` before it.
 ///
 /// # Errors
 ///
 /// Memory ran out.
 pub fn make_list_of_gather_fault(
     rt: &HostRuntime,
-    words: &ArgMatches<'_>,
+    top: Option<&str>,
     files: &KeptDisk,
     fault: &ToolFault,
+    before: &[u8],
 ) -> Result<JsonList, AllocError> {
     let alloc = rt.alloc();
-    let text = fault_text(alloc, fault)?;
+    let cause = fault_text(alloc, fault)?;
+    let text = make_text_of_fault(alloc, before, fault)?;
     let file = files.files().files().last_requested_name();
     let is_of_file = is_fault_of_file(fault);
     let reason = if is_of_file {
-        Some(find_reason_of_file(rt, words.get_str(TOP), file)?.as_bytes())
+        Some(find_reason_of_file(rt, top, file)?.as_bytes())
     } else {
         None
     };
     let printed = ErrorWords {
         kind: word_of_fault_kind(fault),
-        cause: text.as_slice(),
+        cause: cause.as_slice(),
         text: text.as_slice(),
         file: if is_of_file { Some(file) } else { None },
         reason,

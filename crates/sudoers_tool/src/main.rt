@@ -11,9 +11,12 @@ mod ask_json;
 mod ask_subcommands;
 mod ask_values;
 mod changed_lines;
+mod check_json;
 mod convert_command;
 mod dialect_option;
 mod diff_command;
+mod diff_errors;
+mod diff_json;
 mod edit_command;
 mod explaining;
 mod explaining_edits;
@@ -83,7 +86,9 @@ use std::alloc::AllocError;
 use std::io;
 use std::io::IsTerminal;
 use std::process::ExitCode;
-use sudoers_run::{CheckWords, Counted, ToolFault, run_check, run_show};
+use sudoers_run::{
+    CheckWords, CheckedPolicy, Counted, ToolFault, run_check_and_keep_policy, run_show,
+};
 
 /// What is printed before the program waits for a terminal.
 const BEFORE_WAITING: &[u8] =
@@ -332,28 +337,31 @@ fn run_check_command(
     }
     let installed = find_installed_notes(rt, words, file, files)?.notes;
     let refused = find_target_notes(rt, words, file, files)?;
-    let status = print_report_of_check(rt, file, words, files)?;
+    let checked = print_report_of_check(rt, file, words, files)?;
     installed.print(rt, words)?;
     refused.print(rt, words)?;
-    find_overruled_notes(rt, words, file, files)?.print(rt, words)?;
-    let warned = find_lint_notes(rt, words, file, files)?;
+    find_overruled_notes(rt.alloc(), words, &checked.policy)?.print(rt, words)?;
+    let warned = find_lint_notes(rt.alloc(), words, &checked.policy)?;
     warned.print(rt, words)?;
     let noted = installed
         .status_of_words(words)
         .max(refused.status_of_words(words))
         .max(warned.status_of_words(words));
-    Ok(status.max(noted))
+    Ok(checked.status.max(noted))
 }
 
-/// Prints the report on a policy, or all its errors if `words` ask for them. Returns the exit status.
+/// Prints the report on a policy, or all its errors if `words` ask for them. Returns the exit status, and the policy if it has no error.
 fn print_report_of_check(
     rt: &HostRuntime,
     file: &str,
     words: &ArgMatches<'_>,
     files: &mut KeptDisk,
-) -> Result<u8, ToolFault> {
+) -> Result<CheckedPolicy, ToolFault> {
     if print_all_errors(rt, words, file, files)? {
-        return Ok(1);
+        return Ok(CheckedPolicy {
+            status: 1,
+            policy: None,
+        });
     }
     let mut writer = Counted::new(open_standard_output(rt));
     let root = file.as_bytes();
@@ -362,7 +370,7 @@ fn print_report_of_check(
         strict: words.get_flag("strict"),
         skipped: words.get_flag("skipped") || are_installed_notes_asked(words),
     };
-    run_check(rt.alloc(), files, root, &asked, &mut writer)
+    run_check_and_keep_policy(rt.alloc(), files, root, &asked, &mut writer)
 }
 
 /// Prints an error and the lines `explanation`, and returns the exit status `error_status`. Prints nothing if memory runs out.

@@ -1,14 +1,13 @@
 //! Notes about the commands that never decide, for `check --overruled`.
 
-use crate::files::KeptDisk;
-use crate::json_output::JSON;
-use crate::report_notes::{ReportNotes, load_noted_policy};
+use crate::report_notes::ReportNotes;
 use clap::{Arg, ArgAction, ArgMatches};
-use std::alloc::{AllocError, Global};
+use std::alloc::Global;
 use sudoers_cvt_rules::CvtFault;
 use sudoers_match_list::AskFault;
-use sudoers_review::{CompareFault, make_overruled_text};
+use sudoers_review::{CompareFault, list_overruled_commands};
 use sudoers_run::{LayerFault, ToolFault};
+use sudoers_tree::Policy;
 
 /// The option that asks for the notes.
 const OVERRULED: &str = "overruled";
@@ -17,14 +16,13 @@ const OVERRULED: &str = "overruled";
 pub const OVERRULED_ERROR_STATUS: u8 = 3;
 
 /// Returns the option that asks for the commands that never decide.
-pub fn make_overruled_flag<'a>(alloc: Global) -> Result<Arg<'a>, AllocError> {
+pub fn make_overruled_flag<'a>(alloc: Global) -> Arg<'a> {
     Arg::new(alloc, OVERRULED)
         .long(OVERRULED)
         .action(ArgAction::SetTrue)
         .help(
             "After the report, list the commands that never decide, since a later rule overrules them",
         )
-        .conflicts_with(JSON)
 }
 
 /// Returns whether `words` ask for the commands that never decide.
@@ -41,21 +39,18 @@ pub fn fault_of_comparison(fault: CompareFault) -> ToolFault {
     })
 }
 
-/// Returns the notes about the policy `root`, if `words` ask for them. `files` are those of the policy. A policy with an
-/// error has none: its report prints the error.
+/// Returns the notes about `policy`, if `words` ask for them. Without a policy there are none: the report prints the error.
 pub fn find_overruled_notes(
-    rt: &HostRuntime,
+    alloc: Global,
     words: &ArgMatches<'_>,
-    root: &str,
-    files: &mut KeptDisk,
+    policy: &Option<Policy>,
 ) -> Result<ReportNotes, ToolFault> {
-    let alloc = rt.alloc();
     let mut notes = ReportNotes::new(alloc);
-    if !are_overruled_notes_asked(words) {
-        return Ok(notes);
-    }
-    if let Some(policy) = load_noted_policy(alloc, root, files)? {
-        notes.text = make_overruled_text(alloc, &policy).map_err(fault_of_comparison)?;
+    if let Some(policy) = policy
+        && are_overruled_notes_asked(words)
+    {
+        let found = list_overruled_commands(alloc, policy).map_err(fault_of_comparison)?;
+        notes.text = found.text;
     }
     Ok(notes)
 }

@@ -109,8 +109,8 @@ fn make_check_subcommand<'a>(alloc: Global) -> Result<Command<'a>, AllocError> {
         .arg(skipped)?
         .arg(make_installed_flag(alloc)?)?
         .arg(make_target_option(alloc)?)?
-        .arg(make_overruled_flag(alloc)?)?
-        .arg(make_lint_flag(alloc)?)?
+        .arg(make_overruled_flag(alloc))?
+        .arg(make_lint_flag(alloc))?
         .arg(make_dialect_option(alloc))?
         .arg(make_all_flag(alloc))?
         .arg(make_json_flag(alloc))?

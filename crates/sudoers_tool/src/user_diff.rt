@@ -10,7 +10,7 @@ use sudoers_grammar::{Items, is_time_stamp};
 use sudoers_list_people::{People, WhoFault};
 use sudoers_match_member::convert_stamp_to_zero_filled_number;
 use sudoers_review::CompareFault;
-use sudoers_review_users::{AskedUsers, UserChangesFault, UserChangesText, make_user_changes_text};
+use sudoers_review_users::{AskedUsers, UserChanges, UserChangesFault, list_user_changes};
 use sudoers_run::{LayerFault, ToolFault};
 use sudoers_tree::Policy;
 
@@ -121,12 +121,12 @@ fn read_moment_number(rt: &HostRuntime, words: &ArgMatches<'_>) -> Result<u64, F
 }
 
 /// Returns what `old` and `new` grant the users of `words` otherwise.
-pub fn make_user_changes_of_words(
+pub fn list_user_changes_of_words(
     rt: &HostRuntime,
     words: &ArgMatches<'_>,
     old: &Policy,
     new: &Policy,
-) -> Result<UserChangesText, UserDiffTrouble> {
+) -> Result<UserChanges, UserDiffTrouble> {
     let alloc = rt.alloc();
     let people = read_people(rt, words)?;
     let names = list_user_names(alloc, words, &people)?;
@@ -144,8 +144,8 @@ pub fn make_user_changes_of_words(
         interfaces: interfaces.as_slice(),
         moment: read_moment_number(rt, words)?,
     };
-    match make_user_changes_text(alloc, old, new, &people, &asked) {
-        Ok(text) => Ok(text),
+    match list_user_changes(alloc, old, new, &people, &asked) {
+        Ok(changes) => Ok(changes),
         Err(UserChangesFault::Who(fault)) => {
             Err(UserDiffTrouble::Machine(FileTrouble::from(LayerFault::from(fault))))
         }

@@ -24,7 +24,7 @@ pub use before_errors::{
     check_before_errors, convert_before_errors, edit_before_errors, list_before_errors,
 };
 pub use bundles::{bundle_files, put_bundle};
-pub use checking::check_policy;
+pub use checking::{check_and_keep_policy, check_policy};
 pub use converting::convert_policy;
 pub use devices::list_devices;
 pub use editing::edit_policy;

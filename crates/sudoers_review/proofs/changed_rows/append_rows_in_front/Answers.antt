@@ -14,7 +14,7 @@ loop-number-preserved c =
     let line = line_of_new_row c.args.counted new.policy.now in
     let row = placed_row_of_view (get_or new.rows.now number c.index-new-number.result) in
     let stands = held_row_stands new number c.index-new-number.result true c.is_marked.result c.loop-number-test.true c.if-is_marked.true c.is_marked.ensures in (
-      marked_line_in_front_is_appended line c.loop-number.out.items c.append_new_row.new.out.items (drop number rows) (drop (number + 1) rows) row stands c.in_ok-append_new_row.ensures.line
+      marked_line_in_front_is_appended line c.loop-number.out.text.items c.append_new_row.new.out.text.items (drop number rows) (drop (number + 1) rows) row stands c.in_ok-append_new_row.ensures.line
           ∙ c.loop-number.invariant.0,
       rows_behind_marked_row_are_same (drop number rows) (drop (number + 1) rows) row stands ∙ c.loop-number.invariant.1,
     )
@@ -27,7 +27,7 @@ returns-then-number-new-clause-lines c =
     elim c.loop-number-test.branch [
       | then-loop-number-test+else-is_marked w ↦
           let found = held_row_without_mark_stands new number w.is_marked.result c.if-number-new.true w.if-is_marked.false w.is_marked.ensures in
-          unmarked_row_ends_lines_in_front (line_of_new_row c.args.counted new.policy.now) c.loop-number.out.items (drop number rows) (drop (number + 1) rows) found.0 found.1
+          unmarked_row_ends_lines_in_front (line_of_new_row c.args.counted new.policy.now) c.loop-number.out.text.items (drop number rows) (drop (number + 1) rows) found.0 found.1
           ∙ c.loop-number.invariant.0
       | else-loop-number-test w ↦ absurd (omega (arith, w.loop-number-test.false, c.if-number-new.true))
     ]
@@ -49,7 +49,7 @@ returns-else-number-new-clause-lines c =
     let new = c.args.new.now in
     let number = c.loop-number.number in
     let end : length new.rows.now ≤ number = omega (arith, c.if-number-new.false) in
-    last_row_ends_lines_in_front (line_of_new_row c.args.counted new.policy.now) c.loop-number.out.items (drop number (marked_rows_of_view new)) (no_held_row_stands_behind_last new number end)
+    last_row_ends_lines_in_front (line_of_new_row c.args.counted new.policy.now) c.loop-number.out.text.items (drop number (marked_rows_of_view new)) (no_held_row_stands_behind_last new number end)
     ∙ c.loop-number.invariant.0
 
 pub returns-else-number-new-clause-behind : goal.returns-else-number-new-clause-behind

@@ -1,8 +1,6 @@
 use Rattle.std.proofs.Common.{◌≡◌, ◌++◌, List, ℕ, Some, codes, map, sym, ap, ◌∙◌}
 use Rattle.std.proofs.lemmas.List.{length-map}
-use Rattle.std.proofs.lemmas.Result.{on_ok_weaker}
 use Rattle.std.specs.Fmt.{decimal}
-use Rattle.sudoers_list.proofs.Passing.{value_on_ok_is_first_choice}
 use Rattle.sudoers_compare.specs.FlatSpecs.{PlacedRow, placed_row_of_view}
 use Rattle.sudoers_review.specs.OverruledText.{command_text_of_row, place_text_of_row, undecided_rows}
 use Rattle.sudoers_review.proofs.OverruledRows.{row_read_stands, undecided_line_is_appended}
@@ -10,7 +8,7 @@ use Rattle.sudoers_review.proofs.overruled.append_undecided_rows_line.Goals as g
 
 pub returns : goal.returns
 returns c =
-    let o = c.args.out.now.items in
+    let o = c.args.out.now.text.items in
     let policy = c.args.policy.now in
     let rows = c.args.rows.now in
     let all : List PlacedRow = map placed_row_of_view rows in
@@ -26,8 +24,6 @@ returns c =
     c.in_ok-extend_from_slice-2.ensures.items ∙ ap (λ (x : List ℕ). x ++ codes "; commands with more than 64 later rows: ") third in
     let fifth : c.append_decimal_number.new.out.items ≡ ((((o ++ place) ++ codes ": not decided: ") ++ command) ++ codes "; commands with more than 64 later rows: ") ++ decimal counted.count =
     c.in_ok-append_decimal_number.ensures.appended ∙ ap (λ (x : List ℕ). x ++ decimal counted.count) fourth in
-    let said = c.append_decimal_number.new.out.items in
-    on_ok_weaker c.extend_from_slice-3.result (λ e.
     undecided_line_is_appended policy all (undecided_rows all c.args.found.now) counted row o c.extend_from_slice-3.new.self.items held c.if-undecided-eq0.false
-    (sym (row_read_stands placed_row_of_view rows counted.first (Some c.in-Some.first) c.in-Some.ensures.lookup)) (e ∙ ap (λ (x : List ℕ). x ++ codes "\n") fifth))
-    (value_on_ok_is_first_choice c.extend_from_slice-3.result c.extend_from_slice-3.new.self.items (said ++ codes "\n") said c.extend_from_slice-3.ensures.items)
+    (sym (row_read_stands placed_row_of_view rows counted.first (Some c.in-Some.first) c.in-Some.ensures.lookup))
+    (c.in_ok-extend_from_slice-3.ensures.items ∙ ap (λ (x : List ℕ). x ++ codes "\n") fifth)

@@ -1,6 +1,4 @@
 use Rattle.std.proofs.Common.{◌++◌, ℕ, List, codes, ap, refl, subst, sym, ◌∙◌}
-use Rattle.std.proofs.lemmas.Result.{on_ok_weaker}
-use Rattle.sudoers_list.proofs.Passing.{value_on_ok_is_first_choice}
 use Rattle.sudoers_match_member.specs.declared.people_and_commands.Who.{Who}
 use Rattle.sudoers_review_users.specs.Ready.{IsReadyReview}
 use Rattle.sudoers_review_users.specs.UserChanges.{example_is_named, no_example_is_found}
@@ -15,16 +13,14 @@ has_other_answer-requires c = subst (λ (who : Who). IsReadyReview who c.args.re
 
 pub returns-then-branch-clause-text : goal.returns-then-branch-clause-text
 returns-then-branch-clause-text c =
-    let o = c.args.out.now.items in
-    on_ok_weaker c.append_request.result (λ e. (
+    let o = c.args.out.now.items in (
       _,
-      example_is_appended o c.loop-example.out.items c.extend_from_slice.new.self.items c.append_request.new.out.items _ c.loop-example.invariant.1 c.in_ok-extend_from_slice.ensures.items e,
+      example_is_appended o c.loop-example.out.items c.extend_from_slice.new.self.items c.append_request.new.out.items _ c.loop-example.invariant.1 c.in_ok-extend_from_slice.ensures.items
+          c.in_ok-append_request.ensures,
       example_is_named _ c.loop-example.invariant.0 (c.in_ok-has_other_answer.ensures c.if-branch.true),
-    )) c.append_request.ensures
+    )
 
 pub returns-clause-text : goal.returns-clause-text
 returns-clause-text c =
-    let said = c.loop-example.out.items in
     let words : List ℕ = codes "no example found" in
-    on_ok_weaker c.extend_from_slice-2.result (λ e. (words, e ∙ ap (λ (x : List ℕ). x ++ words) c.loop-example.invariant.1, no_example_is_found))
-    (value_on_ok_is_first_choice c.extend_from_slice-2.result c.extend_from_slice-2.new.self.items (said ++ words) said c.extend_from_slice-2.ensures.items)
+    (words, c.in_ok-extend_from_slice-2.ensures.items ∙ ap (λ (x : List ℕ). x ++ words) c.loop-example.invariant.1, no_example_is_found)

@@ -63,7 +63,7 @@ returns-clause-text c =
     let defaults = default_lines review.name.now review.old_default.now review.new_default.now in
     on_ok_weaker c.append_user_row_lines-2.result (λ got. (
       defaults ++ first.0 ++ got.0,
-      three_texts_are_appended c.args.out.now.items defaults first.0 got.0 c.append_default_lines.new.out.items c.append_user_row_lines.new.out.items c.append_user_row_lines-2.new.out.items
+      three_texts_are_appended c.args.out.now.text.items defaults first.0 got.0 c.append_default_lines.new.out.text.items c.append_user_row_lines.new.out.text.items c.append_user_row_lines-2.new.out.text.items
           c.in_ok-append_default_lines.ensures first.1 got.1,
       changes_of_user_have_their_parts (old_policy compared) (new_policy compared) review.moment review.name.now who olds news gone came
           review.old_default.now review.new_default.now first.0 got.0 c.requires.review.old_default c.requires.review.new_default e e_too are first_are
