@@ -1,4 +1,4 @@
-//! Numbers of members, and bits of lists, by which most lists are told apart.
+//! A number for each member, and bits for each list. Most lists that differ have other bits.
 
 ghost use Rattle.std.specs.Prelude.{◌≡◌, ◌==◌, ◌<◌, ◌^◌};
 ghost use Rattle.std.specs.Int.Bits.{bit_and};
