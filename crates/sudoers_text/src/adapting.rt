@@ -287,8 +287,7 @@ fn respell_line(alloc: Global, line: &[u8]) -> Result<Vec<u8>, AllocError>
     let mut reached = LeftContextAtOffset::start_of_line();
     let mut at = 0;
     while let Some(start) = find_next_token_start(line, at) {
-        let (next, known) = reached.advance_to_token(line, start);
-        reached = next;
+        let known = reached.advance_to_token(line, start);
         let piece = here.find_token_in_context(known, &line[start..]);
         let kind = piece.kind;
         let stop = start + piece.len;

@@ -207,6 +207,7 @@ fn find_context_after_first_token(
 
 impl TokenContext {
     /// Returns what may stand after a token of this kind and text, and before this rest.
+    #[inline(always)]
     pub fn find_context_after_token(self, kind: TokenKind, text: &[u8], rest: &[u8]) -> TokenContext
         ensures { result ≡ context_after_token self kind text.now rest.now }
     {

@@ -3,6 +3,7 @@
 ghost use Rattle.std.specs.Prelude.{◌≡◌};
 ghost use Rattle.sudoers_text.specs.Word.{is_among};
 ghost use Rattle.sudoers_text.specs.LineMode.{leading_word_of_bytes, words_mode_keywords, begins_hash_include, mode_by_line_start, line_mode};
+ghost use Rattle.sudoers_text.specs.internal.Mode.{has_first_byte_of_mode_word};
 
 use crate::part::{ByteRunKind, leading_run_len};
 use crate::text_units::is_hash_include_tail;
@@ -37,11 +38,22 @@ fn begins_hash_include(bytes: &[u8]) -> bool
     }
 }
 
-/// Returns the mode of a line that begins so, blanks and continuations aside.
+/// Returns whether the bytes begin with the first byte of a word that chooses a mode.
+#[inline(always)]
+fn begins_with_byte_of_mode_word(bytes: &[u8]) -> bool
+    ensures { result ≡ has_first_byte_of_mode_word bytes.now }
+{
+    matches!(bytes, [b'#' | b'@' | b'D' | b'H' | b'R' | b'U', ..])
+}
+
+/// Returns the mode of a line that begins so, blanks and continuations aside. Most lines tell it by their first byte.
+#[tactic(auto, using(crate::proofs::FirstBytes::line_with_other_first_byte_is_of_commands))]
 fn mode_of_line_start(bytes: &[u8]) -> Mode
     ensures { result ≡ mode_by_line_start bytes.now }
 {
-    if begins_defaults(bytes) {
+    if !begins_with_byte_of_mode_word(bytes) {
+        Mode::Commands
+    } else if begins_defaults(bytes) {
         Mode::Parameters
     } else if begins_hash_include(bytes) || is_words_mode_keyword(leading_word_of(bytes)) {
         Mode::Words

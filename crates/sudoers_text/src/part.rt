@@ -40,12 +40,24 @@ pub fn is_punct(byte: u8) -> bool
     matches!(byte, b'!' | b'=' | b':' | b',' | b'(' | b')')
 }
 
+/// How many of these kinds take each byte for itself: include's path, parameter's value, command's path and word. The bytes of each kind are
+/// bytes of the kinds before it.
+static KINDS_OF_BYTE: [u8; 256] = *b"\
+    04444444400440444444444444444444\
+    03004444334414444444444444244244\
+    44444444444444444444444444440444\
+    44444444444444444444444444444444\
+    44444444444444444444444444444444\
+    44444444444444444444444444444444\
+    44444444444444444444444444444444\
+    44444444444444444444444444444444";
+
 /// Returns whether `byte` stands for itself in the path of an include.
 #[inline(always)]
 fn is_include_path_byte(byte: u8) -> bool
     ensures { result ≡ is_byte_of_include_path byte }
 {
-    !matches!(byte, 0 | b'\n' | b'\r' | b' ' | b'\t' | b'"' | b'#' | b'\\')
+    KINDS_OF_BYTE[byte as usize] >= b'1'
 }
 
 /// Returns whether `byte` stands for itself in a word.
@@ -53,7 +65,7 @@ fn is_include_path_byte(byte: u8) -> bool
 fn is_word_byte(byte: u8) -> bool
     ensures { result ≡ is_word_byte byte }
 {
-    is_include_path_byte(byte) && !is_punct(byte)
+    KINDS_OF_BYTE[byte as usize] >= b'4'
 }
 
 /// Returns whether `byte` stands for itself in a command's path, and in an argument.
@@ -61,7 +73,7 @@ fn is_word_byte(byte: u8) -> bool
 fn is_path_byte(byte: u8) -> bool
     ensures { result ≡ is_path_byte byte }
 {
-    is_include_path_byte(byte) && !is_comma_colon_or_equals(byte)
+    KINDS_OF_BYTE[byte as usize] >= b'3'
 }
 
 /// Returns whether `byte` stands for itself in a parameter's value.
@@ -69,7 +81,7 @@ fn is_path_byte(byte: u8) -> bool
 fn is_value_byte(byte: u8) -> bool
     ensures { result ≡ is_value_byte byte }
 {
-    is_include_path_byte(byte) && byte != b','
+    KINDS_OF_BYTE[byte as usize] >= b'2'
 }
 
 /// Returns whether `byte` stands for itself in a quoted part.
@@ -212,14 +224,13 @@ pub fn leading_run_len(rule: ByteRunKind, bytes: &[u8]) -> usize
     ensures within { result ≤ length bytes.now }
 {
     let mut len = 0;
-    while len < bytes.len() {
+    loop {
         let unit = run_unit_len(rule, &bytes[len..]);
         if unit == 0 {
-            break;
+            return len;
         }
         len += unit;
     }
-    len
 }
 
 /// Returns how many bytes a line has behind a `"` that is never closed, without its line end.
@@ -294,14 +305,13 @@ pub fn argument_units_len(bytes: &[u8]) -> usize
     ensures within { result ≤ length bytes.now }
 {
     let mut len = 0;
-    while len < bytes.len() {
+    loop {
         let unit = argument_unit_len(&bytes[len..]);
         if unit == 0 {
-            break;
+            return len;
         }
         len += unit;
     }
-    len
 }
 
 /// Returns whether an argument is whole, and no part of a quoted argument that a `,`, `:` or `=` breaks off.

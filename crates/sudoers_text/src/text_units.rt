@@ -4,7 +4,7 @@ ghost use Rattle.std.specs.Prelude.{◌≡◌, ℕ, ◌+◌, ◌≤◌, List, []
 ghost use Rattle.sudoers_text.specs.Unit.{LineUnit, bytes_of_unit, bytes_up_to_line_end, rest_of_quoted_part, begins_lf, line_end_size, unit_after_backslash, unit_at, is_gap_unit, is_id_position_after_units, is_blank, begins_line_end, has_path_after_blanks, has_blanks_and_path, is_rest_of_hash_include, begins_digit, is_sign_byte_before_id, is_comma_colon_or_equals};
 ghost use Rattle.sudoers_text.specs.Ended.{ends_in_lf};
 ghost use Rattle.sudoers_text.specs.Line.{has_open_last_unit, ends_in_unpaired_backslash};
-ghost use Rattle.sudoers_text.specs.internal.Left.{LeftAgreesWithUnits, LeftDescribesUnits, UnitStandsAt, model_of_unit, model_of_unit_option};
+ghost use Rattle.sudoers_text.specs.internal.Left.{LeftAgreesWithUnits, LeftDescribesUnits, UnitStandsAt, model_of_unit, model_of_unit_option, has_leading_hash_or_percent};
 
 use memchr::memchr;
 
@@ -38,6 +38,14 @@ pub fn begins_line_end(text: &[u8]) -> bool
     ensures { result ≡ begins_line_end text.now }
 {
     matches!(text, [b'\n', ..] | [b'\r', b'\n', ..])
+}
+
+/// Returns whether `#` or `%` begins the bytes.
+#[inline(always)]
+pub fn begins_hash_or_percent(bytes: &[u8]) -> bool
+    ensures { result ≡ has_leading_hash_or_percent bytes.now }
+{
+    matches!(bytes, [b'#' | b'%', ..])
 }
 
 /// Returns whether a decimal digit begins the text.

@@ -12,7 +12,7 @@ ghost use Rattle.sudoers_text.specs.Found.{kind_and_size_of_token};
 
 use crate::context::{ScopeNamesOrCommands, TokenContext};
 use crate::part::{ByteRunKind, closed_quote_len, is_punct, leading_run_len};
-use crate::text_units::{LeftContext, is_comma_colon_or_equals};
+use crate::text_units::{LeftContext, begins_hash_or_percent, is_comma_colon_or_equals};
 use crate::token::{Mode, TokenKind};
 use crate::token_lengths::{
     argument_len, bad_token_len, command_path_len, comment_len, defaults_or_at_include_word_len,
@@ -55,7 +55,8 @@ fn find_comment_or_bad_token(left: LeftContext, bytes: &[u8]) -> TokenKindAndLen
     }
 }
 
-/// Finds a run of the rule, or what else may stand there.
+/// Finds a quoted part, or what else may stand there.
+#[inline(never)]
 fn find_quoted_or_comment_token(left: LeftContext, kind: TokenKind, bytes: &[u8]) -> TokenKindAndLen
     ensures found { (result.kind, result.len) ≡ kind_and_size_of_token (QuotedPart kind ∷ CommentPart ∷ []) left.item (left.begun == 0) bytes.now }
     ensures within { result.len ≤ length bytes.now }
@@ -68,17 +69,31 @@ fn find_quoted_or_comment_token(left: LeftContext, kind: TokenKind, bytes: &[u8]
     }
 }
 
-/// Finds the token that begins the bytes among words.
-fn find_token_among_words(left: LeftContext, bytes: &[u8]) -> TokenKindAndLen
-    ensures found { (result.kind, result.len) ≡ kind_and_size_of_token token_forms_in_word_lists left.item (left.begun == 0) bytes.now }
+/// Finds a word, or what else may stand there.
+#[inline(always)]
+fn find_word_or_quoted_token(left: LeftContext, bytes: &[u8]) -> TokenKindAndLen
+    ensures found { (result.kind, result.len)
+        ≡ kind_and_size_of_token (Run kinds.Word rules.Word ∷ QuotedPart kinds.Quoted ∷ CommentPart ∷ []) left.item (left.begun == 0) bytes.now }
     ensures within { result.len ≤ length bytes.now }
 {
-    if begins_punct(bytes) {
-        return TokenKindAndLen {
-            kind: TokenKind::Punct,
-            len: 1,
-        };
+    let len = leading_run_len(ByteRunKind::Word, bytes);
+    if len > 0 {
+        TokenKindAndLen {
+            kind: TokenKind::Word,
+            len,
+        }
+    } else {
+        find_quoted_or_comment_token(left, TokenKind::Quoted, bytes)
     }
+}
+
+/// Finds a number or a group, or what else may stand there.
+#[inline(never)]
+fn find_number_group_or_word_token(left: LeftContext, bytes: &[u8]) -> TokenKindAndLen
+    ensures found { (result.kind, result.len)
+        ≡ kind_and_size_of_token (Number ∷ NonUnixGroup ∷ Run kinds.Word rules.Word ∷ QuotedPart kinds.Quoted ∷ CommentPart ∷ []) left.item (left.begun == 0) bytes.now }
+    ensures within { result.len ≤ length bytes.now }
+{
     let number = numeric_id_len(left.item, bytes);
     if number > 0 {
         return TokenKindAndLen {
@@ -93,14 +108,25 @@ fn find_token_among_words(left: LeftContext, bytes: &[u8]) -> TokenKindAndLen
             len: group,
         };
     }
-    let word = leading_run_len(ByteRunKind::Word, bytes);
-    if word > 0 {
-        return TokenKindAndLen {
-            kind: TokenKind::Word,
-            len: word,
-        };
+    find_word_or_quoted_token(left, bytes)
+}
+
+/// Finds the token that begins the bytes among words.
+#[inline(always)]
+fn find_token_among_words(left: LeftContext, bytes: &[u8]) -> TokenKindAndLen
+    ensures found { (result.kind, result.len) ≡ kind_and_size_of_token token_forms_in_word_lists left.item (left.begun == 0) bytes.now }
+    ensures within { result.len ≤ length bytes.now }
+{
+    if begins_punct(bytes) {
+        TokenKindAndLen {
+            kind: TokenKind::Punct,
+            len: 1,
+        }
+    } else if begins_hash_or_percent(bytes) {
+        find_number_group_or_word_token(left, bytes)
+    } else {
+        find_word_or_quoted_token(left, bytes)
     }
-    find_quoted_or_comment_token(left, TokenKind::Quoted, bytes)
 }
 
 /// Returns whether one of `!`, `=`, `:`, `,`, `(` and `)` begins the bytes.
@@ -337,6 +363,7 @@ fn find_parameter_value_token(left: LeftContext, bytes: &[u8]) -> TokenKindAndLe
 
 impl TokenContext {
     /// Returns the token with which the bytes begin, where this may stand there.
+    #[inline(always)]
     pub fn find_token_in_context(self, left: LeftContext, bytes: &[u8]) -> TokenKindAndLen
         ensures found { (result.kind, result.len) ≡ kind_and_size_of_token (token_forms_in_context self) left.item (left.begun == 0) bytes.now }
         ensures within { result.len ≤ length bytes.now }

@@ -3,7 +3,7 @@
 ghost use Rattle.std.specs.Prelude.{◌≡◌, ◌≤◌, ◌<◌, ◌+◌, ◌∷◌, ◌-◌, ◌==◌, ◌||◌, not, ℕ, List, [], length, drop, take, slice_range, true, false, IfOk, IfErr, IfSome, IfNone, All};
 ghost use Rattle.sudoers_text.specs.declared.token.Token.{Token as TokenOf};
 ghost use Rattle.sudoers_text.specs.Unit.{LineUnit, line_end_size};
-ghost use Rattle.sudoers_text.specs.internal.Left.{LeftDescribesUnits, model_of_unit, ends_without_backslash_or_cr, has_leading_hash_or_percent};
+ghost use Rattle.sudoers_text.specs.internal.Left.{LeftDescribesUnits, model_of_unit, ends_without_backslash_or_cr};
 ghost use Rattle.sudoers_text.specs.internal.Reached.{DescribesLeftAtOffset};
 ghost use Rattle.sudoers_text.specs.Piece.{TokenForm};
 ghost use Rattle.sudoers_text.specs.Token.{byte_or_escape_unit, units_with_those_of_bytes, units_left_of_place, next_token_start, is_line_end_or_empty, HasTokens, IsTokenWithinLine};
@@ -12,7 +12,7 @@ ghost use Rattle.sudoers_text.specs.Found.{kind_and_size_of_token, kind_and_size
 use crate::context::TokenContext;
 use crate::fault::TextFault;
 use crate::part::{ByteRunKind, leading_run_len};
-use crate::text_units::{LeftContext, TextUnit, line_end_len, unit_of_backslash};
+use crate::text_units::{LeftContext, TextUnit, begins_hash_or_percent, unit_of_backslash};
 use crate::token::{Mode, Token};
 use std::alloc::Global;
 
@@ -33,7 +33,7 @@ fn read_byte_or_escape_unit(bytes: &[u8]) -> TextUnit<'_>
 fn is_at_line_end(bytes: &[u8]) -> bool
     ensures { result ≡ is_line_end_or_empty bytes.now }
 {
-    line_end_len(bytes) == bytes.len()
+    matches!(bytes, [] | [b'\n'] | [b'\r', b'\n'])
 }
 
 /// Returns where the next token begins. None does where only blanks, continuations and the line end are left.
@@ -100,14 +100,6 @@ fn last_unescaped_offset_before(line: &[u8], from: usize, at: usize) -> usize
     place
 }
 
-/// Returns whether `#` or `%` begins the bytes.
-#[inline(always)]
-fn begins_hash_or_percent(bytes: &[u8]) -> bool
-    ensures { result ≡ has_leading_hash_or_percent bytes.now }
-{
-    matches!(bytes, [b'#' | b'%', ..])
-}
-
 /// What stands left of a place of a line, behind no backslash and no CR: what stands left of a later place goes on from there.
 #[derive(Clone, Copy)]
 pub struct LeftContextAtOffset {
@@ -142,23 +134,24 @@ impl LeftContextAtOffset {
         }
     }
 
-    /// Returns the context left of the token at `start`, twice: to continue the scan from, and to choose the token's form.
-    /// Only a token that begins with `#` or `%` depends on it; for other tokens the scan stays where it is.
+    /// Returns the context left of the token at `start`, to choose the token's form. Only a token that begins with `#` or `%` depends
+    /// on it: for other tokens the scan stays where it is.
     #[inline(always)]
-    pub fn advance_to_token(self, line: &[u8], start: usize) -> (Self, LeftContext)
-        requires below { self.at ≤ start }
+    pub fn advance_to_token(&mut self, line: &[u8], start: usize) -> LeftContext
+        requires below { self.old.at ≤ start }
         requires inside { start ≤ length line.now }
-        requires knows { DescribesLeftAtOffset line.now self }
-        ensures place { result.0.at ≤ start }
-        ensures knows { DescribesLeftAtOffset line.now result.0 }
-        ensures found { (fs : List TokenForm) → kind_and_size_of_token fs result.1.item (result.1.begun == 0) (drop start line.now)
+        requires knows { DescribesLeftAtOffset line.now self.old }
+        ensures place { self.new.at ≤ start }
+        ensures knows { DescribesLeftAtOffset line.now self.new }
+        ensures found { (fs : List TokenForm) → kind_and_size_of_token fs result.item (result.begun == 0) (drop start line.now)
             ≡ kind_and_size_after_units fs (units_left_of_place line.now start) (drop start line.now) }
     {
         if begins_hash_or_percent(&line[start..]) {
             let here = self.advance_to_unescaped_offset_before(line, start);
-            (here, here.left.advance_over_slice(line, here.at, start))
+            *self = here;
+            here.left.advance_over_slice(line, here.at, start)
         } else {
-            (self, self.left)
+            self.left
         }
     }
 }
@@ -186,8 +179,7 @@ pub fn tokens(alloc: Global, line: &[u8], mode: Mode) -> Result<Vec<Token>, Text
     let mut reached = LeftContextAtOffset::start_of_line();
     let mut at = 0;
     while let Some(start) = find_next_token_start(line, at) {
-        let (next, left) = reached.advance_to_token(line, start);
-        reached = next;
+        let left = reached.advance_to_token(line, start);
         let piece = here.find_token_in_context(left, &line[start..]);
         at = start + piece.len;
         tokens.push(Token {

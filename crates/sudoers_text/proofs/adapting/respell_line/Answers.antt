@@ -1,4 +1,4 @@
-use Rattle.std.proofs.Common.{◌≡◌, ◌+◌, ◌-◌, ◌++◌, List, ℕ, [], take, drop, length, refl, arith, subst, sym, ◌∙◌, ap}
+use Rattle.std.proofs.Common.{◌≡◌, ◌+◌, ◌-◌, ◌++◌, List, ℕ, [], take, drop, length, arith, subst, sym, ◌∙◌, ap}
 use Rattle.std.specs.Prelude.{slice_range}
 use Rattle.std.proofs.lemmas.List.{drop-drop}
 use Rattle.sudoers_text.specs.declared.token.Mode.{Mode}
@@ -28,12 +28,12 @@ next c =
     let size = c.find_token_in_context-piece.result.len in
     let size_is : start + size - start ≡ size = omega arith in
     next_token_is_respelled line c.loop-start.here c.find_context_after_respelled-here.result c.loop-start.left c.respelled_token_before-left.result
-    c.advance_to_token.result.1 c.loop-start.at start size c.find_token_in_context-piece.result.kind c.choose_respelling-respelling.result
+    c.advance_to_token-known.result c.loop-start.at start size c.find_token_in_context-piece.result.kind c.choose_respelling-respelling.result
     (slice_range line start (start + size)) (take (length line - (start + size)) (drop (start + size) line))
     c.loop-start.respelled.items c.extend_from_slice-in-Some-2.new.self.items
     c.loop-start.invariant.respelling
     (record { is = c.in-Some.ensures.some.0; more = c.in-Some.ensures.some.1 })
-    c.advance_to_token.ensures.found c.find_token_in_context-piece.ensures.found c.find_token_in_context-piece.ensures.within
+    c.advance_to_token-known.ensures.found c.find_token_in_context-piece.ensures.found c.find_token_in_context-piece.ensures.within
     (ap (λ (n : ℕ). take n (drop start line)) size_is)
     (slice_from_count_to_end_is_drop (start + size) line ∙ sym (drop-drop size start line))
     c.choose_respelling-respelling.ensures
@@ -56,8 +56,8 @@ loop-start-preserved c =
     let more = next c in
     record {
       respelling = more.respelling;
-      below = omega (arith, c.advance_to_token.ensures.place);
-      knows = c.advance_to_token.ensures.knows;
+      below = omega (arith, c.advance_to_token-known.ensures.place);
+      knows = c.advance_to_token-known.ensures.knows;
     }
 
 -- all has been read

@@ -17,10 +17,10 @@ find_next_token_start-requires c = c.loop-start.invariant.standing.inside
 -- one token more
 next : (c : goal.After-find_context_after_token-here) → HasReadNextToken c.args.mode c.args.line.now c.find_context_after_token-here.result c.in-Some.start c.find_token_in_context-piece.result.len (c.loop-start.tokens.items ++ record { kind = c.find_token_in_context-piece.result.kind; start = c.in-Some.start; stop = c.in-Some.start + c.find_token_in_context-piece.result.len } ∷ [])
 next c =
-    token_found_at_start_is_read c.args.mode c.args.line.now c.loop-start.here c.find_context_after_token-here.result c.advance_to_token.result.1
+    token_found_at_start_is_read c.args.mode c.args.line.now c.loop-start.here c.find_context_after_token-here.result c.advance_to_token-left.result
     c.loop-start.at c.in-Some.start c.find_token_in_context-piece.result.len c.find_token_in_context-piece.result.kind c.loop-start.tokens.items c.loop-start.invariant.standing
     (record { is = c.in-Some.ensures.some.0; more = c.in-Some.ensures.some.1 })
-    c.advance_to_token.ensures.found c.find_token_in_context-piece.ensures.found c.find_token_in_context-piece.ensures.within c.find_context_after_token-here.ensures
+    c.advance_to_token-left.ensures.found c.find_token_in_context-piece.ensures.found c.find_token_in_context-piece.ensures.within c.find_context_after_token-here.ensures
 
 pub loop-start-smaller : goal.loop-start-smaller
 loop-start-smaller c =
@@ -33,8 +33,8 @@ loop-start-preserved c =
     record {
       standing = subst (λ (ts : List Token). HasReadTokensUpToPlace c.args.mode c.args.line.now c.find_context_after_token-here.result (c.in-Some.start + c.find_token_in_context-piece.result.len) ts)
           (sym c.in_ok-push.ensures.items) more.standing;
-      below = omega (arith, c.advance_to_token.ensures.place);
-      knows = c.advance_to_token.ensures.knows;
+      below = omega (arith, c.advance_to_token-left.ensures.place);
+      knows = c.advance_to_token-left.ensures.knows;
     }
 
 pub returns-clause-exact : goal.returns-clause-exact

@@ -10,7 +10,7 @@ pub returns-else-begins_hash_or_percent-clause-found : goal.returns-else-begins_
 returns-else-begins_hash_or_percent-clause-found c = λ fs.
     let line : List ℕ = c.args.line.now in
     let apart : has_leading_hash_or_percent (drop c.args.start line) ≡ false = ap has_leading_hash_or_percent (sym (slice_from_count_to_end_is_drop c.args.start line)) ∙ sym c.begins_hash_or_percent.ensures ∙ c.if-begins_hash_or_percent.false in
-    any_units_find_token_without_sign fs c.args.self.left (units_left_of_place line c.args.start) (drop c.args.start line) apart
+    any_units_find_token_without_sign fs c.args.self.now.left (units_left_of_place line c.args.start) (drop c.args.start line) apart
 
 pub returns-then-begins_hash_or_percent-clause-found : goal.returns-then-begins_hash_or_percent-clause-found
 returns-then-begins_hash_or_percent-clause-found c = λ fs.
