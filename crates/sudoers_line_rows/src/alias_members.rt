@@ -4,11 +4,14 @@ ghost use Rattle.std.specs.Prelude.{◌≡◌, ◌++◌, map, option_map, IfOk, 
 ghost use Rattle.std.specs.List.{flat_map};
 ghost use Rattle.sudoers_grammar.specs.Node.{Def as DefOf};
 ghost use Rattle.sudoers_grammar.specs.Listed.{aliases_among_listed, aliases_in_node, alias_member_of_atom, members_listed_as_kind, listed_members_of_command, listed_members_of_host_group, listed_members_of_runas, listed_members_of_scope};
-ghost use Rattle.sudoers_line_rows.specs.View.{commands_of_view, alias_definitions_of_view, host_groups_of_view, member_of_view, members_of_view, node_of_view, runas_of_view, scope_of_view};
+ghost use Rattle.sudoers_line_rows.specs.Tables.{member_in_tables, optional_runas_in_tables};
+ghost use Rattle.sudoers_line_rows.specs.View.{commands_of_view, alias_definitions_of_view, host_groups_of_view, members_of_view, node_of_view, scope_of_view};
 
 use crate::row_lists::RowsOfTable;
-use crate::rows::{AliasDefinitionRow, CommandRow, HostGroupRow, MemberRow};
-use crate::view::{BorrowedAtom, Member, Node, RunasSpec, Scope};
+use crate::rows::{
+    AliasDefinitionRow, AtomRow, CommandRow, HostGroupRow, MemberRow, RunasRow, Tables,
+};
+use crate::view::{Node, Scope};
 use std::alloc::{AllocError, Global};
 use sudoers_grammar::{AliasMember, Kind};
 
@@ -107,23 +110,31 @@ fn append_aliases_of_commands<'a>(
 {
     let tables = commands.tables;
     for row in commands.rows {
-        let command = tables.command_of_row(row);
-        append_aliases_of_runas(&command.runas, found)?;
-        append_alias_of_member(Kind::Cmnd, &command.member, found)?;
+        append_aliases_of_runas(tables, row.runas, found)?;
+        append_alias_of_member(tables, Kind::Cmnd, &row.member, found)?;
     }
     Ok(())
 }
 
 #[tactic(auto, using(crate::proofs::WalkLaws::aliases_among_appended_lists_are_appended))]
 fn append_aliases_of_runas<'a>(
-    runas: &Option<RunasSpec<'a>>,
+    tables: &'a Tables,
+    runas: Option<RunasRow>,
     found: &mut Vec<AliasMember<'a>>,
 ) -> Result<(), AllocError>
-    ensures { OnOk result (found.new.items ≡ found.old.items ++ aliases_among_listed (listed_members_of_runas (option_map runas_of_view runas.now))) }
+    ensures { OnOk result (found.new.items ≡ found.old.items ++ aliases_among_listed (listed_members_of_runas (optional_runas_in_tables tables.now runas))) }
 {
     if let Some(runas) = runas {
-        append_aliases_of_list(Kind::Runas, &runas.users, found)?;
-        append_aliases_of_list(Kind::Runas, &runas.groups, found)?;
+        append_aliases_of_list(
+            Kind::Runas,
+            &tables.members_of_row_range(runas.users),
+            found,
+        )?;
+        append_aliases_of_list(
+            Kind::Runas,
+            &tables.members_of_row_range(runas.groups),
+            found,
+        )?;
     }
     Ok(())
 }
@@ -137,23 +148,25 @@ fn append_aliases_of_list<'a>(
 {
     let tables = members.tables;
     for row in members.rows {
-        append_alias_of_member(kind, &tables.member_of_row(row), found)?;
+        append_alias_of_member(tables, kind, row, found)?;
     }
     Ok(())
 }
 
+/// Appends the alias that the member `row` of a list of `kind` is, if it is one. Only what is asked for is read of the row.
 fn append_alias_of_member<'a>(
+    tables: &'a Tables,
     kind: Kind,
-    member: &Member<'a>,
+    row: &MemberRow,
     found: &mut Vec<AliasMember<'a>>,
 ) -> Result<(), AllocError>
-    ensures { OnOk result (found.new.items ≡ found.old.items ++ alias_member_of_atom kind (member_of_view member.now) (member_of_view member.now).atom) }
+    ensures { OnOk result (found.new.items ≡ found.old.items ++ alias_member_of_atom kind (member_in_tables tables.now row.now) (member_in_tables tables.now row.now).atom) }
 {
-    if let BorrowedAtom::Alias(name) = member.atom {
+    if let AtomRow::Alias(name) = row.atom {
         found.push(AliasMember {
             kind,
-            name,
-            stop: member.stop,
+            name: tables.bytes_of_text_row(name),
+            stop: row.stop as usize,
         })?;
     }
     Ok(())

@@ -1,12 +1,13 @@
 -- The bits of names one after another, and of the names of aliases in a line.
-use Rattle.sudoers_tree.proofs.Common.{AliasMember, CmdSpec, Cmnd, Def, Host, HostGroup, Kind, List, ListedMember, Member, None, Option, Runas, RunasSpec, Scope, Some, User, [], add-one, alias_member_of_atom}
-use Rattle.sudoers_tree.proofs.Common.{alias_names_in_atom, alias_names_in_command, alias_names_in_host_group, alias_names_in_members, alias_names_in_runas, alias_names_in_scope, aliases_among_listed, ap, ap₂}
+use Rattle.sudoers_tree.proofs.Common.{AliasMember, CmdSpec, Cmnd, Def, Host, HostGroup, Kind, List, ListedMember, Member, None, Option, Runas, RunasSpec, Scope, Some, Tables, User, [], add-one, alias_member_of_atom}
+use Rattle.sudoers_tree.proofs.Common.{alias_names_in_atom, alias_names_in_command, alias_names_in_host_group, alias_names_in_members, alias_names_in_runas, alias_names_in_scope, aliases_among_listed, ap, ap₂, command_in_tables}
 use Rattle.sudoers_tree.proofs.Common.{bits_of_name, bits_with_names_added, drop, drop-cons, get_or, length, listed_members_of_command, listed_members_of_host_group, listed_members_of_runas, listed_members_of_scope}
 use Rattle.sudoers_tree.proofs.Common.{map, map-append, members_listed_as_kind, refl, suc, sym, ℕ, ◌++◌, ◌+◌, ◌<◌, ◌∙◌, ◌∷◌, ◌≡◌}
 use Rattle.std.proofs.lemmas.Grind.{flat_map-append}
 use Rattle.std.proofs.lemmas.List.{append-nil}
 use Rattle.std.specs.Int.Bits.{bit_or}
 use Rattle.std.specs.List.{flat_map}
+use Rattle.sudoers_line_rows.specs.declared.rows.CommandRow.{CommandRow}
 use Rattle.sudoers_grammar.specs.declared.node.Atom.{Atom}
 use Rattle.sudoers_grammar.specs.declared.node.Atom.TheVariants as atom
 
@@ -25,6 +26,19 @@ bits_go_on_after_row {Row = Row} {X = X} f view rows i d x before after start wi
     ∙ sym (bits_of_appended_names_are_added_in_turn before (f (view (get_or rows i d))) rest)
     ∙ sym (ap (λ (ls : List Row). bits_with_names_added before (flat_map f (map view ls))) (drop-cons rows i d within))
     ∙ so_far)
+
+-- The bits of those as whom a command runs are added first, and then those of the command.
+pub bits_go_on_after_command : (t : Tables) (rows : List CommandRow) (i : ℕ) (d : CommandRow) (before middle after start : ℕ) → i < length rows
+    → middle ≡ bits_with_names_added before (alias_names_in_runas (command_in_tables t (get_or rows i d)).runas)
+    → after ≡ bits_with_names_added middle (alias_names_in_atom (command_in_tables t (get_or rows i d)).member.atom)
+    → bits_with_names_added before (flat_map alias_names_in_command (map (command_in_tables t) (drop i rows))) ≡ start
+    → bits_with_names_added after (flat_map alias_names_in_command (map (command_in_tables t) (drop (i + 1) rows))) ≡ start
+bits_go_on_after_command t rows i d before middle after start within first then so_far =
+    let command = command_in_tables t (get_or rows i d) in
+    bits_go_on_after_row alias_names_in_command (command_in_tables t) rows i d command before after start within refl
+    (then ∙ ap (λ (m : ℕ). bits_with_names_added m (alias_names_in_atom command.member.atom)) first
+    ∙ sym (bits_of_appended_names_are_added_in_turn before (alias_names_in_runas command.runas) (alias_names_in_atom command.member.atom)))
+    so_far
 
 -- ---- the names of the aliases among members of lists
 

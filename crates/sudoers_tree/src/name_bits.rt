@@ -4,13 +4,14 @@ ghost use Rattle.std.specs.Prelude.{◌≡◌, ◌==◌, ◌∷◌, [], map, opt
 ghost use Rattle.std.specs.Int.Bits.{bit_and};
 ghost use Rattle.std.specs.List.{flat_map};
 ghost use Rattle.sudoers_grammar.specs.Node.{Def as DefOf};
-ghost use Rattle.sudoers_line_rows.specs.View.{atom_of_view, commands_of_view, alias_definitions_of_view, host_groups_of_view, members_of_view, node_of_view, runas_of_view, scope_of_view};
+ghost use Rattle.sudoers_line_rows.specs.Tables.{member_in_tables, optional_runas_in_tables};
+ghost use Rattle.sudoers_line_rows.specs.View.{commands_of_view, alias_definitions_of_view, host_groups_of_view, members_of_view, node_of_view, scope_of_view};
 ghost use Rattle.sudoers_tree.specs.NameBits.{bits_of_name};
 ghost use Rattle.sudoers_tree.specs.internal.LineBits.{alias_names_in_atom, alias_names_in_command, alias_names_in_host_group, bits_with_names_added, bits_of_alias_names_in as bits_said, alias_names_in_members, alias_names_in_runas, alias_names_in_scope};
 
 use sudoers_line_rows::{
-    AliasDefinitionRow, BorrowedAtom, CommandRow, HostGroupRow, MemberRow, Node, RowsOfTable,
-    RunasSpec, Scope,
+    AliasDefinitionRow, AtomRow, CommandRow, HostGroupRow, MemberRow, Node, RowsOfTable, RunasRow,
+    Scope, Tables,
 };
 
 /// The bits of all names: a line with them is never passed over.
@@ -121,20 +122,19 @@ fn add_bits_of_commands(commands: &RowsOfTable<'_, CommandRow>, bits: &mut u64)
 {
     let tables = commands.tables;
     for row in commands.rows {
-        let command = tables.command_of_row(row);
-        add_bits_of_runas(&command.runas, bits);
-        add_bits_of_alias_atom(&command.member.atom, bits);
+        add_bits_of_runas(tables, row.runas, bits);
+        add_bits_of_alias_member(tables, &row.member, bits);
     }
 }
 
 /// Adds the bits of the aliases among those as whom a command runs to `bits`.
 #[tactic(auto, using(crate::proofs::AddedBits::bits_of_appended_names_are_added_in_turn))]
-fn add_bits_of_runas(runas: &Option<RunasSpec<'_>>, bits: &mut u64)
-    ensures { bits.new ≡ bits_with_names_added bits.old (alias_names_in_runas (option_map runas_of_view runas.now)) }
+fn add_bits_of_runas(tables: &Tables, runas: Option<RunasRow>, bits: &mut u64)
+    ensures { bits.new ≡ bits_with_names_added bits.old (alias_names_in_runas (optional_runas_in_tables tables.now runas)) }
 {
     if let Some(runas) = runas {
-        add_bits_of_members(&runas.users, bits);
-        add_bits_of_members(&runas.groups, bits);
+        add_bits_of_members(&tables.members_of_row_range(runas.users), bits);
+        add_bits_of_members(&tables.members_of_row_range(runas.groups), bits);
     }
 }
 
@@ -145,15 +145,15 @@ fn add_bits_of_members(members: &RowsOfTable<'_, MemberRow>, bits: &mut u64)
 {
     let tables = members.tables;
     for row in members.rows {
-        add_bits_of_alias_atom(&tables.member_of_row(row).atom, bits);
+        add_bits_of_alias_member(tables, row, bits);
     }
 }
 
-/// Adds the bits of the name of `atom` to `bits`, if it is an alias.
-fn add_bits_of_alias_atom(atom: &BorrowedAtom<'_>, bits: &mut u64)
-    ensures { bits.new ≡ bits_with_names_added bits.old (alias_names_in_atom (atom_of_view atom.now)) }
+/// Adds the bits of the name of the member `row` to `bits`, if it is an alias. Only what is asked for is read of the row.
+fn add_bits_of_alias_member(tables: &Tables, row: &MemberRow, bits: &mut u64)
+    ensures { bits.new ≡ bits_with_names_added bits.old (alias_names_in_atom (member_in_tables tables.now row.now).atom) }
 {
-    if let BorrowedAtom::Alias(name) = atom {
-        add_bits_of_name(name, bits);
+    if let AtomRow::Alias(name) = row.atom {
+        add_bits_of_name(tables.bytes_of_text_row(name), bits);
     }
 }
