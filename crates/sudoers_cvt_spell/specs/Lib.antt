@@ -4,3 +4,4 @@ pub mod Members
 pub mod Commands
 pub mod Parameters
 pub mod Lines
+pub mod internal

@@ -30,9 +30,12 @@ pub fn append_printed_member_list(
     ensures appended { OnOk result (out.new.items ≡ out.old.items ++ printed_member_list first kind (members_of_view members.now)) }
     ensures kept { OnErr result (out.new.items ≡ out.old.items) }
 {
-    let mut text = Vec::new(alloc);
-    append_member_list_text(alloc, &mut text, first, kind, members)?;
-    out.extend_from_slice(text.as_slice())
+    let before = out.len();
+    if let Err(error) = append_member_list_text(alloc, out, first, kind, members) {
+        out.truncate(before);
+        return Err(error);
+    }
+    Ok(())
 }
 
 /// Appends a member of a list of `kind`. With `first`, the line begins with it.
@@ -50,9 +53,12 @@ pub fn append_member(
     ensures appended { OnOk result (out.new.items ≡ out.old.items ++ printed_member first kind (member_of_view member.now)) }
     ensures kept { OnErr result (out.new.items ≡ out.old.items) }
 {
-    let mut text = Vec::new(alloc);
-    append_member_text_without_separator(alloc, &mut text, first, kind, member)?;
-    out.extend_from_slice(text.as_slice())
+    let before = out.len();
+    if let Err(error) = append_member_text_without_separator(alloc, out, first, kind, member) {
+        out.truncate(before);
+        return Err(error);
+    }
+    Ok(())
 }
 
 /// Appends a Runas_Spec.
@@ -68,9 +74,12 @@ pub fn append_runas(
     ensures appended { OnOk result (out.new.items ≡ out.old.items ++ printed_runas (runas_of_view runas.now)) }
     ensures kept { OnErr result (out.new.items ≡ out.old.items) }
 {
-    let mut text = Vec::new(alloc);
-    append_runas_spec_text(alloc, &mut text, runas)?;
-    out.extend_from_slice(text.as_slice())
+    let before = out.len();
+    if let Err(error) = append_runas_spec_text(alloc, out, runas) {
+        out.truncate(before);
+        return Err(error);
+    }
+    Ok(())
 }
 
 /// Appends the option `name` with its value.
@@ -87,9 +96,12 @@ pub fn append_option(
     ensures appended { OnOk result (out.new.items ≡ out.old.items ++ printed_option name value.now) }
     ensures kept { OnErr result (out.new.items ≡ out.old.items) }
 {
-    let mut text = Vec::new(alloc);
-    append_option_text(&mut text, name, value)?;
-    out.extend_from_slice(text.as_slice())
+    let before = out.len();
+    if let Err(error) = append_option_text(out, name, value) {
+        out.truncate(before);
+        return Err(error);
+    }
+    Ok(())
 }
 
 /// Appends a parameter.
@@ -101,9 +113,12 @@ pub fn append_param(alloc: Global, out: &mut Vec<u8>, param: &Param<'_>) -> Resu
     ensures appended { OnOk result (out.new.items ≡ out.old.items ++ printed_param (parameter_of_view param.now)) }
     ensures kept { OnErr result (out.new.items ≡ out.old.items) }
 {
-    let mut text = Vec::new(alloc);
-    append_param_text(&mut text, param)?;
-    out.extend_from_slice(text.as_slice())
+    let before = out.len();
+    if let Err(error) = append_param_text(out, param) {
+        out.truncate(before);
+        return Err(error);
+    }
+    Ok(())
 }
 
 /// Appends a Defaults line, without its line end.
@@ -120,7 +135,10 @@ pub fn append_defaults(
     ensures appended { OnOk result (out.new.items ≡ out.old.items ++ printed_defaults (option_map scope_of_view scope.now) (parameters_of_view params.now)) }
     ensures kept { OnErr result (out.new.items ≡ out.old.items) }
 {
-    let mut text = Vec::new(alloc);
-    append_defaults_text(alloc, &mut text, scope, params)?;
-    out.extend_from_slice(text.as_slice())
+    let before = out.len();
+    if let Err(error) = append_defaults_text(alloc, out, scope, params) {
+        out.truncate(before);
+        return Err(error);
+    }
+    Ok(())
 }

@@ -1,6 +1,7 @@
 //! Hosts as they are printed (sudoers(5), Host_List).
 
 ghost use Rattle.std.specs.Prelude.{◌≡◌, ◌++◌, IfOk, OnOk};
+ghost use Rattle.sudoers_cvt_spell.specs.internal.Fronts.{IsFront};
 ghost use Rattle.sudoers_cvt_spell.specs.Hosts.{is_read_as_host_name, printed_host_name_pattern};
 
 use crate::words_and_patterns::{append_escaped_pattern, insert_backslash_if_misread};
@@ -36,7 +37,8 @@ pub fn append_host_name_pattern(
     out: &mut Vec<u8>,
     pattern: &[u8],
 ) -> Result<(), AllocError>
-    ensures { OnOk result (out.new.items ≡ out.old.items ++ printed_host_name_pattern pattern.now) }
+    ensures appended { OnOk result (out.new.items ≡ out.old.items ++ printed_host_name_pattern pattern.now) }
+    ensures front { IsFront out.old.items out.new.items }
 {
     let start = out.len();
     append_escaped_pattern(out, PatternSpelling::Host, pattern)?;

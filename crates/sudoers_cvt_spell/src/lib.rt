@@ -1,8 +1,9 @@
 //! How the parts of a sudoers policy are printed.
-#![tactic(auto)]
+#![tactic(auto, using(crate::proofs::Fronts::front_of_front_is_front, crate::proofs::Fronts::text_is_its_own_front))]
 
 mod addresses;
 mod all_or_nothing_appends;
+mod appending;
 mod host_name_patterns;
 mod lists;
 mod members;

@@ -2,8 +2,10 @@
 
 ghost use Rattle.std.specs.Prelude.{◌≡◌, ◌++◌, codes, false, OnOk};
 ghost use Rattle.sudoers_line_rows.specs.View.{members_of_view};
+ghost use Rattle.sudoers_cvt_spell.specs.internal.Fronts.{IsFront};
 ghost use Rattle.sudoers_cvt_spell.specs.Members.{printed_member_list};
 
+use crate::appending::append_bytes;
 use crate::members::append_member_text_without_separator;
 use std::alloc::{AllocError, Global};
 use sudoers_grammar::Kind;
@@ -21,7 +23,8 @@ pub fn append_member_list_text(
     kind: Kind,
     members: &RowsOfTable<'_, MemberRow>,
 ) -> Result<(), AllocError>
-    ensures { OnOk result (out.new.items ≡ out.old.items ++ printed_member_list first kind (members_of_view members.now)) }
+    ensures appended { OnOk result (out.new.items ≡ out.old.items ++ printed_member_list first kind (members_of_view members.now)) }
+    ensures front { IsFront out.old.items out.new.items }
 {
     let tables = members.tables;
     let Some((head, rest)) = members.rows.split_first() else {
@@ -29,7 +32,7 @@ pub fn append_member_list_text(
     };
     append_member_text_without_separator(alloc, out, first, kind, &tables.member_of_row(head))?;
     for row in rest {
-        out.extend_from_slice(b", ")?;
+        append_bytes(out, b", ")?;
         append_member_text_without_separator(alloc, out, false, kind, &tables.member_of_row(row))?;
     }
     Ok(())

@@ -1,8 +1,10 @@
 //! Options and tags as they are printed (sudoers(5), Option_Spec, Tag_Spec).
 
 ghost use Rattle.std.specs.Prelude.{◌≡◌, ◌++◌, codes, OnErr, OnOk};
+ghost use Rattle.sudoers_cvt_spell.specs.internal.Fronts.{IsFront};
 ghost use Rattle.sudoers_cvt_spell.specs.Commands.{option_keyword, printed_option_value, printed_option, tag_keyword_without_no, tag_keyword_or_negated};
 
+use crate::appending::append_bytes;
 use crate::words_and_patterns::append_spelled_word;
 use std::alloc::AllocError;
 use sudoers_grammar::{OptionName, Tag};
@@ -35,12 +37,13 @@ pub fn append_option_text(
     name: OptionName,
     value: &[u8],
 ) -> Result<(), AllocError>
-    ensures { OnOk result (out.new.items ≡ out.old.items ++ printed_option name value.now) }
+    ensures appended { OnOk result (out.new.items ≡ out.old.items ++ printed_option name value.now) }
+    ensures front { IsFront out.old.items out.new.items }
 {
-    out.extend_from_slice(keyword_of_option(name))?;
-    out.extend_from_slice(b"=")?;
+    append_bytes(out, keyword_of_option(name))?;
+    append_bytes(out, b"=")?;
     if value.is_empty() {
-        out.extend_from_slice(b"\"\"")
+        append_bytes(out, b"\"\"")
     } else {
         append_spelled_word(out, value)
     }

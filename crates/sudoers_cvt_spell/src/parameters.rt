@@ -3,8 +3,10 @@
 ghost use Rattle.std.specs.Prelude.{◌≡◌, ◌++◌, codes, OnOk, option_map};
 ghost use Rattle.sudoers_line_rows.specs.View.{parameter_of_view, parameters_of_view, scope_of_view, setting_of_view};
 ghost use Rattle.std.specs.List.{list_all};
+ghost use Rattle.sudoers_cvt_spell.specs.internal.Fronts.{IsFront};
 ghost use Rattle.sudoers_cvt_spell.specs.Parameters.{defaults_operator_mark, is_byte_without_quotes, is_value_without_quotes, is_quotable_value, printed_param_value, printed_param_setting, printed_param, printed_params, defaults_scope_mark, printed_scope, printed_defaults};
 
+use crate::appending::append_bytes;
 use crate::lists::append_member_list_text;
 use crate::words_and_patterns::{append_spelled_word, is_control};
 use std::alloc::{AllocError, Global};
@@ -52,14 +54,15 @@ fn fits_double_quotes(value: &[u8]) -> bool
 
 /// Appends the value of a parameter.
 fn append_param_value(out: &mut Vec<u8>, value: &[u8]) -> Result<(), AllocError>
-    ensures { OnOk result (out.new.items ≡ out.old.items ++ printed_param_value value.now) }
+    ensures appended { OnOk result (out.new.items ≡ out.old.items ++ printed_param_value value.now) }
+    ensures front { IsFront out.old.items out.new.items }
 {
     if is_unquoted_value(value) {
-        out.extend_from_slice(value)
+        append_bytes(out, value)
     } else if fits_double_quotes(value) {
-        out.extend_from_slice(b"\"")?;
-        out.extend_from_slice(value)?;
-        out.extend_from_slice(b"\"")
+        append_bytes(out, b"\"")?;
+        append_bytes(out, value)?;
+        append_bytes(out, b"\"")
     } else {
         append_spelled_word(out, value)
     }
@@ -71,16 +74,17 @@ fn append_param_value(out: &mut Vec<u8>, value: &[u8]) -> Result<(), AllocError>
 ///
 /// Memory ran out.
 pub fn append_param_text(out: &mut Vec<u8>, param: &Param<'_>) -> Result<(), AllocError>
-    ensures { OnOk result (out.new.items ≡ out.old.items ++ printed_param (parameter_of_view param.now)) }
+    ensures appended { OnOk result (out.new.items ≡ out.old.items ++ printed_param (parameter_of_view param.now)) }
+    ensures front { IsFront out.old.items out.new.items }
 {
     if param.negated {
-        out.extend_from_slice(b"!")?;
+        append_bytes(out, b"!")?;
     }
-    out.extend_from_slice(param.name)?;
+    append_bytes(out, param.name)?;
     match &param.setting {
         None => Ok(()),
         Some(setting) => {
-            out.extend_from_slice(mark_of_operator(setting.operator))?;
+            append_bytes(out, mark_of_operator(setting.operator))?;
             append_param_value(out, setting.value)
         }
     }
@@ -88,7 +92,8 @@ pub fn append_param_text(out: &mut Vec<u8>, param: &Param<'_>) -> Result<(), All
 
 /// Appends the parameters of a Defaults line.
 fn append_params(out: &mut Vec<u8>, params: &RowsOfTable<'_, ParamRow>) -> Result<(), AllocError>
-    ensures { OnOk result (out.new.items ≡ out.old.items ++ printed_params (parameters_of_view params.now)) }
+    ensures appended { OnOk result (out.new.items ≡ out.old.items ++ printed_params (parameters_of_view params.now)) }
+    ensures front { IsFront out.old.items out.new.items }
 {
     let tables = params.tables;
     let Some((first, rest)) = params.rows.split_first() else {
@@ -96,7 +101,7 @@ fn append_params(out: &mut Vec<u8>, params: &RowsOfTable<'_, ParamRow>) -> Resul
     };
     append_param_text(out, &tables.parameter_of_row(first))?;
     for row in rest {
-        out.extend_from_slice(b", ")?;
+        append_bytes(out, b", ")?;
         append_param_text(out, &tables.parameter_of_row(row))?;
     }
     Ok(())
@@ -125,13 +130,14 @@ pub fn append_defaults_text(
     scope: &Option<Scope<'_>>,
     params: &RowsOfTable<'_, ParamRow>,
 ) -> Result<(), AllocError>
-    ensures { OnOk result (out.new.items ≡ out.old.items ++ printed_defaults (option_map scope_of_view scope.now) (parameters_of_view params.now)) }
+    ensures appended { OnOk result (out.new.items ≡ out.old.items ++ printed_defaults (option_map scope_of_view scope.now) (parameters_of_view params.now)) }
+    ensures front { IsFront out.old.items out.new.items }
 {
-    out.extend_from_slice(b"Defaults")?;
+    append_bytes(out, b"Defaults")?;
     if let Some(scope) = scope {
-        out.extend_from_slice(mark_of_defaults_scope(scope.kind))?;
+        append_bytes(out, mark_of_defaults_scope(scope.kind))?;
         append_member_list_text(alloc, out, false, scope.kind, &scope.members)?;
     }
-    out.extend_from_slice(b" ")?;
+    append_bytes(out, b" ")?;
     append_params(out, params)
 }

@@ -2,8 +2,10 @@
 
 ghost use Rattle.std.specs.Prelude.{◌≡◌, ◌++◌, codes, OnOk};
 ghost use Rattle.sudoers_line_rows.specs.View.{runas_of_view, members_of_view};
+ghost use Rattle.sudoers_cvt_spell.specs.internal.Fronts.{IsFront};
 ghost use Rattle.sudoers_cvt_spell.specs.Commands.{printed_runas_lists, printed_runas};
 
+use crate::appending::append_bytes;
 use crate::lists::append_member_list_text;
 use std::alloc::{AllocError, Global};
 use sudoers_grammar::Kind;
@@ -15,16 +17,17 @@ fn append_runas_lists(
     out: &mut Vec<u8>,
     runas: &RunasSpec<'_>,
 ) -> Result<(), AllocError>
-    ensures { OnOk result (out.new.items ≡ out.old.items ++ printed_runas_lists (members_of_view runas.now.users) (members_of_view runas.now.groups)) }
+    ensures appended { OnOk result (out.new.items ≡ out.old.items ++ printed_runas_lists (members_of_view runas.now.users) (members_of_view runas.now.groups)) }
+    ensures front { IsFront out.old.items out.new.items }
 {
     append_member_list_text(alloc, out, false, Kind::Runas, &runas.users)?;
     if runas.groups.rows.is_empty() {
         return Ok(());
     }
     if runas.users.rows.is_empty() {
-        out.extend_from_slice(b": ")?;
+        append_bytes(out, b": ")?;
     } else {
-        out.extend_from_slice(b" : ")?;
+        append_bytes(out, b" : ")?;
     }
     append_member_list_text(alloc, out, false, Kind::Runas, &runas.groups)
 }
@@ -39,9 +42,10 @@ pub fn append_runas_spec_text(
     out: &mut Vec<u8>,
     runas: &RunasSpec<'_>,
 ) -> Result<(), AllocError>
-    ensures { OnOk result (out.new.items ≡ out.old.items ++ printed_runas (runas_of_view runas.now)) }
+    ensures appended { OnOk result (out.new.items ≡ out.old.items ++ printed_runas (runas_of_view runas.now)) }
+    ensures front { IsFront out.old.items out.new.items }
 {
-    out.extend_from_slice(b"(")?;
+    append_bytes(out, b"(")?;
     append_runas_lists(alloc, out, runas)?;
-    out.extend_from_slice(b")")
+    append_bytes(out, b")")
 }

@@ -2,8 +2,10 @@
 
 ghost use Rattle.std.specs.Prelude.{◌≡◌, ◌<◌, ◌≤◌, ◌++◌, OnOk, length, List, ℕ};
 ghost use Rattle.sudoers_grammar.specs.Pattern.{is_dropped_backslash_before};
-ghost use Rattle.sudoers_cvt_spell.specs.Spelling.{is_word_escape_needed, is_control, lower_hex_digit, spelled_word_byte, spelled_word, escaped_pattern_byte, escaped_pattern, text_with_backslash_if_misread};
+ghost use Rattle.sudoers_cvt_spell.specs.internal.Fronts.{IsFront};
+ghost use Rattle.sudoers_cvt_spell.specs.Spelling.{is_word_escape_needed, is_control, lower_hex_digit, spelled_word_byte, spelled_word, escaped_pattern, text_with_backslash_if_misread};
 
+use crate::appending::append_bytes;
 use std::alloc::AllocError;
 use sudoers_grammar::PatternSpelling;
 
@@ -38,19 +40,23 @@ fn hex_digit_of_number(number: u8) -> u8
 
 /// Appends a byte of a word.
 fn append_word_byte(out: &mut Vec<u8>, byte: u8) -> Result<(), AllocError>
-    ensures { OnOk result (out.new.items ≡ out.old.items ++ spelled_word_byte byte) }
+    ensures appended { OnOk result (out.new.items ≡ out.old.items ++ spelled_word_byte byte) }
+    ensures front { IsFront out.old.items out.new.items }
 {
     if is_escaped_in_word(byte) {
-        out.extend_from_slice(&[b'\\', byte])
+        append_bytes(out, &[b'\\', byte])
     } else if is_control(byte) {
-        out.extend_from_slice(&[
-            b'\\',
-            b'x',
-            hex_digit_of_number(byte / 16),
-            hex_digit_of_number(byte % 16),
-        ])
+        append_bytes(
+            out,
+            &[
+                b'\\',
+                b'x',
+                hex_digit_of_number(byte / 16),
+                hex_digit_of_number(byte % 16),
+            ],
+        )
     } else {
-        out.extend_from_slice(&[byte])
+        append_bytes(out, &[byte])
     }
 }
 
@@ -60,16 +66,22 @@ fn append_word_byte(out: &mut Vec<u8>, byte: u8) -> Result<(), AllocError>
 ///
 /// Memory ran out.
 pub fn append_spelled_word(out: &mut Vec<u8>, value: &[u8]) -> Result<(), AllocError>
-    ensures { OnOk result (out.new.items ≡ out.old.items ++ spelled_word value.now) }
+    ensures appended { OnOk result (out.new.items ≡ out.old.items ++ spelled_word value.now) }
+    ensures front { IsFront out.old.items out.new.items }
 {
-    for byte in value {
-        append_word_byte(out, *byte)?;
+    let mut printed = 0;
+    for (at, byte) in value.iter().enumerate() {
+        if is_escaped_in_word(*byte) || is_control(*byte) {
+            append_bytes(out, &value[printed..at])?;
+            append_word_byte(out, *byte)?;
+            printed = at + 1;
+        }
     }
-    Ok(())
+    append_bytes(out, &value[printed..])
 }
 
 /// Returns whether reading drops a backslash before `byte` in such a pattern.
-fn is_backslash_before_pattern_byte_dropped(spelling: PatternSpelling, byte: u8) -> bool
+pub fn is_backslash_before_pattern_byte_dropped(spelling: PatternSpelling, byte: u8) -> bool
     ensures { result ≡ is_dropped_backslash_before spelling byte }
 {
     match spelling {
@@ -79,21 +91,6 @@ fn is_backslash_before_pattern_byte_dropped(spelling: PatternSpelling, byte: u8)
             b',' | b':' | b'=' | b'#' | b'"' | b' ' | b'\t' | b'!' | b'(' | b')'
         ),
         PatternSpelling::QuotedHost => byte == b'"',
-    }
-}
-
-/// Appends a byte of a pattern.
-pub fn append_pattern_byte(
-    out: &mut Vec<u8>,
-    spelling: PatternSpelling,
-    byte: u8,
-) -> Result<(), AllocError>
-    ensures { OnOk result (out.new.items ≡ out.old.items ++ escaped_pattern_byte spelling byte) }
-{
-    if is_backslash_before_pattern_byte_dropped(spelling, byte) {
-        out.extend_from_slice(&[b'\\', byte])
-    } else {
-        out.extend_from_slice(&[byte])
     }
 }
 
@@ -107,12 +104,18 @@ pub fn append_escaped_pattern(
     spelling: PatternSpelling,
     pattern: &[u8],
 ) -> Result<(), AllocError>
-    ensures { OnOk result (out.new.items ≡ out.old.items ++ escaped_pattern spelling pattern.now) }
+    ensures appended { OnOk result (out.new.items ≡ out.old.items ++ escaped_pattern spelling pattern.now) }
+    ensures front { IsFront out.old.items out.new.items }
 {
-    for byte in pattern {
-        append_pattern_byte(out, spelling, *byte)?;
+    let mut printed = 0;
+    for (at, byte) in pattern.iter().enumerate() {
+        if is_backslash_before_pattern_byte_dropped(spelling, *byte) {
+            append_bytes(out, &pattern[printed..at])?;
+            append_bytes(out, &[b'\\', *byte])?;
+            printed = at + 1;
+        }
     }
-    Ok(())
+    append_bytes(out, &pattern[printed..])
 }
 
 /// Inserts a backslash before the text that begins at `start`, if it would be read as something else.
@@ -120,14 +123,16 @@ pub fn append_escaped_pattern(
 /// # Errors
 ///
 /// Memory ran out.
+#[tactic(auto, using(crate::proofs::Fronts::text_keeps_front_before_insertion))]
 pub fn insert_backslash_if_misread(
     out: &mut Vec<u8>,
     start: usize,
     reads_else: bool,
 ) -> Result<(), AllocError>
     requires { start ≤ length out.old.items }
-    ensures { OnOk result ((front text : List ℕ) → length front ≡ start → out.old.items ≡ front ++ text
+    ensures inserted { OnOk result ((front text : List ℕ) → length front ≡ start → out.old.items ≡ front ++ text
         → out.new.items ≡ front ++ text_with_backslash_if_misread reads_else text) }
+    ensures front { (front : List ℕ) → length front ≡ start → IsFront front out.old.items → IsFront front out.new.items }
 {
     if reads_else {
         out.insert(start, b'\\')?;
