@@ -1,4 +1,3 @@
 pub mod Passing
 pub mod Held
-pub mod Floats
 pub mod Parts

@@ -1,9 +1,9 @@
 //! The rules of a policy as JSON.
 #![tactic(auto)]
 
-mod json_string_values;
-mod line_values;
-mod printed_bytes;
+mod lists;
+mod objects;
+mod output;
 mod rule_entries;
 mod rules;
 

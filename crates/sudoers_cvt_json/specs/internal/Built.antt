@@ -1,18 +1,20 @@
--- Devices of the proof, which no public contract cites: values as the code builds them.
-use Rattle.std.specs.Prelude.{◌≡◌, ◌⊎◌, ℕ, Bool, false, List, [], ◌∷◌, map, codes, Option}
+-- Devices of the proof, which no public contract cites: values as the code writes them.
+use Rattle.std.specs.Prelude.{◌≡◌, ◌⊎◌, ◌&&◌, ℕ, Bool, false, List, [], ◌∷◌, ◌++◌, map, codes, Option, Some}
 use Rattle.std.specs.List.{filter_map}
 use Rattle.std.specs.Option.{option_map}
 use Rattle.std.specs.Borrow.{Bor}
-use Rattle.std.specs.Prelude.{Vec}
-use Rattle.std.specs.declared.alloc.Global.{Global}
+use Rattle.json.specs.Token.{Token, begin_object, end_object, key}
+use Rattle.json.specs.Tree.{json_tokens, items_tokens}
+use Rattle.json.specs.Written.{Written}
 use Rattle.serde_json.specs.Data.{Data, string, object, no_members, member}
 use Rattle.serde_json.specs.View.{items_of}
-use Rattle.serde_json.specs.Written.{items_text}
+use Rattle.serde_json.specs.Written.{outline, items_outline}
 use Rattle.sudoers_grammar.specs.declared.node.Kind.TheVariants.{Cmnd}
 use Rattle.sudoers_grammar.specs.declared.node.OptionName.{OptionName}
 use Rattle.sudoers_grammar.specs.declared.node.OptionName.TheVariants as option
 use Rattle.sudoers_grammar.specs.declared.node.Tag.{Tag}
 use Rattle.sudoers_grammar.specs.declared.node.Tag.TheVariants as tag
+use Rattle.sudoers_grammar.specs.Node.{RunasSpec, Scope}
 use Rattle.sudoers_line_rows.specs.declared.view.Member.{Member as MemberView}
 use Rattle.sudoers_line_rows.specs.View.{alias_definition_of_view, host_groups_of_view, member_of_view, members_of_view, parameters_of_view, runas_of_view, scope_of_view}
 use Rattle.sudoers_match.specs.declared.command_settings.CommandSettings.{CommandSettings as HeadHeld}
@@ -26,22 +28,26 @@ use Rattle.sudoers_cvt_rules.specs.declared.fault.CvtFault.TheVariants.{NotUtf8,
 use Rattle.sudoers_cvt_rules.specs.declared.rule.Rule.{Rule}
 use Rattle.sudoers_cvt_rules.specs.declared.rule.Rule.TheVariants.{Defaults, Def, Spec}
 use Rattle.sudoers_cvt_rules.specs.Effective.{effective_host_group}
-use Rattle.sudoers_cvt_json.specs.Value.{string_array_value, runas_object_or_null, spec_object_value, alias_object_value, defaults_object_value}
-use Rattle.sudoers_cvt_json.specs.Unicode.{are_texts_of_items_unicode}
+use Rattle.sudoers_cvt_json.specs.Value.{string_array_value, runas_object_or_null, scope_object_or_null, spec_object_value, alias_object_value, defaults_object_value}
+use Rattle.sudoers_cvt_json.specs.Unicode.{are_texts_of_value_unicode, are_texts_of_items_unicode}
 
 -- The fault is want of memory, or that some text is not UTF-8.
 abbrev pub IsJsonFault : Bool → CvtFault → Type 0
 IsJsonFault unicode fault = (fault ≡ NoMemory) ⊎ ((fault ≡ NotUtf8) × (unicode ≡ false))
 
--- items with the bracket behind them; later: others stand before
-abbrev pub text_of_array_items_and_end : Bool → List Data → List ℕ
-text_of_array_items_and_end later ds = items_text later (items_of ds)
+abbrev pub tokens_of_value : Data → List Token
+tokens_of_value d = json_tokens (outline d)
+
+-- the tokens of items, and the bracket behind them
+abbrev pub tokens_of_items_and_end : List Data → List Token
+tokens_of_items_and_end ds = items_tokens (items_outline (items_of ds))
+
+-- These tokens were written.
+abbrev pub WritesTokens : Written → Written → List Token → Type 0
+WritesTokens old new ts = (new.before ≡ old.before) × (new.tokens ≡ old.tokens ++ ts)
 
 abbrev pub are_values_unicode : List Data → Bool
 are_values_unicode ds = are_texts_of_items_unicode (items_of ds)
-
-abbrev pub bytes_of_vectors : List (Vec ℕ Global) → List (List ℕ)
-bytes_of_vectors texts = map (λ (text : Vec ℕ Global). text.items) texts
 
 -- ---- what stands before a command
 
@@ -76,7 +82,33 @@ command_value_of_view head m =
     (member (codes "runas") (runas_object_or_null (option_map runas_of_view head.runas))
     (member (codes "tags") (string_array_value (printed_tag_texts head.tags)) no_members))))
 
+-- the first half of its object
+abbrev pub member_and_option_tokens : HeadHeld → MemberView → List Token
+member_and_option_tokens head m =
+    begin_object ∷ key (codes "command") ∷ (tokens_of_value (string (printed_member false Cmnd (member_of_view m)))
+    ++ key (codes "options") ∷ tokens_of_value (string_array_value (printed_option_texts head.options)))
+
+abbrev pub are_member_and_options_unicode : HeadHeld → MemberView → Bool
+are_member_and_options_unicode head m =
+    are_texts_of_value_unicode (string (printed_member false Cmnd (member_of_view m))) && are_texts_of_value_unicode (string_array_value (printed_option_texts head.options))
+
+-- the second half
+abbrev pub runas_and_tag_tokens : HeadHeld → List Token
+runas_and_tag_tokens head =
+    key (codes "runas") ∷ (tokens_of_value (runas_object_or_null (option_map runas_of_view head.runas))
+    ++ key (codes "tags") ∷ (tokens_of_value (string_array_value (printed_tag_texts head.tags)) ++ end_object ∷ []))
+
+abbrev pub are_runas_and_tags_unicode : HeadHeld → Bool
+are_runas_and_tags_unicode head =
+    are_texts_of_value_unicode (runas_object_or_null (option_map runas_of_view head.runas)) && are_texts_of_value_unicode (string_array_value (printed_tag_texts head.tags))
+
 -- ---- entries
+
+abbrev pub runas_object : RunasSpec → Data
+runas_object r = runas_object_or_null (Some r)
+
+abbrev pub scope_object : Scope → Data
+scope_object s = scope_object_or_null (Some s)
 
 abbrev pub rule_object_value : Rule → Data
 rule_object_value (Defaults scope params) = defaults_object_value (option_map scope_of_view scope) (parameters_of_view params)
