@@ -17,11 +17,13 @@ use Rattle.sudoers_ask.specs.Same.{spelled_command_of_question}
 use Rattle.sudoers_ask.specs.internal.Asked.{IsReadyQuestion}
 
 module _ (lines : List Line) (people : People) (q : CommandQuestion) (a : AskedQuestion) (ready : IsReadyQuestion lines people q a) where
+  pub ready_with_its_own : IsReadyQuestion lines a.people.now a.question.now a
+  ready_with_its_own =
+      subst (λ (p : People). IsReadyQuestion lines p a.question.now a) (sym ready.of_people)
+      (subst (λ (x : CommandQuestion). IsReadyQuestion lines people x a) (sym ready.of_question) ready)
+
   pub ready_itself : IsReadyQuestion a.walk a.people.now a.question.now a
-  ready_itself =
-      subst (λ (ls : List Line). IsReadyQuestion ls a.people.now a.question.now a) (sym ready.walk)
-      (subst (λ (p : People). IsReadyQuestion lines p a.question.now a) (sym ready.of_people)
-      (subst (λ (x : CommandQuestion). IsReadyQuestion lines people x a) (sym ready.of_question) ready))
+  ready_itself = subst (λ (ls : List Line). IsReadyQuestion ls a.people.now a.question.now a) (sym ready.walk) ready_with_its_own
 
   pub ready_outcome : (user : List ℕ) (outcome : UserOutcome) → IsUserOutcome a.walk a.people.now a.question.now user outcome → IsUserOutcome lines people q user outcome
   ready_outcome user outcome is =

@@ -170,7 +170,7 @@ pub fn list_near_facts<'a>(
 /// Memory ran out.
 pub fn list_undecided_facts<'a>(
     alloc: Global,
-    asked: &AskedQuestion<'a, '_, '_, '_>,
+    asked: &AskedQuestion<'a>,
     name: &[u8],
     answer: &UserAnswer<'a>,
 ) -> Result<Vec<WordedText>, AllocError>

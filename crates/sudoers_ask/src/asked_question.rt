@@ -28,10 +28,10 @@ use sudoers_undecided::may_have_undecided_members;
 
 /// A question to a policy, and what is known of it whoever asks.
 #[derive(Drop)]
-pub struct AskedQuestion<'a, 'p, 'q, 'w> {
+pub struct AskedQuestion<'a> {
     pub walk: AcyclicWalk<'a>,
-    pub people: &'p People,
-    pub question: &'q CommandQuestion<'w>,
+    pub people: &'a People,
+    pub question: &'a CommandQuestion<'a>,
     /// The command in each spelling.
     pub command: CommandSpellings,
     /// The user specifications, and of which of them a row may fit.
@@ -42,7 +42,7 @@ pub struct AskedQuestion<'a, 'p, 'q, 'w> {
     pub is_open: bool,
 }
 
-impl<'a, 'p, 'q, 'w> AskedQuestion<'a, 'p, 'q, 'w> {
+impl<'a> AskedQuestion<'a> {
     /// Returns the question `question` to `policy`, which the users of `people` may ask.
     ///
     /// # Errors
@@ -51,9 +51,9 @@ impl<'a, 'p, 'q, 'w> AskedQuestion<'a, 'p, 'q, 'w> {
     pub fn new(
         alloc: Global,
         policy: &'a Policy,
-        people: &'p People,
-        question: &'q CommandQuestion<'w>,
-    ) -> Result<AskedQuestion<'a, 'p, 'q, 'w>, QuestionFault>
+        people: &'a People,
+        question: &'a CommandQuestion<'a>,
+    ) -> Result<AskedQuestion<'a>, QuestionFault>
         ensures ready { IfOk result (λ asked. IsReadyQuestion policy.now.walk.lines people.now question.now asked) }
         ensures straight { IfOk result (λ _. HasCyclicAliasReachedFromSpecOrDefaults policy.now.walk.lines → ⊥) }
         ensures fault { IfErr result (λ fault. IsMemoryFault fault ⊎ ((fault ≡ Ask Cycle) × HasCyclicAliasReachedFromSpecOrDefaults policy.now.walk.lines)) }

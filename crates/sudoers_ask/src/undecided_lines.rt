@@ -36,7 +36,7 @@ fn words_of_reason(reason: WhyUndecided) -> &'static [u8] {
 /// Memory ran out.
 pub fn list_undecided_members_of_answer<'a>(
     alloc: Global,
-    asked: &AskedQuestion<'a, '_, '_, '_>,
+    asked: &AskedQuestion<'a>,
     name: &[u8],
     answer: &UserAnswer<'a>,
 ) -> Result<Vec<UndecidedMember<'a>>, AllocError>
@@ -57,18 +57,28 @@ pub fn list_undecided_members_of_answer<'a>(
     keep_members_without_match(alloc, &asked.command, members)
 }
 
+/// Returns `words` with `path` in place of the first.
+fn make_words_with_path(
+    alloc: Global,
+    path: &[u8],
+    words: &[Items<u8>],
+) -> Result<Vec<Items<u8>>, AllocError> {
+    let mut spelled = Vec::new(alloc);
+    spelled.push(Items::from_slice(alloc, path)?)?;
+    for word in arguments_of_words(words) {
+        spelled.push(Items::from_slice(alloc, word.as_slice())?)?;
+    }
+    Ok(spelled)
+}
+
 /// Returns the undecided members where the user `name` asks for the spelling `other` of the command.
 fn list_undecided_members_of_spelling<'a>(
     alloc: Global,
-    asked: &AskedQuestion<'a, '_, '_, '_>,
+    asked: &AskedQuestion<'a>,
     name: &[u8],
     other: &CommandLine,
 ) -> Result<Vec<UndecidedMember<'a>>, AllocError> {
-    let mut words = Vec::new(alloc);
-    words.push(Items::from_slice(alloc, other.path.as_slice())?)?;
-    for word in arguments_of_words(asked.question.words) {
-        words.push(Items::from_slice(alloc, word.as_slice())?)?;
-    }
+    let words = make_words_with_path(alloc, other.path.as_slice(), asked.question.words)?;
     let question = CommandQuestion {
         words: words.as_slice(),
         ..*asked.question
@@ -160,7 +170,7 @@ pub fn append_undecided_lines_of_user<'a>(
     alloc: Global,
     out: &mut Vec<u8>,
     policy: &Policy,
-    asked: &AskedQuestion<'a, '_, '_, '_>,
+    asked: &AskedQuestion<'a>,
     name: &[u8],
     answer: &UserAnswer<'a>,
 ) -> Result<(), AllocError>

@@ -10,6 +10,7 @@ ghost use Rattle.sudoers_match.specs.Found.{HasMemberAndSettingsFromLines, answe
 ghost use Rattle.sudoers_ask.specs.declared.question.QuestionFault.TheVariants.{Ask};
 ghost use Rattle.sudoers_ask.specs.Outcome.{IsMemoryFault};
 ghost use Rattle.sudoers_match.specs.Spellings.{is_spelled_command_match};
+ghost use Rattle.sudoers_ask.specs.internal.Asked.{IsReadyQuestion};
 ghost use Rattle.sudoers_ask.specs.Users.{IsFaultOfFirstUser, IsReasonOfUserByTest, IsTextOfUsers, is_user_shown, text_with_prefixed_lines};
 
 use crate::asked_question::AskedQuestion;
@@ -49,14 +50,29 @@ pub fn list_users_who_may_run(
         ⊎ IsFaultOfFirstUser policy.now people.now question.now denied fault)) }
 {
     let asked = AskedQuestion::new(alloc, policy, people, question)?;
+    let users = list_users_of_question(alloc, policy, &asked, denied)?;
+    Ok(users)
+}
+
+/// Returns the users of passwd whom `policy` lets run the command of `asked`, as [`list_users_who_may_run`] does.
+fn list_users_of_question<'a>(
+    alloc: Global,
+    policy: &'a Policy,
+    asked: &AskedQuestion<'a>,
+    denied: bool,
+) -> Result<UsersText, QuestionFault>
+    requires ready { IsReadyQuestion policy.now.walk.lines asked.now.people.now asked.now.question.now asked.now }
+    ensures users { IfOk result (λ users. IsTextOfUsers policy.now asked.now.people.now asked.now.question.now denied users.text.items users.is_any_allowed) }
+    ensures fault { IfErr result (λ fault. IsMemoryFault fault ⊎ IsFaultOfFirstUser policy.now asked.now.people.now asked.now.question.now denied fault) }
+{
     let mut text = Vec::new(alloc);
     let mut undecided = Vec::new(alloc);
     let mut is_any_allowed = false;
-    for account in people.accounts() {
+    for account in asked.people.accounts() {
         let name = account.name.as_slice();
         let answer = asked.ask_user(alloc, name)?;
-        append_user_part(alloc, &mut text, policy, &asked, name, &answer, denied)?;
-        append_undecided_lines_of_user(alloc, &mut undecided, policy, &asked, name, &answer)?;
+        append_user_part(alloc, &mut text, policy, asked, name, &answer, denied)?;
+        append_undecided_lines_of_user(alloc, &mut undecided, policy, asked, name, &answer)?;
         is_any_allowed = is_any_allowed | answer.is_allowed();
     }
     Ok(UsersText {
@@ -78,7 +94,7 @@ fn append_user_part<'a>(
     alloc: Global,
     out: &mut Vec<u8>,
     policy: &'a Policy,
-    asked: &AskedQuestion<'a, '_, '_, '_>,
+    asked: &AskedQuestion<'a>,
     name: &[u8],
     answer: &UserAnswer<'a>,
     denied: bool,
