@@ -12,6 +12,7 @@ OPTIONS = ("env_reset", "mail_badpass", "requiretty", "!visiblepw", "passwd_trie
 NAMES = ("ann", "bob", "cho", "dan", "eve", "fay", "gil", "hal")
 KINDS = ("User_Alias", "Host_Alias")
 MOST_OF_A_KIND = 4_000
+RULE = b"user ALL = (root) NOPASSWD: /usr/bin/a, /bin/b -l\n"
 
 
 def joined(members):
@@ -62,6 +63,11 @@ def policy(size):
         lines.append("#" + "-" * (filler - 2) + "\n")
         rest -= filler
     return [line.encode() for line in lines]
+
+
+def rules(size):
+    """A policy of one rule again and again, of at most `size` bytes."""
+    return RULE * (size // len(RULE))
 
 
 def member_of_a_team(lines):
