@@ -68,7 +68,7 @@ ELSEWHERE = (
     "bash scripts/try",  # examples.py
     "bash scripts/build",  # installing.py; the gate proves and builds with the same words of rt
     "bash scripts/test",  # these tests are a part of it
-    "bench/run",  # a benchmark
+    "bench/run",  # benchmarks.py runs its quick rows
     "bash scripts/package",  # installing.py
     "sudo bash scripts/install",  # installing.py
     "sudo bash scripts/uninstall",  # installing.py
