@@ -1,13 +1,16 @@
 -- What is left to match behind the last `*`.
-use Rattle.std.proofs.Common.{◌≡◌, ℕ, Bool, true, List, [], ◌∷◌, ◌++◌, ◌≤◌, length, arith, refl, sym, subst}
+use Rattle.std.proofs.Common.{◌≡◌, ℕ, zero, suc, Bool, true, false, ◌&&◌, List, [], ◌∷◌, ◌++◌, ◌<◌, ◌≤◌, length, drop, take, arith, refl, sym, ap, subst, ◌∙◌}
+use Rattle.std.specs.List.{list_all}
+use Rattle.std.proofs.lemmas.Bool.{false≢true}
 use Rattle.sudoers_match_member.specs.declared.wildcards.GlobMode.{GlobMode}
 use Rattle.sudoers_match_member.specs.declared.wildcards.MatchOutcomeUpToStar.{MatchOutcomeUpToStar}
 use Rattle.sudoers_match_member.specs.declared.wildcards.MatchOutcomeUpToStar.TheVariants as run
 use Rattle.sudoers_match_member.specs.Folded.{bytes_case_folded_if_wanted}
-use Rattle.sudoers_match_member.specs.Wildcard.{Star, may_wildcard_take, items_of_pattern}
+use Rattle.sudoers_match_member.specs.Wildcard.{PatternItem, Star, may_wildcard_take, items_of_pattern}
 use Rattle.sudoers_match_member.specs.internal.Run.{MatchesUpToStar, IsMatchReducedToRest, DoItemsMatch, DoesPatternMatch, IsMatchOutcomeUpToStar, IsMatchOutcomeOfWholePattern, remaining_pattern_measure}
 use Rattle.sudoers_match_member.proofs.AsRead.{case_folding_keeps_length}
 use Rattle.sudoers_match_member.proofs.Items.{taken_bytes_before_match_are_match, rest_after_taken_bytes_is_matched}
+use Rattle.sudoers_match_member.proofs.Splits.{true_conjunction_has_true_left_part, true_conjunction_has_true_right_part}
 use Rattle.sudoers_match_member.proofs.Stars.{match_of_two_stars_reduces_to_last, match_of_last_star_extends_back, star_of_unmatched_items_takes_byte, wildcard_byte_before_star_match_is_match}
 
 -- up to the first `*`
@@ -71,3 +74,22 @@ pub remaining_pattern_after_run_is_no_longer : (mode : GlobMode) (lower : Bool) 
 remaining_pattern_after_run_is_no_longer mode lower pattern text run.Matched o = omega arith
 remaining_pattern_after_run_is_no_longer mode lower pattern text run.Failed o = omega arith
 remaining_pattern_after_run_is_no_longer mode lower pattern text (run.Star behind rest) o = omega (arith, o.shorter, case_folding_keeps_length lower behind.now, case_folding_keeps_length lower pattern)
+
+-- places from which what is behind a `*` does not match
+pub match_is_reduced_past_places_without_match : (mode : GlobMode) (pattern text behind rest : List ℕ) (count : ℕ) → count ≤ length rest → ((place : ℕ) → place < count → DoesPatternMatch mode behind (drop place rest) → ⊥)
+    → list_all (may_wildcard_take mode) (take count rest) ≡ true → IsMatchReducedToRest mode pattern text behind rest → IsMatchReducedToRest mode pattern text behind (drop count rest)
+match_is_reduced_past_places_without_match mode pattern text behind rest zero h n all l = l
+match_is_reduced_past_places_without_match mode pattern text behind [] (suc count) h n all l = absurd (omega (arith, h))
+match_is_reduced_past_places_without_match mode pattern text behind (b ∷ rest) (suc count) h n all l =
+    match_is_reduced_past_places_without_match mode pattern text behind rest count (omega (arith, h)) (λ place k. n (suc place) (omega (arith, k)))
+    (true_conjunction_has_true_right_part (may_wildcard_take mode b) _ all)
+    (match_is_reduced_past_unmatched_byte mode pattern text behind (b ∷ rest) rest b l (n 0 (omega arith)) refl (true_conjunction_has_true_left_part (may_wildcard_take mode b) _ all))
+
+pub blocked_star_has_no_match : (mode : GlobMode) (items : List PatternItem) (text : List ℕ) (count : ℕ) → ((place : ℕ) → place < count → DoItemsMatch mode items (drop place text) → ⊥)
+    → list_all (may_wildcard_take mode) (take count text) ≡ false → DoItemsMatch mode (Star ∷ items) text → ⊥
+blocked_star_has_no_match mode items text zero n e m = false≢true (sym e)
+blocked_star_has_no_match mode items text (suc count) n e m =
+    let more = star_of_unmatched_items_takes_byte mode items text (n 0 (omega arith)) m in
+    blocked_star_has_no_match mode items more.1 count (λ place k. subst (λ xs. DoItemsMatch mode items (drop (suc place) xs) → ⊥) more.2 (n (suc place) (omega (arith, k))))
+    (ap (λ t. t && list_all (may_wildcard_take mode) (take count more.1)) (sym more.3) ∙ ap (λ xs. list_all (may_wildcard_take mode) (take (suc count) xs)) (sym more.2) ∙ e)
+    more.4

@@ -12,3 +12,8 @@ pub mod Stamps
 pub mod Open
 pub mod Ends
 pub mod Unclosed
+pub mod Bits
+pub mod Capitals
+pub mod Places
+pub mod Takers
+pub mod Tables

@@ -20,7 +20,7 @@ false_disjunction_selects_last_of_choices false true b e w x y z other is = absu
 false_disjunction_selects_last_of_choices false false true e w x y z other is = absurd (false≢true (sym is))
 false_disjunction_selects_last_of_choices false false false true w x y z other is = absurd (false≢true (sym is))
 
-plain_byte_is_read_as_byte_item : (c : ℕ) (p : List ℕ) → is_special_in_patterns c ≡ false → pattern_item_at (c ∷ p) ≡ (Byte c, 1)
+pub plain_byte_is_read_as_byte_item : (c : ℕ) (p : List ℕ) → is_special_in_patterns c ≡ false → pattern_item_at (c ∷ p) ≡ (Byte c, 1)
 plain_byte_is_read_as_byte_item c p is = false_disjunction_selects_last_of_choices (c == 42) (c == 63) (c == 91) (c == 92) _ _ _ _ (Byte c, 1) is
 
 pub backslash_before_plain_byte_keeps_match : (mode : GlobMode) (c : ℕ) (p text : List ℕ) → is_special_in_patterns c ≡ false → is_pattern_match mode (92 ∷ c ∷ p) text ≡ is_pattern_match mode (c ∷ p) text

@@ -1,8 +1,9 @@
 //! Sets of bytes.
 
-ghost use Rattle.std.specs.Prelude.{◌≡◌, ◌≢◌, ◌<◌, ◌≤◌, [], false, length, IfSome};
+ghost use Rattle.std.specs.Prelude.{◌≡◌, ◌≢◌, ◌<◌, ◌≤◌, ◌||◌, ℕ, [], false, length, get_or, IfSome};
 ghost use Rattle.sudoers_match_member.specs.Sets.{is_byte_in_set_item, range_bound_at, upper_bound_after_dash, set_item_at, set_items_behind_opening_bracket};
-ghost use Rattle.sudoers_match_member.specs.internal.Seen.{set_end_and_byte_seen};
+ghost use Rattle.sudoers_match_member.specs.internal.Seen.{set_end_and_byte_seen, set_end_and_byte_of_table};
+ghost use Rattle.sudoers_match_member.specs.Class.{is_between, is_byte_of_class};
 ghost use Rattle.sudoers_match_member.specs.Folded.{bytes_case_folded_if_wanted};
 
 use crate::byte_classes::{PosixByteClass, find_class_named_at, fold_byte_case_if_wanted};
@@ -12,18 +13,6 @@ use crate::byte_classes::{PosixByteClass, find_class_named_at, fold_byte_case_if
 pub enum SetItem {
     Of(PosixByteClass),
     Range(u8, u8),
-}
-
-impl SetItem {
-    /// Returns whether the item has `byte`.
-    pub fn has(self, byte: u8) -> bool
-        ensures { result ≡ is_byte_in_set_item byte self }
-    {
-        match self {
-            SetItem::Of(class) => class.has(byte),
-            SetItem::Range(low, high) => low <= byte && byte <= high,
-        }
-    }
 }
 
 /// Returns the end of a range that begins `bytes`, and its length.
@@ -80,23 +69,54 @@ pub fn read_set_item(bytes: &[u8], lower: bool) -> (SetItem, usize)
     }
 }
 
-/// Returns where a set ends whose first item begins `bytes`, and whether it has the byte.
-pub fn find_set_end_and_byte(bytes: &[u8], byte: u8, lower: bool) -> Option<(usize, bool)>
-    ensures set { result ≡ set_end_and_byte_seen byte 0 false (set_items_behind_opening_bracket (bytes_case_folded_if_wanted lower bytes.now)) }
-    ensures within { IfSome result (λ set. set.0 < length bytes.now) }
+/// Adds the bytes from `low` to `high` to those that a set has.
+fn add_range(has: &mut [bool; 256], low: u8, high: u8)
+    ensures { (b : ℕ) → b < 256 → get_or has.new b false ≡ (get_or has.old b false || is_between low high b) }
 {
+    for byte in low as usize..high as usize + 1 {
+        has[byte] = true;
+    }
+}
+
+/// Adds the bytes of a class to those that a set has.
+fn add_class(has: &mut [bool; 256], class: PosixByteClass)
+    ensures { (b : ℕ) → b < 256 → get_or has.new b false ≡ (get_or has.old b false || is_byte_of_class class b) }
+{
+    for byte in 0..256 {
+        if class.has(byte as u8) {
+            has[byte] = true;
+        }
+    }
+}
+
+/// Adds the bytes of an item to those that a set has.
+fn add_item(has: &mut [bool; 256], item: SetItem)
+    ensures { (b : ℕ) → b < 256 → get_or has.new b false ≡ (get_or has.old b false || is_byte_in_set_item b item) }
+{
+    match item {
+        SetItem::Of(class) => add_class(has, class),
+        SetItem::Range(low, high) => add_range(has, low, high),
+    }
+}
+
+/// Returns where a set ends whose first item begins `bytes`, and puts into `has` which bytes it has.
+pub fn read_set(bytes: &[u8], lower: bool, has: &mut [bool; 256]) -> Option<usize>
+    ensures set { (b : ℕ) → b < 256 → set_end_and_byte_of_table b has.new result ≡ set_end_and_byte_seen b 0 false (set_items_behind_opening_bracket (bytes_case_folded_if_wanted lower bytes.now)) }
+    ensures within { IfSome result (λ end. end < length bytes.now) }
+{
+    *has = [false; 256];
     if bytes.is_empty() {
         return None;
     }
     let (first, len) = read_set_item(bytes, lower);
-    let mut has = first.has(byte);
+    add_item(has, first);
     let mut at = len;
     while at < bytes.len() {
         if fold_byte_case_if_wanted(lower, bytes[at]) == b']' {
-            return Some((at, has));
+            return Some(at);
         }
         let (item, len) = read_set_item(&bytes[at..], lower);
-        has |= item.has(byte);
+        add_item(has, item);
         at += len;
     }
     None

@@ -1,6 +1,6 @@
 //! What is known of the sets of a pattern, so that none is read again for each byte of a text.
 
-ghost use Rattle.std.specs.Prelude.{◌≡◌, ◌≢◌, ◌<◌, ◌≤◌, ◌+◌, ◌-◌, Bool, List, ℕ, length, drop, get_or, None, IfSome, IsTrue};
+ghost use Rattle.std.specs.Prelude.{◌≡◌, ◌≢◌, ◌<◌, ◌≤◌, ◌+◌, ◌-◌, Bool, List, ℕ, length, drop, None, IfSome, IsTrue};
 ghost use Rattle.sudoers_match_member.specs.declared.wildcards.GlobMode.{GlobMode as GlobModeOf};
 ghost use Rattle.sudoers_match_member.specs.Wildcard.{is_byte_taken_by_item, bracket_item, pattern_item_at as item_of, Star, Byte};
 ghost use Rattle.sudoers_match_member.specs.Sets.{set_items_behind_opening_bracket};
@@ -9,7 +9,7 @@ ghost use Rattle.sudoers_match_member.specs.internal.Known.{IsCorrectSetCache, I
 
 use crate::byte_classes::fold_byte_case_if_wanted;
 use crate::byte_sets::read_set_item;
-use crate::first_pattern_item::{PatternItemMatch, match_first_item};
+use crate::first_pattern_item::{PatternItemMatch, match_first_item, read_bracket_item};
 use crate::wildcards::GlobMode;
 
 /// What is known of the sets of a pattern.
@@ -17,12 +17,12 @@ use crate::wildcards::GlobMode;
 pub struct SetMatchCache {
     /// How many last bytes of the pattern have no `]`, so that no set ends there.
     tail: usize,
-    /// Where the one set begins of which more is known.
-    at: usize,
+    /// Where the last set begins that was read.
+    at: Option<usize>,
     /// How long it is.
     len: usize,
-    /// Which bytes it takes, as far as that was asked.
-    takes: [Option<bool>; 256],
+    /// Which bytes it takes.
+    takes: [bool; 256],
     /// Where an item begins of a set that nothing closes, if one is known.
     unclosed: Option<usize>,
 }
@@ -34,9 +34,9 @@ impl SetMatchCache {
     {
         SetMatchCache {
             tail: closing_bracket_free_tail_len(pattern),
-            at: 0,
+            at: None,
             len: 0,
-            takes: make_table_with_no_byte_known(),
+            takes: [false; 256],
             unclosed: None,
         }
     }
@@ -46,7 +46,7 @@ impl SetMatchCache {
         ensures known { (mode : GlobModeOf) (lower : Bool) (pattern : List ℕ) → IsTailWithoutClosingBracket self.old.tail pattern → IsCorrectSetCache mode lower pattern self.new }
         ensures tail { self.new.tail ≡ self.old.tail }
     {
-        self.takes = make_table_with_no_byte_known();
+        self.at = None;
         self.unclosed = None;
     }
 
@@ -81,12 +81,15 @@ impl SetMatchCache {
         if self.is_known_unclosed_set(pattern, first, mode, lower) {
             return PatternItemMatch::make_one_byte_item(byte == b'[');
         }
-        let front = match_first_item(rest, byte, mode, lower);
-        self.keep_item_match(at, byte, front);
-        if front.len == 1 {
+        self.len = read_bracket_item(&rest[1..], mode, lower, &mut self.takes);
+        self.at = Some(at);
+        if self.len == 1 {
             self.unclosed = Some(first);
         }
-        front
+        PatternItemMatch {
+            len: self.len,
+            takes: self.takes[byte as usize],
+        }
     }
 
     /// Returns whether it is known that nothing closes a set whose first item begins at `first`.
@@ -111,37 +114,18 @@ impl SetMatchCache {
         place == first
     }
 
-    /// Returns the set that begins at `at`, if it is known whether it takes `byte`.
+    /// Returns what the set does with `byte` that begins at `at`, if it is the last that was read.
     fn find(&self, at: usize, byte: u8) -> Option<PatternItemMatch>
         ensures { (mode : GlobModeOf) (lower : Bool) (pattern : List ℕ) → IsCorrectSetCache mode lower pattern self.now
             → IfSome result (IsFirstItemMatch mode lower (drop at pattern) byte) }
     {
-        if self.at != at {
+        if self.at != Some(at) {
             return None;
         }
-        match self.takes[byte as usize] {
-            Some(takes) => {
-                Some(PatternItemMatch {
-                    len: self.len,
-                    takes,
-                })
-            }
-            None => None,
-        }
-    }
-
-    /// Keeps what is known of the set that begins at `at`, in place of what is known of another.
-    fn keep_item_match(&mut self, at: usize, byte: u8, front: PatternItemMatch)
-        ensures known { (mode : GlobModeOf) (lower : Bool) (pattern : List ℕ) → IsCorrectSetCache mode lower pattern self.old
-            → IsFirstItemMatch mode lower (drop at pattern) byte front → IsCorrectSetCache mode lower pattern self.new }
-        ensures tail { self.new.tail ≡ self.old.tail }
-    {
-        if self.at != at {
-            self.at = at;
-            self.takes = make_table_with_no_byte_known();
-        }
-        self.len = front.len;
-        self.takes[byte as usize] = Some(front.takes);
+        Some(PatternItemMatch {
+            len: self.len,
+            takes: self.takes[byte as usize],
+        })
     }
 }
 
@@ -176,13 +160,6 @@ fn skip_unclosed_set_items_up_to_place(
         place += len;
     }
     place
-}
-
-/// Returns a table in which no byte is known.
-fn make_table_with_no_byte_known() -> [Option<bool>; 256]
-    ensures { (b : ℕ) → get_or result b None ≡ None }
-{
-    [None; 256]
 }
 
 /// Returns how many bytes at the end of `pattern` have no `]`.

@@ -1,15 +1,19 @@
 //! Patterns with wildcards.
 
-ghost use Rattle.std.specs.Prelude.{◌≡◌, ◌↔◌, ◌≤◌, ◌∷◌, length, IsTrue, IfSome};
+ghost use Rattle.std.specs.Prelude.{◌≡◌, ◌↔◌, ◌≤◌, ◌∷◌, List, ℕ, None, length, IsTrue, IfSome};
 ghost use Rattle.std.specs.List.{list_all};
-ghost use Rattle.sudoers_match_member.specs.Wildcard.{may_wildcard_take, is_pattern_match};
+ghost use Rattle.sudoers_match_member.specs.Wildcard.{Star, items_of_pattern, may_wildcard_take, is_pattern_match};
 ghost use Rattle.sudoers_match_member.specs.internal.Known.{IsCorrectSetCache, HasTailWithoutClosingBracketAfterStar};
 ghost use Rattle.sudoers_match_member.specs.Folded.{byte_case_folded_if_wanted, bytes_case_folded_if_wanted};
-ghost use Rattle.sudoers_match_member.specs.internal.Run.{IsMatchOutcomeUpToStar, IsMatchOutcomeOfWholePattern, remaining_pattern_measure, DoesPatternMatch};
+ghost use Rattle.sudoers_match_member.specs.internal.Run.{IsMatchOutcomeUpToStar, IsMatchOutcomeOfWholePattern, IsMatchReducedToRest, remaining_pattern_measure, DoItemsMatch, DoesPatternMatch};
 ghost use Rattle.sudoers_match_member.specs.internal.Count.{IsStarlessItemCountUpToLimit};
 
 use crate::byte_classes::fold_byte_case_if_wanted;
+use crate::place_search::find_place_to_try;
 use crate::set_cache::SetMatchCache;
+
+/// How many places are tried one by one before they are searched.
+const FEW_TRIES: u32 = 4;
 
 /// Which bytes wildcards match.
 #[derive(Clone, Copy)]
@@ -143,6 +147,32 @@ fn matches_star_and_last_items(
     )
 }
 
+/// Returns the rest of `text` from the first place on from which the items of `pattern` up to its next `*` may match, if a `*` may take
+/// what is before it.
+fn skip_places_without_match<'a>(
+    pattern: &[u8],
+    text: &'a [u8],
+    mode: GlobMode,
+    lower: bool,
+    known: &mut SetMatchCache,
+) -> Option<&'a [u8]>
+    requires known { IsCorrectSetCache mode lower pattern.now known.old }
+    ensures rest { IfSome result (λ rest. (before tried : List ℕ)
+        → IsMatchReducedToRest mode before tried (bytes_case_folded_if_wanted lower pattern.now) (bytes_case_folded_if_wanted lower text.now)
+        → IsMatchReducedToRest mode before tried (bytes_case_folded_if_wanted lower pattern.now) (bytes_case_folded_if_wanted lower rest.now)) }
+    ensures shorter { IfSome result (λ rest. length rest.now ≤ length text.now) }
+    ensures blocked { result ≡ None → DoItemsMatch mode (Star ∷ items_of_pattern (bytes_case_folded_if_wanted lower pattern.now)) (bytes_case_folded_if_wanted lower text.now) → ⊥ }
+    ensures known { IsCorrectSetCache mode lower pattern.now known.new }
+    ensures tail { known.new.tail ≡ known.old.tail }
+{
+    let place = find_place_to_try(pattern, text, mode, lower, known);
+    if mode.may_wildcard_take_all(&text[..place], lower) {
+        Some(&text[place..])
+    } else {
+        None
+    }
+}
+
 /// Matches a `*` and the items of `pattern` up to its next `*`. Of all runs that the first `*` may take, it takes the shortest.
 fn match_star_and_items<'a>(
     pattern: &'a [u8],
@@ -157,6 +187,7 @@ fn match_star_and_items<'a>(
     ensures behind { HasTailWithoutClosingBracketAfterStar known.new.tail result }
 {
     let mut text = text;
+    let mut tries = FEW_TRIES;
     loop {
         match match_up_to_star(pattern, text, mode, lower, known) {
             MatchOutcomeUpToStar::Failed => {
@@ -166,6 +197,14 @@ fn match_star_and_items<'a>(
                     return MatchOutcomeUpToStar::Failed;
                 }
                 text = &text[1..];
+                if tries > 0 {
+                    tries -= 1;
+                } else {
+                    match skip_places_without_match(pattern, text, mode, lower, known) {
+                        Some(rest) => text = rest,
+                        None => return MatchOutcomeUpToStar::Failed,
+                    }
+                }
             }
             run => return run,
         }

@@ -1,5 +1,5 @@
 -- A device of the proof, which no public contract cites: what is known of the sets of a pattern.
-use Rattle.std.specs.Prelude.{◌≡◌, ◌≢◌, ◌<◌, ◌≤◌, ◌+◌, ℕ, Bool, List, length, drop, get_or, Some, None, IfSome}
+use Rattle.std.specs.Prelude.{◌≡◌, ◌≢◌, ◌<◌, ◌≤◌, ◌+◌, ℕ, Bool, false, List, length, drop, get_or, None, IfSome}
 use Rattle.sudoers_match_member.specs.declared.wildcards.GlobMode.{GlobMode}
 use Rattle.sudoers_match_member.specs.declared.wildcards.MatchOutcomeUpToStar.{MatchOutcomeUpToStar}
 use Rattle.sudoers_match_member.specs.declared.wildcards.MatchOutcomeUpToStar.TheVariants as run
@@ -29,6 +29,5 @@ HasTailWithoutClosingBracketAfterStar tail (run.Star behind rest) = IsTailWithou
 -- What is known of the sets of a pattern is right.
 pub record IsCorrectSetCache (mode : GlobMode) (lower : Bool) (pattern : List ℕ) (known : SetMatchCache) : Type 0 where
   pub tail : IsTailWithoutClosingBracket known.tail pattern
-  pub front : (b : ℕ) (t : Bool) → b < 256 → get_or known.takes b None ≡ Some t
-      → IsFirstItemMatch mode lower (drop known.at pattern) b (record { len = known.len; takes = t })
+  pub front : IfSome known.at (λ at. (b : ℕ) → b < 256 → IsFirstItemMatch mode lower (drop at pattern) b (record { len = known.len; takes = get_or known.takes b false }))
   pub unclosed : IfSome known.unclosed (λ place. set_items_behind_opening_bracket (bytes_case_folded_if_wanted lower (drop place pattern)) ≡ None)

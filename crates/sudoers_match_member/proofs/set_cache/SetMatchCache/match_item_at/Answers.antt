@@ -38,19 +38,3 @@ bracket_at : (lower : Bool) (pattern : List ℕ) (at : ℕ) → at < length patt
     → pattern_item_at (bytes_case_folded_if_wanted lower (drop at pattern)) ≡ bracket_item (bytes_case_folded_if_wanted lower (drop (at + 1) pattern))
 bracket_at lower pattern at within is =
     ap (λ xs. pattern_item_at (bytes_case_folded_if_wanted lower xs)) (drop_more pattern at 0 within) ∙ ap (λ c. pattern_item_at (c ∷ bytes_case_folded_if_wanted lower (drop (at + 1) pattern))) is
-
-pub returns-then-front-eq1-clause-known : goal.returns-then-front-eq1-clause-known
-returns-then-front-eq1-clause-known c =
-    let mode = c.args.mode in let lower = c.args.lower in let pattern = c.args.pattern.now in let at = c.args.at in let front = c.match_first_item-front.result in
-    let told = c.match_first_item-front.ensures in
-    let is : byte_case_folded_if_wanted lower (get_or pattern at 0) ≡ 91 = ap (byte_case_folded_if_wanted lower) (first_at pattern at) ∙ sym c.fold_byte_case_if_wanted.ensures ∙ c.if-fold_byte_case_if_wanted-ne91.false in
-    let here : IsFirstItemMatch mode lower (drop at pattern) c.args.byte front =
-    subst (λ xs. IsFirstItemMatch mode lower xs c.args.byte front) (take_rest pattern at)
-    (record { len = told.len; takes = told.takes; some = told.some; within = told.within }) in
-    let known = c.keep_item_match.ensures.known mode lower pattern c.is_known_unclosed_set.ensures.known here in
-    record {
-      tail = known.tail;
-      front = known.front;
-      unclosed = c.find_first_item_place_in_set-first.ensures.closed
-          (ap (λ (x : PatternItem × ℕ). x.1) (sym (bracket_at lower pattern at c.requires.within is)) ∙ sym here.len ∙ c.if-front-eq1.true);
-    }

@@ -1,0 +1,19 @@
+use Rattle.std.proofs.Common.{◌≡◌, ◌≤◌, ◌+◌, ◌-◌, false, length, drop}
+use Rattle.sudoers_match_member.specs.internal.Known.{IsCorrectSetCache}
+use Rattle.sudoers_match_member.specs.internal.Places.{items_from_place, BeginWithStarless, AreTakersOfItems}
+use Rattle.sudoers_match_member.proofs.place_search.read_item_row.Given as goal
+
+abbrev pub invariant-loop-end : goal.invariant-loop-end
+invariant-loop-end l = record {
+  few : l.count ≤ 256;
+  within : l.end ≤ length l.pattern;
+  further : l.at + l.count ≤ l.end;
+  rest : drop l.count (items_from_place l.lower l.pattern l.at) ≡ items_from_place l.lower l.pattern l.end;
+  starless : BeginWithStarless (items_from_place l.lower l.pattern l.at) l.count;
+  takers : AreTakersOfItems l.mode false (items_from_place l.lower l.pattern l.at) l.count l.takers;
+  known : IsCorrectSetCache l.mode l.lower l.pattern l.known;
+  tail : l.known.tail ≡ l.fn.known.tail;
+}
+
+abbrev pub decreases-loop-end : goal.decreases-loop-end
+decreases-loop-end l = length l.pattern - l.end
