@@ -67,3 +67,9 @@ pub bytes_after_place_in_tail_are_bracketless : (tail at : ℕ) (pattern : List 
 bytes_after_place_in_tail_are_bracketless tail at pattern is few within i h e =
     is (at + 1 + i) (omega (arith, length-drop (at + 1) pattern, h)) (omega (arith, length-drop at pattern, few, within))
     (sym (get_or-drop (at + 1) pattern i 0) ∙ e)
+
+-- what is so of a pattern is so of its end
+pub tail_of_end_is_bracketless : (tail k : ℕ) (pattern : List ℕ) → IsTailWithoutClosingBracket tail pattern → IsTailWithoutClosingBracket tail (drop k pattern)
+tail_of_end_is_bracketless tail k pattern is i within few e =
+    let size = length-drop k pattern in
+    is (k + i) (omega (arith, size, within)) (omega (arith, size, within, few)) (sym (get_or-drop k pattern i 0) ∙ e)

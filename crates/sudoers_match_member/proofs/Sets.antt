@@ -51,7 +51,7 @@ pub first_set_item_is_passed_to_end : (bytes : List ℕ) → 0 < length bytes �
 first_set_item_is_passed_to_end [] h = absurd (omega arith)
 first_set_item_is_passed_to_end (c ∷ cs) h = nonempty_bracket_set_end_passes_item c cs
 
-unclosed_first_byte_begins_set_items : (c : ℕ) (cs : List ℕ) → c ≢ 93 → set_items_behind_opening_bracket (c ∷ cs) ≡ set_items_after_skipped_bytes 0 (c ∷ cs)
+pub unclosed_first_byte_begins_set_items : (c : ℕ) (cs : List ℕ) → c ≢ 93 → set_items_behind_opening_bracket (c ∷ cs) ≡ set_items_after_skipped_bytes 0 (c ∷ cs)
 unclosed_first_byte_begins_set_items c cs n = rw (ne_eqb c 93 n) refl
 
 pub next_set_item_is_passed_to_end : (bytes : List ℕ) → 0 < length bytes → get_or bytes 0 0 ≢ 93 → IsSetEndSeenAfterItem bytes (set_items_after_skipped_bytes 0 bytes)

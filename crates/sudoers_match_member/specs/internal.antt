@@ -4,3 +4,4 @@ pub mod Known
 pub mod Places
 pub mod Run
 pub mod Seen
+pub mod Unclosed

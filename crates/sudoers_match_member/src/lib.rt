@@ -13,6 +13,7 @@ mod place_search;
 mod request;
 mod set_cache;
 mod time_stamp;
+mod unclosed_places;
 mod wildcards;
 
 pub use atom_matches::{

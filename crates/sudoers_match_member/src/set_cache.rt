@@ -6,10 +6,11 @@ ghost use Rattle.sudoers_match_member.specs.Wildcard.{is_byte_taken_by_item, bra
 ghost use Rattle.sudoers_match_member.specs.Sets.{set_items_behind_opening_bracket};
 ghost use Rattle.sudoers_match_member.specs.Folded.{bytes_case_folded_if_wanted};
 ghost use Rattle.sudoers_match_member.specs.internal.Known.{IsCorrectSetCache, IsFirstItemMatch, IsTailWithoutClosingBracket};
+ghost use Rattle.sudoers_match_member.specs.internal.Unclosed.{AreUnclosedPlaces};
 
 use crate::byte_classes::fold_byte_case_if_wanted;
-use crate::byte_sets::read_set_item;
 use crate::first_pattern_item::{PatternItemMatch, match_first_item, read_bracket_item};
+use crate::unclosed_places::UnclosedPlaces;
 use crate::wildcards::GlobMode;
 
 /// What is known of the sets of a pattern.
@@ -23,8 +24,8 @@ pub struct SetMatchCache {
     len: usize,
     /// Which bytes it takes.
     takes: [bool; 256],
-    /// Where an item begins of a set that nothing closes, if one is known.
-    unclosed: Option<usize>,
+    /// The places behind which nothing closes a set, once there is such a set.
+    unclosed: Option<UnclosedPlaces>,
 }
 
 impl SetMatchCache {
@@ -41,13 +42,12 @@ impl SetMatchCache {
         }
     }
 
-    /// Forgets the sets. What is left is right of each pattern with such last bytes.
-    pub fn forget_cached_sets(&mut self)
-        ensures known { (mode : GlobModeOf) (lower : Bool) (pattern : List ℕ) → IsTailWithoutClosingBracket self.old.tail pattern → IsCorrectSetCache mode lower pattern self.new }
-        ensures tail { self.new.tail ≡ self.old.tail }
+    /// Forgets the set that was read. What is left is right of each pattern that is the end of this one.
+    pub fn forget_read_set(&mut self)
+        ensures { (mode : GlobModeOf) (lower : Bool) (pattern : List ℕ) → IsTailWithoutClosingBracket self.old.tail pattern
+            → IfSome self.old.unclosed (AreUnclosedPlaces lower pattern) → IsCorrectSetCache mode lower pattern self.new }
     {
         self.at = None;
-        self.unclosed = None;
     }
 
     /// Returns what begins at `at`, as `match_first_item` does. A set is read once for each byte that it is asked of, and none is read where no
@@ -78,40 +78,44 @@ impl SetMatchCache {
             return front;
         }
         let first = find_first_item_place_in_set(pattern, at, lower);
-        if self.is_known_unclosed_set(pattern, first, mode, lower) {
+        if self.is_known_unclosed_set(pattern, first, lower) {
             return PatternItemMatch::make_one_byte_item(byte == b'[');
         }
         self.len = read_bracket_item(&rest[1..], mode, lower, &mut self.takes);
         self.at = Some(at);
-        if self.len == 1 {
-            self.unclosed = Some(first);
-        }
-        PatternItemMatch {
+        let front = PatternItemMatch {
             len: self.len,
             takes: self.takes[byte as usize],
+        };
+        if front.len == 1 {
+            self.find_unclosed_places(pattern, lower);
+        }
+        front
+    }
+
+    /// Finds the places behind which nothing closes a set, if they are not known.
+    #[cold]
+    #[inline(never)]
+    fn find_unclosed_places(&mut self, pattern: &[u8], lower: bool)
+        ensures known { (mode : GlobModeOf) → IsCorrectSetCache mode lower pattern.now self.old → IsCorrectSetCache mode lower pattern.now self.new }
+        ensures tail { self.new.tail ≡ self.old.tail }
+    {
+        if self.unclosed.is_none() {
+            let places = UnclosedPlaces::find_in_pattern(pattern, lower);
+            self.unclosed = Some(places);
         }
     }
 
     /// Returns whether it is known that nothing closes a set whose first item begins at `first`.
-    fn is_known_unclosed_set(
-        &mut self,
-        pattern: &[u8],
-        first: usize,
-        mode: GlobMode,
-        lower: bool,
-    ) -> bool
+    fn is_known_unclosed_set(&self, pattern: &[u8], first: usize, lower: bool) -> bool
         requires within { first ≤ length pattern.now }
-        requires known { IsCorrectSetCache mode lower pattern.now self.old }
-        ensures unclosed { IsTrue result → set_items_behind_opening_bracket (bytes_case_folded_if_wanted lower (drop first pattern.now)) ≡ None }
-        ensures known { IsCorrectSetCache mode lower pattern.now self.new }
-        ensures tail { self.new.tail ≡ self.old.tail }
+        requires known { IfSome self.now.unclosed (AreUnclosedPlaces lower pattern.now) }
+        ensures { IsTrue result → set_items_behind_opening_bracket (bytes_case_folded_if_wanted lower (drop first pattern.now)) ≡ None }
     {
-        let Some(place) = self.unclosed else {
-            return false;
-        };
-        let place = skip_unclosed_set_items_up_to_place(pattern, place, first, lower);
-        self.unclosed = Some(place);
-        place == first
+        match &self.unclosed {
+            Some(places) => places.is_behind_item(&pattern[first..], lower),
+            None => false,
+        }
     }
 
     /// Returns what the set does with `byte` that begins at `at`, if it is the last that was read.
@@ -141,25 +145,6 @@ fn find_first_item_place_in_set(pattern: &[u8], at: usize, lower: bool) -> usize
     } else {
         at + 1
     }
-}
-
-/// Returns where an item of a set begins that nothing closes, at `first` or behind it. One of its items begins at `place`.
-fn skip_unclosed_set_items_up_to_place(
-    pattern: &[u8],
-    place: usize,
-    first: usize,
-    lower: bool,
-) -> usize
-    requires within { first ≤ length pattern.now }
-    requires unclosed { set_items_behind_opening_bracket (bytes_case_folded_if_wanted lower (drop place pattern.now)) ≡ None }
-    ensures { set_items_behind_opening_bracket (bytes_case_folded_if_wanted lower (drop result pattern.now)) ≡ None }
-{
-    let mut place = place;
-    while place < first {
-        let (_, len) = read_set_item(&pattern[place..], lower);
-        place += len;
-    }
-    place
 }
 
 /// Returns how many bytes at the end of `pattern` have no `]`.

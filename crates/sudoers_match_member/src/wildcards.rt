@@ -3,7 +3,7 @@
 ghost use Rattle.std.specs.Prelude.{◌≡◌, ◌↔◌, ◌≤◌, ◌∷◌, List, ℕ, None, length, IsTrue, IfSome};
 ghost use Rattle.std.specs.List.{list_all};
 ghost use Rattle.sudoers_match_member.specs.Wildcard.{Star, items_of_pattern, may_wildcard_take, is_pattern_match};
-ghost use Rattle.sudoers_match_member.specs.internal.Known.{IsCorrectSetCache, HasTailWithoutClosingBracketAfterStar};
+ghost use Rattle.sudoers_match_member.specs.internal.Known.{IsCorrectSetCache, IsKnownBehindStar};
 ghost use Rattle.sudoers_match_member.specs.Folded.{byte_case_folded_if_wanted, bytes_case_folded_if_wanted};
 ghost use Rattle.sudoers_match_member.specs.internal.Run.{IsMatchOutcomeUpToStar, IsMatchOutcomeOfWholePattern, IsMatchReducedToRest, remaining_pattern_measure, DoItemsMatch, DoesPatternMatch};
 ghost use Rattle.sudoers_match_member.specs.internal.Count.{IsStarlessItemCountUpToLimit};
@@ -65,7 +65,7 @@ fn match_up_to_star<'a>(
     requires known { IsCorrectSetCache mode lower pattern.now known.old }
     ensures outcome { IsMatchOutcomeUpToStar mode lower pattern.now text.now result }
     ensures known { IsCorrectSetCache mode lower pattern.now known.new }
-    ensures behind { HasTailWithoutClosingBracketAfterStar known.new.tail result }
+    ensures behind { IsKnownBehindStar lower known.new result }
 {
     let mut at = 0;
     let mut place = 0;
@@ -184,7 +184,7 @@ fn match_star_and_items<'a>(
     requires known { IsCorrectSetCache mode lower pattern.now known.old }
     ensures outcome { IsMatchOutcomeOfWholePattern mode lower (42 ∷ bytes_case_folded_if_wanted lower pattern.now) (bytes_case_folded_if_wanted lower text.now) result }
     ensures shorter { remaining_pattern_measure result ≤ length pattern.now }
-    ensures behind { HasTailWithoutClosingBracketAfterStar known.new.tail result }
+    ensures behind { IsKnownBehindStar lower known.new result }
 {
     let mut text = text;
     let mut tries = FEW_TRIES;
@@ -219,7 +219,7 @@ fn matches_whole_pattern(pattern: &[u8], text: &[u8], mode: GlobMode, lower: boo
     let mut known = SetMatchCache::make_for_pattern(pattern);
     let mut run = match_up_to_star(pattern, text, mode, lower, &mut known);
     while let MatchOutcomeUpToStar::Star(pattern, text) = run {
-        known.forget_cached_sets();
+        known.forget_read_set();
         if let Some(count) = count_items_if_no_star(pattern, text.len(), mode, lower, &mut known) {
             return matches_star_and_last_items(pattern, text, count, mode, lower, &mut known);
         }

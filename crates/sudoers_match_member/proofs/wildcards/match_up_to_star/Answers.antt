@@ -1,9 +1,15 @@
 use Rattle.std.proofs.Common.{◌≡◌, ◌≢◌, ℕ, ◌+◌, ◌-◌, ◌<◌, Bool, true, false, List, ◌∷◌, ◌++◌, length, drop, take, get_or, sym, ap, subst, ◌∙◌, arith}
-use Rattle.std.proofs.lemmas.List.{drop_more, drop-drop, drop_all, length-drop, drop-map}
+use Rattle.std.specs.Prelude.{IfSome}
+use Rattle.std.proofs.lemmas.Option.{IfSome_then}
+use Rattle.std.proofs.lemmas.List.{take_rest, drop_more, drop-drop, drop_all, length-drop, drop-map}
 use Rattle.std.proofs.lemmas.Bool.{not-true, not-false}
 use Rattle.sudoers_match_member.specs.declared.wildcards.GlobMode.{GlobMode}
 use Rattle.sudoers_match_member.specs.Folded.{byte_case_folded_if_wanted, bytes_case_folded_if_wanted}
 use Rattle.sudoers_match_member.specs.Wildcard.{is_byte_taken_by_item, pattern_item_at, items_of_pattern}
+use Rattle.sudoers_match_member.specs.internal.Known.{IsTailWithoutClosingBracket}
+use Rattle.sudoers_match_member.specs.internal.Unclosed.{AreUnclosedPlaces}
+use Rattle.sudoers_match_member.proofs.Open.{tail_of_end_is_bracketless}
+use Rattle.sudoers_match_member.proofs.Unclosed.{unclosed_places_are_those_of_end}
 use Rattle.sudoers_match_member.specs.internal.Run.{DoItemsTakePrefix, MatchesUpToStar, DoItemsMatch, DoesPatternMatch}
 use Rattle.sudoers_match_member.proofs.AsRead.{case_folding_keeps_length, case_folding_keeps_rest_from_place, byte_of_folded_bytes_is_folded_byte, folding_keeps_byte_that_is_no_star}
 use Rattle.sudoers_match_member.proofs.Passing.{rest_from_place_within_is_not_empty, place_after_item_is_within_pattern, taken_byte_extends_taken_prefix, taken_prefix_of_all_is_pattern_match, unmatched_rest_implies_unmatched_pattern, empty_pattern_matches_no_nonempty_rest, non_star_item_matches_no_empty_rest, item_refusing_byte_has_no_match}
@@ -52,6 +58,14 @@ returns-then-fold_byte_case_if_wanted-eq42-clause-outcome c =
     (subst (MatchesUpToStar mode xs ys (drop (at + 1) xs)) (sym (case_folding_keeps_rest_from_place lower text place))
     (at_star mode xs ys at place c.loop-at.invariant.passed (omega (arith, case_folding_keeps_length lower pattern, c.loop-at-test.true))
     (byte_of_folded_bytes_is_folded_byte lower pattern at c.loop-at-test.true ∙ sym c.fold_byte_case_if_wanted.ensures ∙ c.if-fold_byte_case_if_wanted-eq42.true)))
+
+pub returns-then-fold_byte_case_if_wanted-eq42-clause-behind : goal.returns-then-fold_byte_case_if_wanted-eq42-clause-behind
+returns-then-fold_byte_case_if_wanted-eq42-clause-behind c =
+    let pattern = c.args.pattern.now in let at = c.loop-at.at in let known = c.loop-at.invariant.known in
+    subst (λ behind. IsTailWithoutClosingBracket c.loop-at.known.tail behind × IfSome c.loop-at.known.unclosed (AreUnclosedPlaces c.args.lower behind)) (sym (take_rest pattern (at + 1))) (
+      tail_of_end_is_bracketless c.loop-at.known.tail (at + 1) pattern known.tail,
+      IfSome_then c.loop-at.known.unclosed known.unclosed (λ places are. unclosed_places_are_those_of_end c.args.lower pattern places (at + 1) (omega (arith, c.loop-at-test.true)) are),
+    )
 
 pub returns-then-place-text-clause-outcome : goal.returns-then-place-text-clause-outcome
 returns-then-place-text-clause-outcome c =

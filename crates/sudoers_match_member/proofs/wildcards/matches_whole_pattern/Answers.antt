@@ -1,5 +1,5 @@
 use Rattle.std.proofs.Common.{subst}
-use Rattle.sudoers_match_member.specs.internal.Known.{HasTailWithoutClosingBracketAfterStar}
+use Rattle.sudoers_match_member.specs.internal.Known.{IsKnownBehindStar}
 use Rattle.sudoers_match_member.proofs.Left.{progress_to_star_is_overall_progress}
 use Rattle.sudoers_match_member.proofs.wildcards.matches_whole_pattern.Goals as goal
 
@@ -13,7 +13,6 @@ loop-run-init c = record {
 }
 
 pub count_items_if_no_star-requires : goal.count_items_if_no_star-requires
-count_items_if_no_star-requires c = record {
-  known = c.forget_cached_sets.ensures.known c.args.mode c.args.lower c.in-Star.pattern.now
-      (subst (HasTailWithoutClosingBracketAfterStar c.loop-run.known.tail) c.in-Star.is c.loop-run.invariant.behind);
-}
+count_items_if_no_star-requires c =
+    let known = subst (IsKnownBehindStar c.args.lower c.loop-run.known) c.in-Star.is c.loop-run.invariant.behind in
+    record { known = c.forget_read_set.ensures c.args.mode c.args.lower c.in-Star.pattern.now known.0 known.1 }

@@ -1,5 +1,5 @@
 use Rattle.std.proofs.Common.{◌≡◌, ◌==◌, ℕ, ◌+◌, ◌<◌, ◌≤◌, Bool, List, ◌∷◌, length, drop, take, get_or, sym, ap, subst, ◌∙◌, ◌-◌, add-zero, arith}
-use Rattle.std.proofs.lemmas.List.{drop_more, length-drop, get_or-drop, take_rest}
+use Rattle.std.proofs.lemmas.List.{drop_more, drop-drop, length-drop, get_or-drop, take_rest}
 use Rattle.sudoers_match_member.specs.declared.wildcards.GlobMode.{GlobMode}
 use Rattle.sudoers_match_member.specs.declared.first_pattern_item.PatternItemMatch.{PatternItemMatch}
 use Rattle.sudoers_match_member.specs.Folded.{byte_case_folded_if_wanted, bytes_case_folded_if_wanted}
@@ -38,3 +38,22 @@ bracket_at : (lower : Bool) (pattern : List ℕ) (at : ℕ) → at < length patt
     → pattern_item_at (bytes_case_folded_if_wanted lower (drop at pattern)) ≡ bracket_item (bytes_case_folded_if_wanted lower (drop (at + 1) pattern))
 bracket_at lower pattern at within is =
     ap (λ xs. pattern_item_at (bytes_case_folded_if_wanted lower xs)) (drop_more pattern at 0 within) ∙ ap (λ c. pattern_item_at (c ∷ bytes_case_folded_if_wanted lower (drop (at + 1) pattern))) is
+
+pub returns-then-front-eq1-clause-known : goal.returns-then-front-eq1-clause-known
+returns-then-front-eq1-clause-known c =
+    let mode = c.args.mode in let lower = c.args.lower in let pattern = c.args.pattern.now in let at = c.args.at in let read = c.read_bracket_item-self.ensures in
+    let is : byte_case_folded_if_wanted lower (get_or pattern at 0) ≡ 91 = ap (byte_case_folded_if_wanted lower) (first_at pattern at) ∙ sym c.fold_byte_case_if_wanted.ensures ∙ c.if-fold_byte_case_if_wanted-ne91.false in
+    let rest = take (length pattern - at) (drop at pattern) in
+    let behind : take (length rest - 1) (drop 1 rest) ≡ drop (at + 1) pattern = take_rest rest 1 ∙ ap (drop 1) (take_rest pattern at) ∙ drop-drop 1 at pattern in
+    let same : bracket_item (bytes_case_folded_if_wanted lower (take (length rest - 1) (drop 1 rest))) ≡ pattern_item_at (bytes_case_folded_if_wanted lower (drop at pattern)) =
+    ap (λ xs. bracket_item (bytes_case_folded_if_wanted lower xs)) behind ∙ sym (bracket_at lower pattern at c.requires.within is) in
+    c.find_unclosed_places.ensures.known mode (record {
+      tail = c.requires.known.tail;
+      front = λ b h. record {
+        len = read.len ∙ ap (λ (i : PatternItem × ℕ). i.1) same;
+        takes = read.takes b h ∙ ap (λ (i : PatternItem × ℕ). takes_by mode i.0 b) same;
+        some = read.some;
+        within = omega (arith, read.within, ap length behind, length-drop (at + 1) pattern, length-drop at pattern, c.requires.within);
+      };
+      unclosed = c.requires.known.unclosed;
+    })
