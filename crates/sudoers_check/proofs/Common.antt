@@ -26,11 +26,12 @@ pub use Rattle.sudoers_check.specs.declared.report.Note.{Note}
 pub use Rattle.sudoers_check.specs.internal.Found.{IsMarkedNode, IsPartialReachSearch, ListsMarkedNodes, MarksNodesAdded}
 pub use Rattle.sudoers_check.specs.internal.Graph.{AreNodesOfGraph, HasEdge, HasAllEdgeTargetsInGraph, IsOnCycle, IsReachedFromNodes, MarksDecidePredicate, edge_targets_of_node}
 pub use Rattle.sudoers_check.specs.internal.Noting.{AreKeysOfUndefinedMentions, kind_and_file_place, notes_of_definitions_in_line_with_mark, notes_of_definitions_in_lines_with_mark, notes_of_definitions_in_line_node_with_mark, notes_of_mentions, undefined_notes_in_lines}
+pub use Rattle.sudoers_check.specs.internal.Noting.{has_undefined_alias, has_undefined_alias_among_members, has_undefined_alias_in_line, is_undefined_alias}
 pub use Rattle.sudoers_check.specs.internal.Noting.{unmarked_places_in_line_counted_from, unmarked_places_in_lines, unmarked_places_in_line_node}
 pub use Rattle.sudoers_check.specs.internal.Search.{AreGroupsJoined, AreOpenNodesClosedFromPlaceOn, HasAscendingKeys, HasPathBetween, HasSearchInvariant, IsClosedOrInGroupNotBefore, IsEdgeLookedAt, IsInGroupNotBefore, IsMarkOfClosedNode}
 pub use Rattle.sudoers_check.specs.internal.Search.{IsMetNode, IsSearchStepResult, HasSearchInvariantWithNextNode, EntersNewNode, SearchHasMetNode, cycle_search_steps_left, open_place_of_path_node, steps_left_for_new_nodes}
 pub use Rattle.sudoers_check.specs.internal.Search.{steps_left_on_path}
-pub use Rattle.sudoers_grammar.specs.Listed.{ListedMember, alias_member_of_atom, aliases_among_listed, aliases_in_node, listed_members_of_command, listed_members_of_host_group, listed_members_of_node}
+pub use Rattle.sudoers_grammar.specs.Listed.{AliasMember, ListedMember, alias_member_of_atom, aliases_among_listed, aliases_in_node, listed_members_of_command, listed_members_of_host_group, listed_members_of_node}
 pub use Rattle.sudoers_grammar.specs.Listed.{listed_members_of_runas, members_listed_as_kind}
 pub use Rattle.sudoers_grammar.specs.Node.{CmdSpec, Def, HostGroup, Member, Node, RunasSpec}
 pub use Rattle.sudoers_grammar.specs.declared.node.Atom.{Atom}

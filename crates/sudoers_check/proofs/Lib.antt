@@ -17,5 +17,6 @@ pub mod Linked
 pub mod Spots
 pub mod Keys
 pub mod Noted
+pub mod Undefined
 pub mod Firsts
 pub mod Chains

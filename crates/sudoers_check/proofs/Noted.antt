@@ -8,6 +8,7 @@ use Rattle.sudoers_check.proofs.Common.{notes_of_definitions_in_line_with_mark, 
 use Rattle.sudoers_check.proofs.Common.{take, text_of_line_at, true, undefined_mentions_of_lines, undefined_notes_in_lines, unmarked_places_in_line_counted_from, unmarked_places_in_lines, unmarked_places_in_line_node, zero, ℕ, ◌++◌, ◌+◌}
 use Rattle.sudoers_check.proofs.Common.{◌<◌, ◌||◌, ◌∙◌, ◌∷◌, ◌≡◌}
 use Rattle.std.specs.Option.{is_some as is_there}
+use mathlib.Core.Bool.{beq}
 use Rattle.sudoers_grammar.specs.declared.node.Atom.TheVariants as atom
 use Rattle.sudoers_grammar.specs.Node as node
 use Rattle.sudoers_line_rows.specs.declared.row_lists.RowsOfTable.{RowsOfTable}
@@ -119,9 +120,35 @@ pub no_definitions_have_no_notes : (wanted : Bool) (at : WalkLineSpot) (text : L
 no_definitions_have_no_notes wanted at text k [] = refl
 no_definitions_have_no_notes wanted at text k (m ∷ ms) = refl
 
+-- where no mark is the wanted one
+pub unwanted_marks_have_no_notes : (wanted : Bool) (at : WalkLineSpot) (text : List ℕ) (marks : List Bool) (says : Node) → list_any (λ m. beq m wanted) marks ≡ false
+    → notes_of_definitions_in_line_node_with_mark wanted at text marks says ≡ []
+unwanted_marks_have_no_notes wanted at text marks (node.Alias k defs) e = by wanted marks defs e
+  where
+    by : (w : Bool) (ms : List Bool) (ds : List Def) → list_any (λ m. beq m w) ms ≡ false → notes_of_definitions_in_line_with_mark w at text k ms ds ≡ []
+    by w [] ds none = refl
+    by w (m ∷ ms) [] none = refl
+    by true (true ∷ ms) (d ∷ ds) none = absurd cc
+    by true (false ∷ ms) (d ∷ ds) none = by true ms ds none
+    by false (true ∷ ms) (d ∷ ds) none = by false ms ds none
+    by false (false ∷ ms) (d ∷ ds) none = absurd cc
+unwanted_marks_have_no_notes wanted at text marks node.Blank e = refl
+unwanted_marks_have_no_notes wanted at text marks node.Comment e = refl
+unwanted_marks_have_no_notes wanted at text marks (node.Include dir path) e = refl
+unwanted_marks_have_no_notes wanted at text marks (node.Defaults scope params) e = refl
+unwanted_marks_have_no_notes wanted at text marks (node.Spec users groups) e = refl
+
 no_definitions_are_picked_from_none : (wanted : Bool) (marks : List Bool) → definitions_with_mark wanted marks [] ≡ []
 no_definitions_are_picked_from_none wanted [] = refl
 no_definitions_are_picked_from_none wanted (m ∷ ms) = refl
+
+pub unwanted_marks_pick_no_definitions : (wanted : Bool) (marks : List Bool) (ds : List PlacedDefinition) → list_any (λ m. beq m wanted) marks ≡ false → definitions_with_mark wanted marks ds ≡ []
+unwanted_marks_pick_no_definitions wanted [] ds e = refl
+unwanted_marks_pick_no_definitions wanted (m ∷ ms) [] e = refl
+unwanted_marks_pick_no_definitions true (true ∷ ms) (d ∷ ds) e = absurd cc
+unwanted_marks_pick_no_definitions true (false ∷ ms) (d ∷ ds) e = unwanted_marks_pick_no_definitions true ms ds e
+unwanted_marks_pick_no_definitions false (true ∷ ms) (d ∷ ds) e = unwanted_marks_pick_no_definitions false ms ds e
+unwanted_marks_pick_no_definitions false (false ∷ ms) (d ∷ ds) e = absurd cc
 
 definitions_picked_from_appended_are_appended : (wanted : Bool) (marks : List Bool) (xs ys : List PlacedDefinition) → definitions_with_mark wanted marks (xs ++ ys) ≡ definitions_with_mark wanted (take (length xs) marks) xs ++ definitions_with_mark wanted (drop (length xs) marks) ys
 definitions_picked_from_appended_are_appended wanted [] xs ys = none xs

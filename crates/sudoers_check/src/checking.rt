@@ -12,7 +12,7 @@ ghost use Rattle.sudoers_check.specs.Report.{report_of_walk};
 
 use crate::cycles::find_nodes_on_cycles;
 use crate::definition_counts_and_line_kinds::{count_definitions_in_line, find_defined_alias_kind};
-use crate::definition_numbers::{DefinitionGraphAndRoots, DefinitionNumbers};
+use crate::definition_numbers::{DefinitionNumbers, MentionLinks};
 use crate::graph::Graph;
 use crate::notes::{make_notes_of_definitions, make_notes_of_undefined_names};
 use crate::report::Report;
@@ -29,11 +29,11 @@ pub fn check(alloc: Global, policy: &Policy) -> Result<Report, AllocError>
 {
     let numbers = DefinitionNumbers::new(alloc, policy.walk())?;
     let lines = policy.lines();
-    let links = numbers.make_definition_graph(alloc, &lines)?;
+    let links = numbers.make_mention_links(alloc, &lines)?;
     let reached = mark_reached_definitions(alloc, &numbers, &links, &lines)?;
     let cyclic = mark_cyclic_definitions(alloc, &numbers, &links.graph)?;
     Ok(Report {
-        undefined: make_notes_of_undefined_names(alloc, policy)?,
+        undefined: make_notes_of_undefined_names(alloc, policy, links.undefined.as_slice())?,
         cyclic: make_notes_of_definitions(alloc, policy, cyclic.as_slice(), true)?,
         unused: make_notes_of_definitions(alloc, policy, reached.as_slice(), false)?,
     })
@@ -113,7 +113,7 @@ pub fn mark_used_definitions(
     requires { definitions_of_lines (lines_of_rows lines.now) ≡ definitions_of_lines numbers.now.walk }
     ensures { IfOk result (λ marks. marks.items ≡ map (is_used (lines_of_rows lines.now)) (definitions_of_lines (lines_of_rows lines.now))) }
 {
-    let links = numbers.make_definition_graph(alloc, lines)?;
+    let links = numbers.make_mention_links(alloc, lines)?;
     mark_reached_definitions(alloc, numbers, &links, lines)
 }
 
@@ -122,7 +122,7 @@ pub fn mark_used_definitions(
 fn mark_reached_definitions(
     alloc: Global,
     numbers: &DefinitionNumbers<'_>,
-    links: &DefinitionGraphAndRoots,
+    links: &MentionLinks,
     lines: &RowsOfTable<'_, LineRow>,
 ) -> Result<Vec<bool>, AllocError>
     requires graph { links.now.graph ≡ mention_graph_of_definitions (definitions_of_lines numbers.now.walk) }

@@ -1,22 +1,24 @@
 //! The definitions of a walk as the nodes of a graph, numbered in its order from 0.
 
-ghost use Rattle.std.specs.Prelude.{◌≡◌, ◌≢◌, ◌<◌, ◌≤◌, ◌++◌, ℕ, List, length, map, slice_index_or, None, IfOk, IfSome, OnOk};
+ghost use Rattle.std.specs.Prelude.{◌≡◌, ◌≢◌, ◌<◌, ◌≤◌, ◌++◌, ◌||◌, [], ℕ, List, length, map, slice_index_or, None, if◌then◌else◌, IfOk, IfSome, OnOk};
+ghost use Rattle.std.specs.List.{list_any};
+ghost use Rattle.sudoers_grammar.specs.Listed.{aliases_in_node};
 ghost use Rattle.sudoers_grammar.specs.Node.{Def as DefOf};
 ghost use Rattle.sudoers_line_rows.specs.View.{alias_definitions_of_view, members_of_view, node_of_view};
 ghost use Rattle.sudoers_tree.specs.Definition.{definitions_of_lines, definitions_in_line};
 ghost use Rattle.sudoers_tree.specs.Line.{lines_of_rows};
 ghost use Rattle.sudoers_check.specs.Chains.{alias_names_among_members};
 ghost use Rattle.sudoers_check.specs.declared.definition_numbers.AliasLineFirstNumber.{AliasLineFirstNumber as FirstOf};
-ghost use Rattle.sudoers_check.specs.Numbers.{alias_line_if_any, alias_lines_of_lines_numbered_from, number_of_definition, numbers_of_defined_names, numbers_of_defined_aliases, graph_nodes_of_definitions, mention_graph_of_definitions, root_numbers_in_lines_numbered_from, numbers_of_defined_mentions};
+ghost use Rattle.sudoers_check.specs.Numbers.{alias_line_if_any, alias_lines_of_lines_numbered_from, is_spec_or_defaults_line_node as may_root, number_of_definition, numbers_of_defined_names, numbers_of_defined_aliases, graph_nodes_of_definitions, mention_graph_of_definitions, root_numbers_in_lines_numbered_from, numbers_of_defined_mentions};
 ghost use Rattle.sudoers_check.specs.Mentioned.{mentions_in_node as mentions_of};
+ghost use Rattle.sudoers_check.specs.internal.Noting.{has_undefined_alias, has_undefined_alias_among_members, has_undefined_alias_in_line};
 
-use crate::definition_counts_and_line_kinds::{count_definitions_in_line, is_spec_or_defaults};
+use crate::definition_counts_and_line_kinds::count_definitions_in_row;
 use crate::graph::Graph;
-use crate::line_mentions::find_mentions_in_line;
 use std::alloc::{AllocError, Global};
 use sudoers_tree::{
     AliasDefinitionRow, AliasMember, Kind, LineRow, MemberRow, Node, RowsOfTable, Walk,
-    find_aliases_in_list,
+    find_alias_members, find_aliases_in_list,
 };
 
 /// A line that defines aliases, and how many definitions stand before it.
@@ -26,11 +28,15 @@ pub struct AliasLineFirstNumber {
     pub number: usize,
 }
 
-/// The definitions, each with those that it mentions, and those that user specifications and Defaults lines mention.
+/// What lines mention.
 #[derive(Drop)]
-pub struct DefinitionGraphAndRoots {
+pub struct MentionLinks {
+    /// The definitions, each with those that it mentions.
     pub graph: Graph,
+    /// The definitions that user specifications and Defaults lines mention.
     pub roots: Vec<usize>,
+    /// A mark for each line: whether it mentions a name that is not defined.
+    pub undefined: Vec<bool>,
 }
 
 /// The numbers of the definitions of a walk, in its order from 0.
@@ -86,7 +92,7 @@ impl<'a> DefinitionNumbers<'a> {
         let mut count = 0;
         let lines = walk.lines();
         for (line, row) in lines.rows.iter().enumerate() {
-            let many = count_definitions_in_line(&lines.tables.node_of_row(&row.node));
+            let many = count_definitions_in_row(lines.tables, &row.node);
             append_alias_line(line, count, many, &mut firsts)?;
             count += many;
         }
@@ -122,116 +128,120 @@ impl<'a> DefinitionNumbers<'a> {
         self.firsts.as_slice()
     }
 
-    /// Returns the definitions among `lines`, each with those that it mentions, and those that the user specifications and Defaults lines
-    /// there mention. The lines define what the walk defines.
+    /// Returns the definitions among `lines`, each with those that it mentions, those that the user specifications and Defaults lines
+    /// there mention, and the lines that mention names which are not defined. The lines define what the walk defines.
     #[tactic(auto, using(crate::proofs::Nodes::graph_nodes_of_appended_are_appended))]
-    pub(crate) fn make_definition_graph(
+    pub(crate) fn make_mention_links(
         &self,
         alloc: Global,
         lines: &RowsOfTable<'_, LineRow>,
-    ) -> Result<DefinitionGraphAndRoots, AllocError>
+    ) -> Result<MentionLinks, AllocError>
         requires { definitions_of_lines (lines_of_rows lines.now) ≡ definitions_of_lines self.now.walk }
         ensures graph { IfOk result (λ links. links.graph ≡ mention_graph_of_definitions (definitions_of_lines self.now.walk)) }
         ensures roots { IfOk result (λ links. links.roots.items ≡ root_numbers_in_lines_numbered_from (definitions_of_lines self.now.walk) 0 (lines_of_rows lines.now)) }
+        ensures undefined { IfOk result (λ links. links.undefined.items ≡ map (has_undefined_alias_in_line (definitions_of_lines self.now.walk)) (lines_of_rows lines.now)) }
     {
         let mut nodes = Vec::new(alloc);
         let mut roots = Vec::new(alloc);
+        let mut undefined = Vec::with_capacity(alloc, lines.rows.len())?;
         for (number, row) in lines.rows.iter().enumerate() {
             let node = lines.tables.node_of_row(&row.node);
-            self.append_nodes_of_line(alloc, &node, &mut nodes)?;
-            if is_spec_or_defaults(&node) {
-                self.append_numbers_of_mentions_in_line(alloc, number, &node, &mut roots)?;
-            }
+            undefined.push(self.append_links_of_line(alloc, &node, &mut nodes, &mut roots)?)?;
         }
         let graph = Graph::from_nodes(nodes);
-        Ok(DefinitionGraphAndRoots { graph, roots })
+        Ok(MentionLinks {
+            graph,
+            roots,
+            undefined,
+        })
     }
 
-    /// Adds the definitions of a line.
-    #[tactic(auto, using(crate::proofs::Nodes::graph_nodes_from_place_are_mentioned_numbers))]
-    fn append_nodes_of_line(
+    /// Adds to `nodes` the definitions of an alias line, each with those that it mentions, and to `roots` what a user specification or a
+    /// Defaults line mentions. Returns whether the line mentions a name that is not defined.
+    #[tactic(auto, using(crate::proofs::Nodes::graph_nodes_from_place_are_mentioned_numbers, crate::proofs::Undefined::numbers_of_mentions_in_node_are_of_aliases))]
+    fn append_links_of_line(
         &self,
         alloc: Global,
         node: &Node<'_>,
         nodes: &mut Vec<Vec<usize>>,
-    ) -> Result<(), AllocError>
-        ensures { OnOk result ((n : ℕ) → map (λ edges. edges.items) nodes.new.items ≡ map (λ edges. edges.items) nodes.old.items
+        roots: &mut Vec<usize>,
+    ) -> Result<bool, AllocError>
+        ensures nodes { OnOk result ((n : ℕ) → map (λ edges. edges.items) nodes.new.items ≡ map (λ edges. edges.items) nodes.old.items
             ++ graph_nodes_of_definitions (definitions_of_lines self.now.walk) (definitions_in_line n (node_of_view node.now))) }
+        ensures roots { OnOk result ((n : ℕ) → roots.new.items ≡ roots.old.items ++ (if may_root (node_of_view node.now) then numbers_of_defined_mentions (definitions_of_lines self.now.walk) (mentions_of n (node_of_view node.now)) else [])) }
+        ensures undefined { IfOk result (λ undefined. undefined ≡ has_undefined_alias (definitions_of_lines self.now.walk) (aliases_in_node (node_of_view node.now))) }
     {
         match node {
             Node::Alias { kind, defs } => self.append_nodes_of_definitions(
                 alloc, *kind, defs, nodes,
             ),
-            _ => Ok(()),
+            Node::Spec { .. } | Node::Defaults { .. } => {
+                let aliases = find_alias_members(alloc, node)?;
+                self.append_numbers_of_aliases(aliases.as_slice(), roots)
+            }
+            _ => Ok(false),
         }
     }
 
+    /// Adds the definitions `defs` to `nodes`, each with those that it mentions. Returns whether one mentions a name that is not defined.
     fn append_nodes_of_definitions(
         &self,
         alloc: Global,
         kind: Kind,
         defs: &RowsOfTable<'_, AliasDefinitionRow>,
         nodes: &mut Vec<Vec<usize>>,
-    ) -> Result<(), AllocError>
-        ensures { OnOk result (map (λ edges. edges.items) nodes.new.items ≡ map (λ edges. edges.items) nodes.old.items
+    ) -> Result<bool, AllocError>
+        ensures nodes { OnOk result (map (λ edges. edges.items) nodes.new.items ≡ map (λ edges. edges.items) nodes.old.items
             ++ map (λ (d : DefOf). numbers_of_defined_names kind (alias_names_among_members d.members) (definitions_of_lines self.now.walk)) (alias_definitions_of_view defs.now)) }
+        ensures undefined { IfOk result (λ undefined. undefined ≡ list_any (λ (d : DefOf). has_undefined_alias_among_members (definitions_of_lines self.now.walk) kind d.members) (alias_definitions_of_view defs.now)) }
     {
+        let mut has_undefined = false;
         let tables = defs.tables;
         for row in defs.rows {
             let members = tables.members_of_row_range(row.members);
-            nodes.push(self.numbers_of_members(alloc, kind, &members)?)?;
+            nodes.push(self.numbers_of_members(alloc, kind, &members, &mut has_undefined)?)?;
         }
-        Ok(())
+        Ok(has_undefined)
     }
 
-    /// Returns the numbers of the definitions that members name.
+    /// Returns the numbers of the definitions that members name. Sets `has_undefined` if one names none.
     #[tactic(auto, using(crate::proofs::Nodes::numbers_of_listed_aliases_are_of_names))]
     fn numbers_of_members(
         &self,
         alloc: Global,
         kind: Kind,
         members: &RowsOfTable<'_, MemberRow>,
+        has_undefined: &mut bool,
     ) -> Result<Vec<usize>, AllocError>
-        ensures { IfOk result (λ numbers. numbers.items
+        ensures numbers { IfOk result (λ numbers. numbers.items
             ≡ numbers_of_defined_names kind (alias_names_among_members (members_of_view members.now)) (definitions_of_lines self.now.walk)) }
+        ensures undefined { OnOk result (has_undefined.new
+            ≡ has_undefined.old || has_undefined_alias_among_members (definitions_of_lines self.now.walk) kind (members_of_view members.now)) }
     {
         let aliases = find_aliases_in_list(alloc, kind, members)?;
-        self.numbers_of_aliases(alloc, aliases.as_slice())
-    }
-
-    /// Returns the numbers of the definitions that aliases name.
-    fn numbers_of_aliases(
-        &self,
-        alloc: Global,
-        aliases: &[AliasMember<'_>],
-    ) -> Result<Vec<usize>, AllocError>
-        ensures { IfOk result (λ numbers. numbers.items ≡ numbers_of_defined_aliases (definitions_of_lines self.now.walk) aliases.now) }
-    {
         let mut numbers = Vec::new(alloc);
-        for alias in aliases {
-            if let Some(number) = self.of(alias.kind, alias.name) {
-                numbers.push(number)?;
-            }
+        if self.append_numbers_of_aliases(aliases.as_slice(), &mut numbers)? {
+            *has_undefined = true;
         }
         Ok(numbers)
     }
 
-    /// Adds the numbers of the definitions that a line mentions.
-    fn append_numbers_of_mentions_in_line(
+    /// Adds the numbers of the definitions that aliases name. Returns whether one names none.
+    fn append_numbers_of_aliases(
         &self,
-        alloc: Global,
-        number: usize,
-        node: &Node<'_>,
+        aliases: &[AliasMember<'_>],
         numbers: &mut Vec<usize>,
-    ) -> Result<(), AllocError>
-        ensures { OnOk result (numbers.new.items ≡ numbers.old.items
-            ++ numbers_of_defined_mentions (definitions_of_lines self.now.walk) (mentions_of number (node_of_view node.now))) }
+    ) -> Result<bool, AllocError>
+        ensures numbers { OnOk result (numbers.new.items ≡ numbers.old.items ++ numbers_of_defined_aliases (definitions_of_lines self.now.walk) aliases.now) }
+        ensures undefined { IfOk result (λ undefined. undefined ≡ has_undefined_alias (definitions_of_lines self.now.walk) aliases.now) }
     {
-        for mention in &find_mentions_in_line(alloc, number, node)? {
-            if let Some(number) = self.of(mention.kind, mention.name) {
-                numbers.push(number)?;
+        let mut has_undefined = false;
+        for alias in aliases {
+            match self.of(alias.kind, alias.name) {
+                Some(number) => numbers.push(number)?,
+                None => has_undefined = true,
             }
         }
-        Ok(())
+        Ok(has_undefined)
     }
 }

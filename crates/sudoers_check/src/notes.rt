@@ -1,16 +1,16 @@
 //! Notes of names with their places.
 
-ghost use Rattle.std.specs.Prelude.{◌≡◌, ◌++◌, ◌∷◌, [], List, Some, length, map, slice_get, IfOk, OnOk};
+ghost use Rattle.std.specs.Prelude.{◌≡◌, ◌<◌, ◌++◌, ◌∷◌, [], List, Some, length, map, slice_get, IfOk, OnOk};
 ghost use Rattle.sudoers_line_rows.specs.View.{alias_definitions_of_view, node_of_view};
 ghost use Rattle.sudoers_tree.specs.Definition.{definitions_of_lines};
-ghost use Rattle.sudoers_tree.specs.Line.{line_of_view};
+ghost use Rattle.sudoers_tree.specs.Line.{Line as LineOf, line_of_view};
 ghost use Rattle.sudoers_tree.specs.Walk.{spot_of_walk_line};
 ghost use Rattle.sudoers_check.specs.Report.{note_in_line_text, note_of_mention, note_of_definition, undefined_mentions_of_lines, new_undefined_mentions, is_first_mention_of_undefined};
-ghost use Rattle.sudoers_check.specs.Mentioned.{Mention as MentionOf};
+ghost use Rattle.sudoers_check.specs.Mentioned.{Mention as MentionOf, mentions_in_node};
 ghost use Rattle.sudoers_check.specs.Numbers.{definitions_with_mark};
-ghost use Rattle.sudoers_check.specs.internal.Noting.{notes_of_definitions_in_line_with_mark, notes_of_definitions_in_line_node_with_mark, notes_of_mentions, AreKeysOfUndefinedMentions};
+ghost use Rattle.sudoers_check.specs.internal.Noting.{has_undefined_alias_in_line, notes_of_definitions_in_line_with_mark, notes_of_definitions_in_line_node_with_mark, notes_of_mentions, AreKeysOfUndefinedMentions};
 
-use crate::definition_counts_and_line_kinds::count_definitions_in_line;
+use crate::definition_counts_and_line_kinds::count_definitions_in_row;
 use crate::line_mentions::{Mention, find_mentions_in_line};
 use crate::physical_line_cursor::PhysicalLineCursor;
 use crate::report::Note;
@@ -34,13 +34,18 @@ pub fn make_notes_of_definitions(
         ≡ map (note_of_definition policy.now.walk) (definitions_with_mark wanted marks.now (definitions_of_lines policy.now.walk.lines))) }
 {
     let mut notes = Vec::new(alloc);
+    if !marks.contains(&wanted) {
+        return Ok(Items::from_vec(notes));
+    }
     let mut rest = marks;
     let lines = policy.lines();
     for (number, line_row) in lines.rows.iter().enumerate() {
-        let line = Line::from_line_row(lines.tables, line_row);
-        let (here, behind) = rest.split_at(count_definitions_in_line(&line.node));
-        let mut cursor = make_cursor_at_line(policy, number, &line);
-        append_notes_of_line(alloc, &mut cursor, &line.node, here, wanted, &mut notes)?;
+        let (here, behind) = rest.split_at(count_definitions_in_row(lines.tables, &line_row.node));
+        if here.contains(&wanted) {
+            let line = Line::from_line_row(lines.tables, line_row);
+            let mut cursor = make_cursor_at_line(policy, number, &line);
+            append_notes_of_line(alloc, &mut cursor, &line.node, here, wanted, &mut notes)?;
+        }
         rest = behind;
     }
     Ok(Items::from_vec(notes))
@@ -109,7 +114,8 @@ fn append_notes_of_definitions(
     Ok(())
 }
 
-/// Returns the notes of the names that are mentioned and not defined, each where it is first mentioned.
+/// Returns the notes of the names that are mentioned and not defined, each where it is first mentioned. `marks` has a mark for each line:
+/// whether it mentions such a name.
 ///
 /// # Errors
 ///
@@ -117,27 +123,44 @@ fn append_notes_of_definitions(
 pub fn make_notes_of_undefined_names(
     alloc: Global,
     policy: &Policy,
+    marks: &[bool],
 ) -> Result<Items<Note>, AllocError>
+    requires { marks.now ≡ map (has_undefined_alias_in_line (definitions_of_lines policy.now.walk.lines)) policy.now.walk.lines }
     ensures { IfOk result (λ notes. notes ≡ map (note_of_mention policy.now.walk) (undefined_mentions_of_lines policy.now.walk.lines)) }
 {
     let mut notes = Vec::new(alloc);
     let mut seen = SeenAliasNames::new(alloc);
-    let walk = policy.walk();
-    let lines = policy.lines();
-    for (number, line_row) in lines.rows.iter().enumerate() {
-        let line = Line::from_line_row(lines.tables, line_row);
-        let mentions = find_mentions_in_line(alloc, number, &line.node)?;
-        let mut cursor = make_cursor_at_line(policy, number, &line);
-        append_notes_of_undefined(
-            alloc,
-            &walk,
-            mentions.as_slice(),
-            &mut cursor,
-            &mut seen,
-            &mut notes,
-        )?;
+    for (number, mark) in marks.iter().enumerate() {
+        if *mark {
+            append_notes_of_undefined_in_line(alloc, policy, number, &mut seen, &mut notes)?;
+        }
     }
     Ok(Items::from_vec(notes))
+}
+
+/// Adds the notes of the undefined names of the line with the number `number` of the walk that were not seen yet.
+fn append_notes_of_undefined_in_line(
+    alloc: Global,
+    policy: &Policy,
+    number: usize,
+    seen: &mut SeenAliasNames,
+    notes: &mut Vec<Note>,
+) -> Result<(), AllocError>
+    requires { number < length policy.now.walk.lines }
+    ensures notes { OnOk result ((line : LineOf) → slice_get policy.now.walk.lines number ≡ Some line → (before : List MentionOf)
+        → AreKeysOfUndefinedMentions (definitions_of_lines policy.now.walk.lines) seen.old before
+        → notes.new.items ≡ notes.old.items ++ notes_of_mentions (spot_of_walk_line policy.now.walk number) line.text
+        (new_undefined_mentions (definitions_of_lines policy.now.walk.lines) before (mentions_in_node number line.node))) }
+    ensures seen { OnOk result ((line : LineOf) → slice_get policy.now.walk.lines number ≡ Some line → (before : List MentionOf)
+        → AreKeysOfUndefinedMentions (definitions_of_lines policy.now.walk.lines) seen.old before
+        → AreKeysOfUndefinedMentions (definitions_of_lines policy.now.walk.lines) seen.new (before ++ mentions_in_node number line.node)) }
+{
+    let lines = policy.lines();
+    let line = Line::from_line_row(lines.tables, &lines.rows[number]);
+    let mentions = find_mentions_in_line(alloc, number, &line.node)?;
+    let mut cursor = make_cursor_at_line(policy, number, &line);
+    let walk = policy.walk();
+    append_notes_of_undefined(alloc, &walk, mentions.as_slice(), &mut cursor, seen, notes)
 }
 
 /// Adds the notes of the undefined names of a line that were not seen yet.

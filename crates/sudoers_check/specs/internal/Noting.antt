@@ -1,9 +1,10 @@
 -- A device of the proof, which no public contract cites: notes line by line.
-use Rattle.std.specs.Prelude.{◌≡◌, ℕ, ◌+◌, Bool, true, false, List, [], ◌∷◌, ◌++◌, take, drop, map, Option, Some, None}
+use Rattle.std.specs.Prelude.{◌≡◌, ℕ, ◌+◌, Bool, true, false, not, List, [], ◌∷◌, ◌++◌, take, drop, map, Option, Some, None}
 use Rattle.std.specs.List.{list_any}
 use Rattle.sudoers_grammar.specs.declared.node.Kind.{Kind}
-use Rattle.sudoers_grammar.specs.Node.{Def, Node}
+use Rattle.sudoers_grammar.specs.Node.{Def, Member, Node}
 use Rattle.sudoers_grammar.specs.Node as node
+use Rattle.sudoers_grammar.specs.Listed.{AliasMember, aliases_among_listed, aliases_in_node, members_listed_as_kind}
 use Rattle.sudoers_tree.specs.Line.{Line}
 use Rattle.sudoers_tree.specs.declared.place.DefinitionFilePlace.{DefinitionFilePlace}
 use Rattle.sudoers_tree.specs.declared.place.Place.{Place}
@@ -11,9 +12,10 @@ use Rattle.sudoers_tree.specs.declared.place.WalkLineSpot.{WalkLineSpot}
 use Rattle.sudoers_tree.specs.FilePlaces.{file_place_of_walk_place}
 use Rattle.sudoers_tree.specs.Walk.{WalkState, spot_of_walk_line}
 use Rattle.sudoers_tree.specs.Definition.{PlacedDefinition, first_definition_of}
+use Rattle.sudoers_tree.specs.Fault.{is_some}
 use Rattle.sudoers_check.specs.declared.report.Note.{Note}
 use Rattle.sudoers_check.specs.Mentioned.{Mention, mentions_in_node, is_mention_of_name}
-use Rattle.sudoers_check.specs.Numbers.{definition_count_in_node}
+use Rattle.sudoers_check.specs.Numbers.{definition_count_in_node, number_of_definition}
 use Rattle.sudoers_check.specs.Report.{note_in_line_text, new_undefined_mentions}
 use Rattle.sudoers_check.specs.internal.Seen.{is_name_key_among_keys}
 
@@ -55,6 +57,21 @@ undefined_notes_in_lines ds walk before n (line ∷ lines) =
 -- The keys are those of the undefined names among these mentions.
 abbrev pub AreKeysOfUndefinedMentions : List PlacedDefinition → List (List ℕ) → List Mention → Type 0
 AreKeysOfUndefinedMentions ds keys before = (k : Kind) (name : List ℕ) → first_definition_of k name ds ≡ None → is_name_key_among_keys keys k name ≡ list_any (is_mention_of_name k name) before
+
+-- the alias is not defined
+abbrev pub is_undefined_alias : List PlacedDefinition → AliasMember → Bool
+is_undefined_alias ds a = not (is_some (number_of_definition a.kind a.name ds))
+
+abbrev pub has_undefined_alias : List PlacedDefinition → List AliasMember → Bool
+has_undefined_alias ds aliases = list_any (is_undefined_alias ds) aliases
+
+-- an alias that the line mentions is not defined
+abbrev pub has_undefined_alias_in_line : List PlacedDefinition → Line → Bool
+has_undefined_alias_in_line ds line = has_undefined_alias ds (aliases_in_node line.node)
+
+-- an alias among members of a list of this kind is not defined
+abbrev pub has_undefined_alias_among_members : List PlacedDefinition → Kind → List Member → Bool
+has_undefined_alias_among_members ds k members = has_undefined_alias ds (aliases_among_listed (members_listed_as_kind k members))
 
 -- the places of a line's definitions from this one on that have no mark
 abbrev pub unmarked_places_in_line_counted_from : ℕ → Kind → ℕ → List Bool → List (Kind × Place)

@@ -1,5 +1,5 @@
-use Rattle.sudoers_check.proofs.Common.{definitions_from_line_number, definitions_of_lines, drop, graph_nodes_of_definitions, line_of_row, map, root_numbers_in_lines_numbered_from, ◌++◌, ◌≡◌}
-use Rattle.sudoers_check.proofs.definition_numbers.DefinitionNumbers.make_definition_graph.Given as goal
+use Rattle.sudoers_check.proofs.Common.{definitions_from_line_number, definitions_of_lines, drop, graph_nodes_of_definitions, has_undefined_alias_in_line, line_of_row, map, root_numbers_in_lines_numbered_from, ◌++◌, ◌≡◌}
+use Rattle.sudoers_check.proofs.definition_numbers.DefinitionNumbers.make_mention_links.Given as goal
 
 abbrev pub invariant-loop-number : goal.invariant-loop-number
 invariant-loop-number l =
@@ -9,4 +9,5 @@ invariant-loop-number l =
     record {
       nodes : map (λ edges. edges.items) l.nodes.items ++ graph_nodes_of_definitions ds (definitions_from_line_number l.number left) ≡ graph_nodes_of_definitions ds (definitions_from_line_number 0 all);
       roots : l.roots.items ++ root_numbers_in_lines_numbered_from ds l.number left ≡ root_numbers_in_lines_numbered_from ds 0 all;
+      undefined : l.undefined.items ++ map (has_undefined_alias_in_line ds) left ≡ map (has_undefined_alias_in_line ds) all;
     }

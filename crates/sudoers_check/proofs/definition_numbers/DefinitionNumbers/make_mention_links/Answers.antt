@@ -1,7 +1,7 @@
 use Rattle.sudoers_check.proofs.Common.{HasAllEdgeTargetsInGraph, List, PlacedDefinition, ap, append-nil, definitions_from_line_number, definitions_of_lines, drop_of_length-le, graph_nodes_of_definitions, line_of_row, map}
 use Rattle.sudoers_check.proofs.Common.{mention_graph_of_definitions, subst, sym, ℕ, ◌++◌, ◌∙◌, ◌≡◌}
 use Rattle.sudoers_check.proofs.Nodes.{mention_graph_is_graph}
-use Rattle.sudoers_check.proofs.definition_numbers.DefinitionNumbers.make_definition_graph.Goals as goal
+use Rattle.sudoers_check.proofs.definition_numbers.DefinitionNumbers.make_mention_links.Goals as goal
 
 pub from_nodes-graph-requires : goal.from_nodes-graph-requires
 from_nodes-graph-requires c =
