@@ -18,11 +18,14 @@ def needle(end):
 def commands(ground):
     """The hostile commands."""
     closed, unclosed = argument_pattern(b"[" + b"a" * 60_000 + b"]"), argument_pattern(b"[" * 30_000)
+    brackets = argument_pattern(b"[-" * 32_000 + b"\\]*")
     two_sets = argument_pattern(b"[" + b"a" * SET + b"][" + b"b" * SET + b"]*")
     one_needle = b"u ALL=/b " + needle(b"\n")
     text = ("/b", "a" * TEXT)
     yield ground.listing("`list COMMAND`, `*` and a set of 60,000 bytes", closed, (), ("/b", "b" * 60_000), status=1)
     yield ground.listing("`list COMMAND`, `*` and 30,000 `[`", unclosed, (), ("/b", "[" * 60_000))
+    what = "`list COMMAND`, 32,000 `[-` of which none begins a set"
+    yield ground.listing(what, brackets, (), ("/b", "[-" * 30_000), status=1)
     yield ground.listing("`list COMMAND`, two sets of 30,000 bytes in turn between stars", two_sets, (), text, status=1)
     yield ground.listing("`list COMMAND`, 32,000 `a` and `b` between stars, against 65,000 `a`", one_needle, (), text, status=1)
     what = "`list COMMAND`, 16 lines of 32,000 `a` and `b` between stars, against 65,000 `a`"

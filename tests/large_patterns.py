@@ -86,3 +86,23 @@ def second_part_behind_many_places():
 @case
 def second_part_that_stands_before_the_first_alone():
     return asked("*[x]y*" + "[a]" * 257 + "b*c", "a" * 5_000 + "b" + "a" * 5_000 + "xyc", False)
+
+
+@case
+def brackets_of_which_none_begins_a_set():
+    return asked("*" + "[-" * 32_000 + r"\]", "[-" * 31_000 + "[-" * 1_000 + "]", True)
+
+
+@case
+def brackets_that_the_text_lacks():
+    return asked("*" + "[-" * 32_000 + r"\]*", "[-" * 31_000, False)
+
+
+@case
+def stars_before_brackets_of_which_none_begins_a_set():
+    return asked(r"*[\]" * 8_000, "[]" * 16_000, True)
+
+
+@case
+def set_that_the_first_of_many_brackets_begins():
+    return asked(r"*[\]" * 100 + "[a-c]*", "[]" * 100 + "b", True)
