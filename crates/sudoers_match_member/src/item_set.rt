@@ -14,12 +14,12 @@ pub struct ItemSet {
 
 impl ItemSet {
     /// Returns none of the items.
-    pub fn none() -> ItemSet {
+    pub fn new() -> ItemSet {
         ItemSet { words: [0; 4] }
     }
 
     /// Returns whether one of them is among `others`.
-    pub fn meets(&self, others: &ItemSet) -> bool
+    pub fn has_one_of(&self, others: &ItemSet) -> bool
         ensures { (i : ℕ) → i < 256 → HasItem self.now i → HasItem others.now i → result ≡ true }
     {
         let [a, b, c, d] = self.words;

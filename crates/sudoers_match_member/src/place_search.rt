@@ -118,7 +118,7 @@ fn read_item_row(
     ensures known { IsCorrectSetCache mode lower pattern.now known.new }
     ensures tail { known.new.tail ≡ known.old.tail }
 {
-    let mut takers = [ItemSet::none(); 256];
+    let mut takers = [ItemSet::new(); 256];
     let mut count = 0;
     let mut end = at;
     while end < pattern.len()
@@ -147,16 +147,16 @@ fn drop_places(row: &ItemRow, text: &[u8], many: usize, places: &mut [bool])
         → DoTakersTakeFrom row.now.takers row.now.count text.now place → get_or places.new place false ≡ true }
 {
     let last = row.count - 1;
-    let mut last_item = ItemSet::none();
+    let mut last_item = ItemSet::new();
     last_item.add(last);
-    let mut reached = ItemSet::none();
+    let mut reached = ItemSet::new();
     for number in 0..last {
         reached = reached.advance(places[number], &row.takers[text[number] as usize]);
     }
     for place in 0..many {
         let number = place + last;
         reached = reached.advance(places[number], &row.takers[text[number] as usize]);
-        places[place] = reached.meets(&last_item);
+        places[place] = reached.has_one_of(&last_item);
     }
 }
 

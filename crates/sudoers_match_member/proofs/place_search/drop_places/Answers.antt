@@ -34,12 +34,12 @@ loop-place-preserved c =
     c.loop-place.reached (get_or takers (get_or text (place + last) 0) (record { words = [] })) c.advance-reached-in-loop-place.result (old.rest (place + last) (omega arith)) (λ item t. t) c.requires.few
     c.advance-reached-in-loop-place.ensures.first c.advance-reached-in-loop-place.ensures.behind old.reached in
     record {
-      size = length-set now place c.meets.result ∙ old.size;
+      size = length-set now place c.has_one_of.result ∙ old.size;
       reached = λ p item at. after p item (omega (arith, at));
       kept = λ p h may takes. elim (cases_eq p place) [
-        | inl same ↦ ap (λ n. get_or (slice_set now place c.meets.result) n false) same ∙ get_or-set_same now place c.meets.result false inside
-            ∙ c.meets.ensures last (omega (arith, c.requires.few, c.requires.some)) (after p last (omega (arith, same)) (omega (arith, c.requires.some)) may takes) c.add.ensures.added
-        | inr other ↦ get_or-set_other now place p c.meets.result false other ∙ old.kept p (omega (arith, h, other)) may takes
+        | inl same ↦ ap (λ n. get_or (slice_set now place c.has_one_of.result) n false) same ∙ get_or-set_same now place c.has_one_of.result false inside
+            ∙ c.has_one_of.ensures last (omega (arith, c.requires.few, c.requires.some)) (after p last (omega (arith, same)) (omega (arith, c.requires.some)) may takes) c.add.ensures.added
+        | inr other ↦ get_or-set_other now place p c.has_one_of.result false other ∙ old.kept p (omega (arith, h, other)) may takes
       ];
-      rest = λ p h. get_or-set_other now place p c.meets.result false (λ e. omega (arith, e, h)) ∙ old.rest p (omega (arith, h));
+      rest = λ p h. get_or-set_other now place p c.has_one_of.result false (λ e. omega (arith, e, h)) ∙ old.rest p (omega (arith, h));
     }

@@ -1,7 +1,7 @@
 use Rattle.std.proofs.Common.{◌/◌, ◌%◌, ap, get_or, not, arith}
 use Rattle.std.proofs.lemmas.Bool.{ne_eqb}
 use Rattle.sudoers_match_member.proofs.Bits.{words_with_common_bit_meet}
-use Rattle.sudoers_match_member.proofs.item_set.ItemSet.meets.Goals as goal
+use Rattle.sudoers_match_member.proofs.item_set.ItemSet.has_one_of.Goals as goal
 
 pub returns : goal.returns
 returns c i within own other =
