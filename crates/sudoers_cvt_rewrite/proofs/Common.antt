@@ -21,7 +21,7 @@ pub use Rattle.sudoers_cvt_rewrite.specs.declared.filter.Filter.{Filter}
 pub use Rattle.sudoers_cvt_rewrite.specs.internal.Extended.{AreTablesAlikeButLists, IsTableExtension, RowKeepsMeaning}
 pub use Rattle.sudoers_cvt_rewrite.specs.internal.FilterSeen.{filter_pair_of_view}
 pub use Rattle.sudoers_cvt_rewrite.specs.internal.Marked.{marked_definitions_member_count}
-pub use Rattle.sudoers_cvt_rewrite.specs.internal.Matcher.{AreValidVerdictCaches, IsFreshVerdictCache, IsValidFilterMatcher, is_any_value_matched_or_allowed, is_hit_any_or_allowing, is_filter_host_matched_or_allowed, is_filter_user_matched_or_allowed}
+pub use Rattle.sudoers_cvt_rewrite.specs.internal.Matcher.{AreCachesOfValuesValid, AreValidVerdictCaches, HasVerdictCacheAt, IsFreshVerdictCache, IsValidFilterMatcher, IsValidValuesMatcher, is_any_value_matched_or_allowed, is_hit_any_or_allowing, is_filter_host_matched_or_allowed, is_filter_user_matched_or_allowed}
 pub use Rattle.sudoers_cvt_rewrite.specs.internal.Pruned.{is_list_matching_any_filter_value, is_member_kept_by_filter, members_pruned_if_wanted}
 pub use Rattle.sudoers_cvt_rewrite.specs.internal.Selected.{FilterListsLeadToNoCycle, host_group_of_filtered, node_of_filtered_line, optional_host_group_of_filtered}
 pub use Rattle.sudoers_cvt_rewrite.specs.internal.Written.{IsTooManyMembersOrNoMemoryFault, RowsKeepMeaning, commands_of_command_expanded_if, commands_for_each_member, host_group_expanded_if, host_group_of_lists, line_node_expanded_if}

@@ -1,6 +1,12 @@
 mod Common
 pub mod FilterTexts
 pub mod Latest
+pub mod AnyHits
+pub mod FilterNames
+pub mod SameNames
+pub mod PlainHosts
+pub mod Effects
+pub mod LastMembers
 pub mod Matchers
 pub mod Lists
 pub mod Members

@@ -1,29 +1,57 @@
 -- Verdicts for each value of a filter.
-use Rattle.sudoers_cvt_rewrite.proofs.Common.{All, AreValidVerdictCaches, Atom, Bool, Cmnd, Filter, Host, IsFreshVerdictCache, IsValidVerdictCache, Kind, Line, List, ListHasElement, Member, Runas, Some, User, []}
+use Rattle.sudoers_cvt_rewrite.proofs.Common.{AreValidVerdictCaches, Atom, Bool, Cmnd, Filter, HasVerdictCacheAt, Host, IsFreshVerdictCache, IsValidVerdictCache, Kind, Line, List, ListHasElement, Member, Runas, Some, User, []}
 use Rattle.sudoers_cvt_rewrite.proofs.Common.{alias_names_among_members, alias_names_of_atom, ap, append-nil, append_assoc, arith, cond, drop, drop_more, false, filter, get-set, get_or, get_or_from_slice_get, inl}
 use Rattle.sudoers_cvt_rewrite.proofs.Common.{inr, is_filter_without_users, is_filter_host_matched_or_allowed, is_list_without_items, is_member_kept_by_filter, is_filter_user_matched_or_allowed, length, list_any, map, map_push}
-use Rattle.sudoers_cvt_rewrite.proofs.Common.{members_pruned_if_wanted, refl, slice_get, slice_get_within, subst, suc, sym, true, zero, ℕ, ◌++◌, ◌+◌, ◌<◌, ◌||◌, ◌∙◌, ◌∷◌, ◌≡◌}
+use Rattle.sudoers_cvt_rewrite.proofs.Common.{members_pruned_if_wanted, refl, slice_get, subst, suc, sym, true, zero, ℕ, ◌++◌, ◌+◌, ◌<◌, ◌||◌, ◌∙◌, ◌∷◌, ◌≡◌, ◌⊎◌}
 use Rattle.std.proofs.Common.{set}
-use Rattle.std.proofs.lemmas.List.{length-set}
 use Rattle.sudoers_check.proofs.Chains.{chain_from_some_is_chain_from_superset}
+use Rattle.sudoers_check.proofs.Lists.{get_push}
 use Rattle.sudoers_check.proofs.Named.{element_of_front_is_in_appended, element_of_back_is_in_appended}
+use Rattle.sudoers_cvt_rewrite.specs.declared.filter_text.FilterKey.{FilterKey}
+use Rattle.sudoers_cvt_rewrite.specs.internal.Values.{is_atom_matching_value}
+use Rattle.sudoers_cvt_rewrite.specs.Filter.{is_allowing_hit}
+use Rattle.sudoers_cvt_rewrite.proofs.Common.{ap₂, last_hit_in_expanded_list}
 use Rattle.sudoers_match_list.specs.Cycle.{ListLeadsToCyclicAlias}
 use Rattle.sudoers_match.specs.internal.Straight.{LeadsToNoCyclicAlias}
 use Rattle.sudoers_match_list.specs.declared.alias_verdicts.AliasVerdictCache.{AliasVerdictCache}
 
 -- One of the verdicts is replaced by others for the same value.
 pub replaced_verdict_cache_keeps_caches_valid : {X : Type 0} (k : Kind) (lines : List Line) (test : X → Atom → Bool) (values : List X) (verdicts : List AliasVerdictCache) (n : ℕ) (value : X) (of_value : AliasVerdictCache)
-    → n < length values → value ≡ get_or values n value → IsValidVerdictCache k lines (test value) of_value
+    → value ≡ get_or values n value → IsValidVerdictCache k lines (test value) of_value
     → AreValidVerdictCaches k lines test values verdicts → AreValidVerdictCaches k lines test values (set verdicts n of_value)
-replaced_verdict_cache_keeps_caches_valid {X} k lines test values verdicts n value of_value h is kept all = record {
-  size = length-set verdicts n of_value ∙ all.size;
-  each = λ m x v at_x at_v. elim (get-set verdicts n m of_value v at_v) [
-    | inl new ↦
-        let same_value : x ≡ value = sym (get_or_from_slice_get values n x value (subst (λ j. slice_get values j ≡ Some x) new.0 at_x)) ∙ sym is in
-        subst (λ u. IsValidVerdictCache k lines (test x) u) new.1 (subst (λ u. IsValidVerdictCache k lines (test u) of_value) (sym same_value) kept)
-    | inr old ↦ all.each m x v at_x old.1
-  ];
-}
+replaced_verdict_cache_keeps_caches_valid {X} k lines test values verdicts n value of_value is kept all m x v at_x at_v = elim (get-set verdicts n m of_value v at_v) [
+  | inl new ↦
+      let same_value : x ≡ value = sym (get_or_from_slice_get values n x value (subst (λ j. slice_get values j ≡ Some x) new.0 at_x)) ∙ sym is in
+      subst (λ u. IsValidVerdictCache k lines (test x) u) new.1 (subst (λ u. IsValidVerdictCache k lines (test u) of_value) (sym same_value) kept)
+  | inr old ↦ all m x v at_x old.1
+]
+
+-- Verdicts that hold no alias are added.
+pub added_verdict_cache_keeps_caches_valid : {X : Type 0} (k : Kind) (lines : List Line) (test : X → Atom → Bool) (values : List X) (n : ℕ) (old new : List AliasVerdictCache)
+    → HasVerdictCacheAt lines n old new → AreValidVerdictCaches k lines test values old → AreValidVerdictCaches k lines test values new
+added_verdict_cache_keeps_caches_valid k lines test values n old new added all m x v at_x at_v = elim (added.each m v at_v) [
+  | inl before ↦ all m x v at_x before
+  | inr fresh ↦ fresh k (test x)
+]
+
+pub pushed_verdict_cache_is_at_end : (lines : List Line) (old : List AliasVerdictCache) (fresh : AliasVerdictCache) → IsFreshVerdictCache lines fresh → (i : ℕ) (v : AliasVerdictCache)
+    → slice_get (old ++ fresh ∷ []) i ≡ Some v → (slice_get old i ≡ Some v) ⊎ IsFreshVerdictCache lines v
+pushed_verdict_cache_is_at_end lines old fresh is i v e = elim (get_push old fresh i v e) [
+  | inl before ↦ inl before
+  | inr last ↦ inr (subst (IsFreshVerdictCache lines) last.1 is)
+]
+
+-- The verdicts of each value, where the key is known.
+pub caches_are_valid_at_key : (k : Kind) (lines : List Line) (key same : FilterKey) (names slice : List (List ℕ)) (verdicts : List AliasVerdictCache) → key ≡ same → slice ≡ names
+    → AreValidVerdictCaches k lines (is_atom_matching_value key) names verdicts → AreValidVerdictCaches k lines (is_atom_matching_value same) slice verdicts
+caches_are_valid_at_key k lines key same names slice verdicts is e valid =
+    subst (λ word. AreValidVerdictCaches k lines (is_atom_matching_value word) slice verdicts) is (subst (λ ns. AreValidVerdictCaches k lines (is_atom_matching_value key) ns verdicts) (sym e) valid)
+
+pub answer_is_same_at_key : (k : Kind) (lines : List Line) (key same : FilterKey) (names slice : List (List ℕ)) (ms : List Member) (says : Bool) → key ≡ same → slice ≡ names
+    → says ≡ list_any (λ value. is_allowing_hit (last_hit_in_expanded_list lines k (is_atom_matching_value same value) ms)) slice
+    → says ≡ list_any (λ value. is_allowing_hit (last_hit_in_expanded_list lines k (is_atom_matching_value key value) ms)) names
+answer_is_same_at_key k lines key same names slice ms says is e said =
+    said ∙ ap₂ (λ word ns. list_any (λ value. is_allowing_hit (last_hit_in_expanded_list lines k (is_atom_matching_value word value) ms)) ns) (sym is) e
 
 -- One item more does not pass.
 pub failing_item_is_dropped_from_any_test : {X : Type 0} (p : X → Bool) (xs : List X) (n : ℕ) (x : X) → n < length xs → x ≡ get_or xs n x → p x ≡ false
@@ -33,14 +61,6 @@ failing_item_is_dropped_from_any_test p xs n x h is fails so_far =
     ∙ ap (λ y. list_any p (y ∷ drop (n + 1) xs)) is
     ∙ ap (list_any p) (sym (drop_more xs n x h))
     ∙ so_far
-
-pub fresh_verdict_caches_are_valid : {X : Type 0} (k : Kind) (lines : List Line) (test : X → Atom → Bool) (values : List X) (verdicts : List AliasVerdictCache)
-    → length verdicts ≡ length values → All (IsFreshVerdictCache lines) verdicts → AreValidVerdictCaches k lines test values verdicts
-fresh_verdict_caches_are_valid k lines test values verdicts size all = record {
-  size = size;
-  each = λ n value v at_x at_v.
-      subst (λ u. IsValidVerdictCache k lines (test value) u) (get_or_from_slice_get verdicts n v v at_v) (all n v (slice_get_within verdicts n v at_v) k (test value));
-}
 
 -- ---- a list that is one of the members of another
 

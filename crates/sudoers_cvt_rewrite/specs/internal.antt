@@ -4,5 +4,7 @@ pub mod FilterSeen
 pub mod Marked
 pub mod Matcher
 pub mod Pruned
+pub mod SameNames
 pub mod Selected
+pub mod Values
 pub mod Written

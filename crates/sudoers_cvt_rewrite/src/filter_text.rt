@@ -50,7 +50,7 @@ impl<T: Drop> From<AllocFailed<T>> for FilterFault {
 
 /// What a value names.
 #[derive(Clone, Copy)]
-enum FilterKey {
+pub enum FilterKey {
     User,
     Group,
     Host,

@@ -1,18 +1,19 @@
 //! Lists that match a filter.
 
-ghost use Rattle.std.specs.Prelude.{◌≡◌, length, IfOk, IfSome};
-ghost use Rattle.std.specs.List.{All};
+ghost use Rattle.std.specs.Prelude.{◌≡◌, IfOk, IfSome};
 ghost use Rattle.sudoers_grammar.specs.declared.node.Kind.TheVariants.{User as OfUsers, Host as OfHosts};
 ghost use Rattle.sudoers_line_rows.specs.View.{members_of_view};
-ghost use Rattle.sudoers_match_list.specs.Search.{IsValidVerdictCache};
 ghost use Rattle.sudoers_match.specs.internal.Straight.{LeadsToNoCyclicAlias};
-ghost use Rattle.sudoers_cvt_rewrite.specs.Filter.{last_hit_in_expanded_list, is_user_list_in_filter, is_host_list_in_filter};
-ghost use Rattle.sudoers_cvt_rewrite.specs.internal.Matcher.{AreValidVerdictCaches, IsFreshVerdictCache, is_any_value_matched_or_allowed, is_filter_user_matched_or_allowed, is_filter_host_matched_or_allowed, is_hit_any_or_allowing, IsValidFilterMatcher};
+ghost use Rattle.sudoers_cvt_rewrite.specs.Filter.{is_user_list_in_filter, is_host_list_in_filter};
+ghost use Rattle.sudoers_cvt_rewrite.specs.internal.Matcher.{is_filter_user_matched_or_allowed, is_filter_host_matched_or_allowed, IsValidFilterMatcher, IsValidValuesMatcher};
+ghost use Rattle.sudoers_cvt_rewrite.specs.declared.filter_text.FilterKey.TheVariants.{User as UserKey, Group as GroupKey, Host as HostKey};
 
 use crate::filter::Filter;
-use crate::filter_atom_matching::{GroupNameMatching, HostNameMatching, UserNameMatching};
+use crate::filter_text::FilterKey;
+use crate::values_matcher::ValuesMatcher;
 use std::alloc::{AllocError, Global};
-use sudoers_match_list::{AcyclicWalk, AliasVerdictCache, LastHitOrCycle, MemberHit, MemberKind};
+use sudoers_grammar::Items;
+use sudoers_match_list::AcyclicWalk;
 use sudoers_tree::{Kind, MemberRow, RowsOfTable};
 
 /// A filter, the policy whose lists it is asked of, and whether members that do not match it fall.
@@ -23,85 +24,34 @@ pub struct FilterContext<'a, 'b> {
     pub prune: bool,
 }
 
-/// What is known of the aliases for each value of a filter. It is of no use after an error.
+/// The values of a filter, and what is known of the aliases for them. It is of no use after an error.
 #[derive(Drop)]
 pub struct FilterMatcher<'a> {
-    users: Vec<AliasVerdictCache<'a>>,
-    groups: Vec<AliasVerdictCache<'a>>,
-    hosts: Vec<AliasVerdictCache<'a>>,
-}
-
-/// Returns what the list `members` says of `asked`. The list leads to no cyclic alias.
-fn find_filter_hit<'a, K: MemberKind>(
-    verdicts: &mut AliasVerdictCache<'a>,
-    policy: &AcyclicWalk<'a>,
-    kind: Kind,
-    members: &RowsOfTable<'_, MemberRow>,
-    asked: &K::Asked,
-) -> Result<Option<MemberHit>, AllocError>
-    requires verdicts { IsValidVerdictCache kind policy.now (K.test asked.now) verdicts.old }
-    requires straight { LeadsToNoCyclicAlias kind policy.now (members_of_view members.now) }
-    ensures kept { IfOk result (λ _. IsValidVerdictCache kind policy.now (K.test asked.now) verdicts.new) }
-    ensures hit { IfOk result (λ hit. last_hit_in_expanded_list policy.now kind (K.test asked.now) (members_of_view members.now) ≡ hit) }
-{
-    // laws
-    policy.is_acyclic();
-    match verdicts.find_last_hit::<K>(policy.definition_numbers(), kind, members, asked)? {
-        LastHitOrCycle::Latest(hit) => Ok(hit),
-        LastHitOrCycle::Cyclic => unreachable!(),
-    }
-}
-
-/// Returns whether `hit` is wanted: one that allows, or any.
-fn is_any_or_allowing_hit(allowing: bool, hit: Option<MemberHit>) -> bool
-    ensures { result ≡ is_hit_any_or_allowing allowing hit }
-{
-    match hit {
-        Some(hit) => hit.allow || !allowing,
-        None => false,
-    }
-}
-
-/// Returns whether the list `members` says what is wanted of one of the values. The list leads to no cyclic alias.
-fn has_value_matched_or_allowed<'a, K: MemberKind>(
-    verdicts: &mut Vec<AliasVerdictCache<'a>>,
-    policy: &AcyclicWalk<'a>,
-    kind: Kind,
-    values: &[K::Asked],
-    members: &RowsOfTable<'_, MemberRow>,
-    allowing: bool,
-) -> Result<bool, AllocError>
-    requires verdicts { AreValidVerdictCaches kind policy.now K.test values.now verdicts.old.items }
-    requires straight { LeadsToNoCyclicAlias kind policy.now (members_of_view members.now) }
-    ensures kept { IfOk result (λ _. AreValidVerdictCaches kind policy.now K.test values.now verdicts.new.items) }
-    ensures says { IfOk result (λ says. says ≡ is_any_value_matched_or_allowed allowing policy.now kind K.test values.now (members_of_view members.now)) }
-{
-    for (n, value) in values.iter().enumerate() {
-        let hit = find_filter_hit::<K>(&mut verdicts[n], policy, kind, members, value)?;
-        if is_any_or_allowing_hit(allowing, hit) {
-            return Ok(true);
-        }
-    }
-    Ok(false)
-}
-
-/// Returns so many verdicts that hold no alias yet.
-fn make_fresh_verdict_caches<'a>(
-    alloc: Global,
-    policy: &AcyclicWalk<'a>,
-    count: usize,
-) -> Result<Vec<AliasVerdictCache<'a>>, AllocError>
-    ensures count { IfOk result (λ all. length all.items ≡ count) }
-    ensures fresh { IfOk result (λ all. All (IsFreshVerdictCache policy.now) all.items) }
-{
-    let mut all = Vec::new(alloc);
-    for i in 0..count {
-        all.push(policy.make_verdict_cache(alloc)?)?;
-    }
-    Ok(all)
+    users: ValuesMatcher<'a>,
+    groups: ValuesMatcher<'a>,
+    hosts: ValuesMatcher<'a>,
 }
 
 impl<'a> FilterMatcher<'a> {
+    /// Returns a matcher of the lists of `policy` and of these values. It knows no alias yet.
+    fn from_values(
+        alloc: Global,
+        policy: &AcyclicWalk<'a>,
+        users: &[Items<u8>],
+        groups: &[Items<u8>],
+        hosts: &[Items<u8>],
+    ) -> Result<FilterMatcher<'a>, AllocError>
+        ensures users { IfOk result (λ matcher. IsValidValuesMatcher OfUsers policy.now UserKey users.now matcher.users) }
+        ensures groups { IfOk result (λ matcher. IsValidValuesMatcher OfUsers policy.now GroupKey groups.now matcher.groups) }
+        ensures hosts { IfOk result (λ matcher. IsValidValuesMatcher OfHosts policy.now HostKey hosts.now matcher.hosts) }
+    {
+        Ok(FilterMatcher {
+            users: ValuesMatcher::new(alloc, policy, FilterKey::User, users)?,
+            groups: ValuesMatcher::new(alloc, policy, FilterKey::Group, groups)?,
+            hosts: ValuesMatcher::new(alloc, policy, FilterKey::Host, hosts)?,
+        })
+    }
+
     /// Returns a matcher of the lists of `policy` and of the values of a filter, if there is one. It knows no alias yet.
     ///
     /// # Errors
@@ -115,16 +65,12 @@ impl<'a> FilterMatcher<'a> {
         ensures { IfOk result (λ matcher. IfSome filter.entry (λ filter. IsValidFilterMatcher policy.now filter.now matcher)) }
     {
         match filter {
-            None => Ok(FilterMatcher {
-                users: Vec::new(alloc),
-                groups: Vec::new(alloc),
-                hosts: Vec::new(alloc),
-            }),
-            Some(filter) => Ok(FilterMatcher {
-                users: make_fresh_verdict_caches(alloc, policy, filter.users.len())?,
-                groups: make_fresh_verdict_caches(alloc, policy, filter.groups.len())?,
-                hosts: make_fresh_verdict_caches(alloc, policy, filter.hosts.len())?,
-            }),
+            None => FilterMatcher::from_values(alloc, policy, &[], &[], &[]),
+            Some(filter) => {
+                let users = filter.users.as_slice();
+                let groups = filter.groups.as_slice();
+                FilterMatcher::from_values(alloc, policy, users, groups, filter.hosts.as_slice())
+            }
         }
     }
 
@@ -141,26 +87,14 @@ impl<'a> FilterMatcher<'a> {
         ensures says { IfOk result (λ says. says ≡ is_filter_user_matched_or_allowed allowing asked.now.policy.now asked.now.filter.now (members_of_view members.now)) }
     {
         let policy = asked.policy;
-        let users = asked.filter.users.as_slice();
-        if has_value_matched_or_allowed::<UserNameMatching>(
-            &mut self.users,
-            policy,
-            Kind::User,
-            users,
-            members,
-            allowing,
-        )? {
+        if self
+            .users
+            .matches_or_allows_value(policy, Kind::User, members, allowing)?
+        {
             return Ok(true);
         }
-        let groups = asked.filter.groups.as_slice();
-        has_value_matched_or_allowed::<GroupNameMatching>(
-            &mut self.groups,
-            policy,
-            Kind::User,
-            groups,
-            members,
-            allowing,
-        )
+        self.groups
+            .matches_or_allows_value(policy, Kind::User, members, allowing)
     }
 
     /// Returns whether a list of hosts says what is wanted of a host of the filter. It leads to no cyclic alias.
@@ -175,15 +109,8 @@ impl<'a> FilterMatcher<'a> {
         ensures kept { IfOk result (λ _. IsValidFilterMatcher asked.now.policy.now asked.now.filter.now self.new) }
         ensures says { IfOk result (λ says. says ≡ is_filter_host_matched_or_allowed allowing asked.now.policy.now asked.now.filter.now (members_of_view members.now)) }
     {
-        let hosts = asked.filter.hosts.as_slice();
-        has_value_matched_or_allowed::<HostNameMatching>(
-            &mut self.hosts,
-            asked.policy,
-            Kind::Host,
-            hosts,
-            members,
-            allowing,
-        )
+        self.hosts
+            .matches_or_allows_value(asked.policy, Kind::Host, members, allowing)
     }
 
     /// Returns whether the list of users `members` matches the filter. It leads to no cyclic alias.

@@ -78,8 +78,49 @@ fn select_line_by_optional_filter<'a>(
     select_filtered_node(alloc, &asked, matcher, base, row)
 }
 
-/// Returns the lines of a policy, filtered and with their aliases replaced, and how many members they have if aliases are replaced.
+/// Returns what [`write_rewritten_lines`] does. The matcher is that of the filter, and of no use after an error.
 #[tactic(auto, using(crate::proofs::Extending::table_is_extension_of_itself, crate::proofs::Extending::table_likeness_is_transitive))]
+fn write_lines_with_matcher<'a>(
+    alloc: Global,
+    source: &ExpansionSource<'a, '_>,
+    changes: &RewriteChanges<'_>,
+    matcher: &mut FilterMatcher<'a>,
+) -> Result<(RewrittenLines, MemberTally), CvtFault>
+    requires { IfSome changes.now.filter (λ filter. IsValidFilterMatcher source.now.policy.now filter.now matcher.old) }
+    ensures lines { IfOk result (λ new. new.0 ≡ textless_lines_with_nodes_mapped (λ n. line_node_expanded_if source.now.expand source.now.policy.now
+        (node_filtered_if_any source.now.policy.now (changes_of_view changes.now).filter changes.now.prune n)) source.now.policy.now) }
+    ensures counted { IfOk result (λ new. source.now.expand ≡ true → new.1.count ≡ specs_and_defaults_member_count new.0) }
+    ensures fault { IfErr result (IsTooManyMembersOrNoMemoryFault source.now.expand
+        (specs_and_defaults_member_count (textless_lines_with_nodes_mapped (λ n. line_node_expanded_if source.now.expand source.now.policy.now
+        (node_filtered_if_any source.now.policy.now (changes_of_view changes.now).filter changes.now.prune n)) source.now.policy.now))) }
+{
+    let policy = source.policy;
+    // laws
+    policy.is_acyclic();
+    let base = source.lines.tables;
+    let mut tables = copy_tables_without_lists(alloc, base)?;
+    let mut tally = MemberTally {
+        count: 0,
+        inherited: 0,
+    };
+    let mut rows = Vec::new(alloc);
+    for row in source.lines.rows {
+        let choice = select_line_by_optional_filter(
+            alloc, policy, changes, matcher, base, &row.node,
+        )?;
+        let node = write_filtered_line(alloc, source, &mut tables, &mut tally, &row.node, &choice)?;
+        let text = ByteRange { from: 0, to: 0 };
+        rows.push(LineRow {
+            text,
+            node,
+            bits: ALL_NAME_BITS,
+            lfs: 0,
+        })?;
+    }
+    Ok((RewrittenLines { tables, rows }, tally))
+}
+
+/// Returns the lines of a policy, filtered and with their aliases replaced, and how many members they have if aliases are replaced.
 pub fn write_rewritten_lines(
     alloc: Global,
     source: &ExpansionSource<'_, '_>,
@@ -92,34 +133,6 @@ pub fn write_rewritten_lines(
         (specs_and_defaults_member_count (textless_lines_with_nodes_mapped (λ n. line_node_expanded_if source.now.expand source.now.policy.now
         (node_filtered_if_any source.now.policy.now (changes_of_view changes.now).filter changes.now.prune n)) source.now.policy.now))) }
 {
-    let policy = source.policy;
-    // laws
-    policy.is_acyclic();
-    let base = source.lines.tables;
-    let mut matcher = FilterMatcher::new(alloc, policy, changes.filter)?;
-    let mut tables = copy_tables_without_lists(alloc, base)?;
-    let mut tally = MemberTally {
-        count: 0,
-        inherited: 0,
-    };
-    let mut rows = Vec::new(alloc);
-    for row in source.lines.rows {
-        let choice = select_line_by_optional_filter(
-            alloc,
-            policy,
-            changes,
-            &mut matcher,
-            base,
-            &row.node,
-        )?;
-        let node = write_filtered_line(alloc, source, &mut tables, &mut tally, &row.node, &choice)?;
-        let text = ByteRange { from: 0, to: 0 };
-        rows.push(LineRow {
-            text,
-            node,
-            bits: ALL_NAME_BITS,
-            lfs: 0,
-        })?;
-    }
-    Ok((RewrittenLines { tables, rows }, tally))
+    let mut matcher = FilterMatcher::new(alloc, source.policy, changes.filter)?;
+    write_lines_with_matcher(alloc, source, changes, &mut matcher)
 }

@@ -1,7 +1,7 @@
 use Rattle.sudoers_cvt_rewrite.proofs.Common.{IsLastHitOfList, IsLastHitOrCycleOfList, subst}
 use Rattle.sudoers_line_rows.specs.View.{members_of_view}
 use Rattle.sudoers_cvt_rewrite.proofs.Latest.{last_hit_is_that_of_expanded_list}
-use Rattle.sudoers_cvt_rewrite.proofs.matching.find_filter_hit.Goals as goal
+use Rattle.sudoers_cvt_rewrite.proofs.values_matcher.find_filter_hit.Goals as goal
 
 pub returns-clause-hit : goal.returns-clause-hit
 returns-clause-hit g c =

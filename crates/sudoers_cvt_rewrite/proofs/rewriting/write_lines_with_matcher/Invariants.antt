@@ -1,6 +1,6 @@
 use Rattle.sudoers_cvt_rewrite.proofs.Common.{AreTablesAlikeButLists, IfSome, IsTableExtension, IsValidFilterMatcher, LineRow, List, Node, Tables, changes_of_view, drop, line_node_expanded_if, line_of_row}
 use Rattle.sudoers_cvt_rewrite.proofs.Common.{specs_and_defaults_member_count, textless_lines_with_nodes_mapped, map, node_filtered_if_any, true, ◌++◌, ◌+◌, ◌≡◌}
-use Rattle.sudoers_cvt_rewrite.proofs.rewriting.write_rewritten_lines.Given as goal
+use Rattle.sudoers_cvt_rewrite.proofs.rewriting.write_lines_with_matcher.Given as goal
 
 abbrev pub invariant-loop-row : goal.invariant-loop-row
 invariant-loop-row l =
