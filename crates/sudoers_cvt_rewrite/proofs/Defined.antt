@@ -1,10 +1,9 @@
 -- Definitions with a mark, and how many members they have.
-use Rattle.sudoers_cvt_rewrite.proofs.Common.{Bool, Kind, Line, List, Member, Node, PlacedDefinition, Tables, [], alias_lines_member_count, alias_node_of_definition}
+use Rattle.sudoers_cvt_rewrite.proofs.Common.{Bool, Kind, Line, List, Member, PlacedDefinition, Tables, [], alias_lines_member_count, alias_node_of_definition}
 use Rattle.sudoers_cvt_rewrite.proofs.Common.{ap, ap₂, arith, definitions_of_lines, drop, drop_more}
 use Rattle.sudoers_cvt_rewrite.proofs.Common.{false, filter, get_or, if◌then◌else◌, is_used, kind_and_members_of_definition, kind_and_members_of_row}
 use Rattle.sudoers_cvt_rewrite.proofs.Common.{length, length-map, map, marked_definitions_member_count, member_in_tables, refl, rules_with_used_definitions, sym}
 use Rattle.sudoers_cvt_rewrite.proofs.Common.{true, ℕ, ◌+◌, ◌<◌, ◌∙◌, ◌∷◌, ◌≡◌}
-use Rattle.sudoers_grammar.specs.Node as node
 use Rattle.sudoers_match_list.specs.declared.definition_rows.DefinitionKindAndMembers.{DefinitionKindAndMembers}
 
 pub marked_rows_count_members_of_filtered : (t : Tables) (p : PlacedDefinition → Bool) (rows : List DefinitionKindAndMembers) (ds : List PlacedDefinition) → map (kind_and_members_of_row t) rows ≡ map kind_and_members_of_definition ds

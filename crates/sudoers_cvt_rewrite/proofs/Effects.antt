@@ -1,5 +1,5 @@
 -- What the last atoms of a list say of the names that are not denied.
-use Rattle.std.proofs.Common.{Bool, List, None, Option, Some, [], ap, ap₂, bytes_eq, false, if◌then◌else◌, inl, inr, map, not, refl, subst, sym, true, ℕ, ◌&&◌, ◌++◌, ◌||◌, ◌∙◌, ◌∷◌, ◌≡◌, ◌⊎◌}
+use Rattle.std.proofs.Common.{Bool, List, None, Option, Some, [], ap, ap₂, bytes_eq, false, if◌then◌else◌, inl, inr, not, refl, sym, true, ℕ, ◌&&◌, ◌++◌, ◌||◌, ◌∙◌, ◌∷◌, ◌≡◌}
 use Rattle.std.proofs.lemmas.Bool.{and_right, and_from, and_left, cases_Bool, false_from_ne_true, false≢true, not_from_true, not_from_false, or_left, or_right}
 use Rattle.std.proofs.lemmas.List.Folds.{list_any-append}
 use Rattle.std.proofs.lemmas.Slice.Eq.{bytes_eq-Decides}

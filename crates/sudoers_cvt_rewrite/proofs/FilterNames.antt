@@ -1,12 +1,10 @@
 -- Names of a filter, each once, letter case ignored.
-use Rattle.std.proofs.Common.{Bool, List, [], ap, ap₂, bytes_eq, false, if◌then◌else◌, get_or, inl, inr, length, map, refl, sym, take, true, ℕ, ◌++◌, ◌+◌, ◌<◌, ◌||◌, ◌∙◌, ◌∷◌, ◌≡◌}
-use Rattle.std.proofs.lemmas.Bool.{or_left}
+use Rattle.std.proofs.Common.{Bool, List, [], ap, bytes_eq, false, if◌then◌else◌, get_or, length, map, refl, sym, take, true, ℕ, ◌++◌, ◌+◌, ◌<◌, ◌||◌, ◌∙◌, ◌∷◌, ◌≡◌}
 use Rattle.std.proofs.lemmas.List.Folds.{list_any-append, list_any_more}
 use Rattle.std.proofs.lemmas.Slice.Eq.{bytes_eq-Decides}
 use Rattle.std.specs.List.{list_any}
 use Rattle.std.specs.Str.{str_to_ascii_lowercase}
-use Rattle.sudoers_check.specs.Chain.{ListHasElement}
-use Rattle.sudoers_cvt_rewrite.specs.internal.SameNames.{AreSameNamesIgnoringCase, IsTestIgnoringCase}
+use Rattle.sudoers_cvt_rewrite.specs.internal.SameNames.{AreSameNamesIgnoringCase}
 use Rattle.sudoers_cvt_rewrite.proofs.AnyHits.{any_has_passing_element, passing_element_is_any}
 
 pub any_of_mapped_is_any_by_test_after_map : {X Y : Type 0} (p : Y → Bool) (f : X → Y) (xs : List X) → list_any p (map f xs) ≡ list_any (λ x. p (f x)) xs

@@ -1,14 +1,13 @@
 -- Patterns of hosts without wildcards.
-use Rattle.std.proofs.Common.{Bool, List, [], ap, ap₂, arith, bytes_eq, cond, false, if◌then◌else◌, map, refl, sym, true, ℕ, ◌&&◌, ◌+◌, ◌-◌, ◌<◌, ◌==◌, ◌||◌, ◌∙◌, ◌∷◌, ◌≡◌, ◌≤◌}
+use Rattle.std.proofs.Common.{Bool, List, [], ap, ap₂, arith, bytes_eq, cond, false, if◌then◌else◌, refl, sym, true, ℕ, ◌&&◌, ◌+◌, ◌-◌, ◌<◌, ◌==◌, ◌||◌, ◌∙◌, ◌∷◌, ◌≡◌, ◌≤◌}
 use Rattle.std.proofs.lemmas.Bool.{cond_both, false≢true, ltb-false, ltb-true, ne_eqb, or_parts}
 use Rattle.std.specs.Char.{to_ascii_lowercase}
 use Rattle.std.specs.List.{list_any}
 use Rattle.std.specs.Prelude.{nat_lt}
 use Rattle.std.specs.Str.{str_to_ascii_lowercase}
 use Rattle.sudoers_grammar.specs.Pattern.{is_special_in_patterns}
-use Rattle.sudoers_match_member.specs.Folded.{bytes_case_folded_if_wanted}
 use Rattle.sudoers_match_member.specs.Hits.{has_dot}
-use Rattle.sudoers_match_member.specs.Wildcard.{Byte, PatternItem, is_empty, is_items_match, is_pattern_match, pattern_item_at, pattern_items_after_skipped_bytes}
+use Rattle.sudoers_match_member.specs.Wildcard.{Byte, PatternItem, is_items_match, is_pattern_match, pattern_item_at, pattern_items_after_skipped_bytes}
 use Rattle.sudoers_match_member.specs.declared.wildcards.GlobMode.TheVariants as mode
 use Rattle.sudoers_cvt_rewrite.specs.Filter.{host_name_before_dot, is_host_pattern_match}
 use Rattle.sudoers_cvt_rewrite.proofs.SameNames.{bytes_are_folded}

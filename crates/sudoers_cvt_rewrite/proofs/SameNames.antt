@@ -1,25 +1,25 @@
 -- Values that match the same atoms, letter case ignored.
-use Rattle.std.proofs.Common.{Bool, List, None, Option, Some, [], ap, ap₂, bytes_eq, false, get_or, if◌then◌else◌, inl, inr, length, map, not, refl, subst, sym, take, true, ℕ, ◌&&◌, ◌++◌, ◌+◌, ◌<◌, ◌==◌, ◌||◌, ◌∙◌, ◌∷◌, ◌≡◌, ◌⊎◌}
+use Rattle.std.proofs.Common.{Bool, List, [], ap, ap₂, bytes_eq, false, if◌then◌else◌, inl, inr, not, refl, sym, take, true, ℕ, ◌&&◌, ◌+◌, ◌==◌, ◌∙◌, ◌∷◌, ◌≡◌}
 use Rattle.std.proofs.Common.{arith, cond, suc}
 use Rattle.std.proofs.lemmas.Bool.{cases_lt, cond_both, le-leb, le-ltb, lt-leb, lt-ltb, ltb-false, ne_eqb}
 use Rattle.std.specs.Prelude.{nat_le, nat_lt}
-use Rattle.std.specs.List.{list_any, prefix_len, take_while}
+use Rattle.std.specs.List.{list_any, prefix_len}
 use Rattle.std.specs.Char.{to_ascii_lowercase}
 use Rattle.std.specs.Str.{str_to_ascii_lowercase}
 use Rattle.sudoers_grammar.specs.declared.node.Atom.{Atom}
 use Rattle.sudoers_grammar.specs.declared.node.Atom.TheVariants as atom
-use Rattle.sudoers_match_member.specs.Hits.{has_dot, is_name_equal_ignoring_case}
+use Rattle.sudoers_match_member.specs.Hits.{has_dot}
 use Rattle.sudoers_match_member.specs.Folded.{byte_case_folded_if_wanted, bytes_case_folded_if_wanted}
 use Rattle.sudoers_match_member.specs.Wildcard.{is_pattern_match}
 use Rattle.sudoers_match_member.specs.declared.wildcards.GlobMode.TheVariants as mode
-use Rattle.sudoers_match_list.specs.Flat.{SignedAtom, hit_of_signed_atom, last_hit_of_list, later_hit_if_any}
+use Rattle.sudoers_match_list.specs.Flat.{SignedAtom, last_hit_of_list, later_hit_if_any}
 use Rattle.sudoers_cvt_rewrite.specs.declared.filter_text.FilterKey.{FilterKey}
 use Rattle.sudoers_cvt_rewrite.specs.declared.filter_text.FilterKey.TheVariants.{User, Group, Host}
-use Rattle.sudoers_cvt_rewrite.specs.Filter.{is_list_without_items, host_name_before_dot, is_host_pattern_match}
+use Rattle.sudoers_cvt_rewrite.specs.Filter.{is_list_without_items, host_name_before_dot}
 use Rattle.sudoers_cvt_rewrite.proofs.Common.{Kind, Line, Member}
 use Rattle.sudoers_cvt_rewrite.specs.declared.values_matcher.ValuesMatcher.{ValuesMatcher}
 use Rattle.sudoers_cvt_rewrite.specs.internal.Matcher.{IsValidValuesMatcher, is_any_value_matched_or_allowed, is_hit_any_or_allowing}
-use Rattle.sudoers_cvt_rewrite.specs.internal.SameNames.{AreSameNamesIgnoringCase, IsTestIgnoringCase}
+use Rattle.sudoers_cvt_rewrite.specs.internal.SameNames.{AreSameNamesIgnoringCase}
 use Rattle.sudoers_cvt_rewrite.specs.internal.Values.{is_all_or_name_of_value, is_atom_matching_any_name, is_atom_matching_value, signed_atoms_of_expanded_list}
 use Rattle.sudoers_cvt_rewrite.proofs.AnyHits.{hit_if_matching}
 

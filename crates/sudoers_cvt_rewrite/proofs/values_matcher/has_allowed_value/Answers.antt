@@ -1,4 +1,4 @@
-use Rattle.sudoers_cvt_rewrite.proofs.Common.{AreValidVerdictCaches, Some, ap, arith, last_hit_in_expanded_list, length, map, member_in_tables, refl, sym, ◌∙◌}
+use Rattle.sudoers_cvt_rewrite.proofs.Common.{Some, ap, arith, last_hit_in_expanded_list, length, map, member_in_tables, refl, sym, ◌∙◌}
 use Rattle.std.proofs.lemmas.List.{length-set}
 use Rattle.std.proofs.lemmas.Option.{slice_get-get_or, slice_get_read}
 use Rattle.sudoers_cvt_rewrite.specs.Filter.{is_allowing_hit}

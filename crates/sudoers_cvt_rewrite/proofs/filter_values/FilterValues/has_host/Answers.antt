@@ -1,4 +1,4 @@
-use Rattle.std.proofs.Common.{Bool, List, ap, bytes_eq, false, if◌then◌else◌, sym, true, ℕ, ◌∙◌, ◌≡◌}
+use Rattle.std.proofs.Common.{ap, bytes_eq, false, if◌then◌else◌, sym, true, ◌∙◌, ◌≡◌}
 use Rattle.std.specs.List.{list_any}
 use Rattle.std.specs.Str.{str_to_ascii_lowercase}
 use Rattle.sudoers_match_member.specs.Hits.{has_dot, is_name_equal_ignoring_case}

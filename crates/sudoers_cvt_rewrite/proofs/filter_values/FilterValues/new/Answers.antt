@@ -1,10 +1,9 @@
-use Rattle.std.proofs.Common.{Bool, Global, List, Vec, [], ap, ap₂, bytes_eq, false, if◌then◌else◌, map, not, sym, true, ℕ, ◌++◌, ◌∙◌, ◌∷◌, ◌≡◌, ◌||◌}
+use Rattle.std.proofs.Common.{Bool, Global, List, Vec, [], ap, ap₂, bytes_eq, false, if◌then◌else◌, map, sym, true, ℕ, ◌++◌, ◌∙◌, ◌∷◌, ◌≡◌, ◌||◌}
 use Rattle.std.proofs.lemmas.Bool.{not-false, not-true}
 use Rattle.std.proofs.lemmas.List.{map_push}
 use Rattle.std.specs.List.{list_any}
 use Rattle.std.specs.Str.{str_to_ascii_lowercase}
 use Rattle.sudoers_cvt_rewrite.specs.Filter.{host_name_before_dot}
-use Rattle.sudoers_cvt_rewrite.specs.internal.SameNames.{AreSameNamesIgnoringCase}
 use Rattle.sudoers_cvt_rewrite.proofs.FilterNames.{any_of_pushed_is_any_or_last, known_value_adds_no_name, new_value_adds_its_name}
 use Rattle.sudoers_cvt_rewrite.proofs.filter_values.FilterValues.new.Goals as goal
 use Rattle.sudoers_cvt_rewrite.proofs.filter_values.FilterValues.new.Goals.{then-branch+in_ok-from_slice+in_ok-push+in_ok-add_name_before_dot, else-branch}

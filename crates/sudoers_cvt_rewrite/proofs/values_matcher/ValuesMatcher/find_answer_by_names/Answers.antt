@@ -1,6 +1,6 @@
-use Rattle.sudoers_cvt_rewrite.proofs.Common.{ap, arith, is_any_value_matched_or_allowed, map, member_in_tables, sym, take, true, zero, ◌∙◌, ◌≡◌}
+use Rattle.sudoers_cvt_rewrite.proofs.Common.{ap, arith, map, member_in_tables, sym, take, zero, ◌∙◌, ◌≡◌}
 use Rattle.std.specs.Prelude.{◌-◌}
-use Rattle.sudoers_cvt_rewrite.specs.internal.Values.{is_any_undenied_name_allowed, is_atom_matching_value, signed_atoms_of_expanded_list}
+use Rattle.sudoers_cvt_rewrite.specs.internal.Values.{is_any_undenied_name_allowed, signed_atoms_of_expanded_list}
 use Rattle.sudoers_cvt_rewrite.proofs.LastMembers.{empty_list_allows_no_name, empty_list_has_no_atoms, last_member_answers, last_row_leads_to_no_cycle, members_before_last_decide}
 use Rattle.sudoers_cvt_rewrite.proofs.values_matcher.ValuesMatcher.find_answer_by_names.Goals as goal
 
