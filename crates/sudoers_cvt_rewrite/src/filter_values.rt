@@ -1,6 +1,6 @@
 //! The values of a filter with one key.
 
-ghost use Rattle.std.specs.Prelude.{◌≡◌, ◌||◌, ℕ, Bool, List, false, map, not, IfOk, OnOk};
+ghost use Rattle.std.specs.Prelude.{◌≡◌, ◌||◌, ℕ, Bool, List, false, map, not, IfOk, IfSome, OnOk};
 ghost use Rattle.sudoers_grammar.specs.Pattern.{is_special_in_patterns};
 ghost use Rattle.std.specs.List.{list_any};
 ghost use Rattle.std.specs.Str.{str_to_ascii_lowercase};
@@ -14,6 +14,9 @@ use std::alloc::{AllocError, Global};
 use sudoers_grammar::Items;
 use sudoers_match_member::is_same_name_ignoring_case;
 use sudoers_names::NameSet;
+
+/// So many values are compared one by one.
+const FEW_VALUES: usize = 4;
 
 /// The values of a filter with one key, each once, letter case ignored. In lower case are their names, and these up to the first dot.
 #[derive(Drop)]
@@ -69,13 +72,26 @@ impl FilterValues {
         })
     }
 
-    /// Returns whether `name` is one of the values, letter case ignored. Without memory for its lower case it compares each.
+    /// Returns the name `name` in lower case, to look it up. There is none without memory, nor where few values are sooner compared.
+    fn fold_to_look_up(&self, name: &[u8]) -> Option<Vec<u8>>
+        ensures { IfSome result (λ folded. folded.items ≡ str_to_ascii_lowercase name.now) }
+    {
+        if self.names.len() <= FEW_VALUES {
+            return None;
+        }
+        match name.to_ascii_lowercase(self.alloc) {
+            Ok(folded) => Some(folded),
+            Err(_) => None,
+        }
+    }
+
+    /// Returns whether `name` is one of the values, letter case ignored.
     pub fn has_name(&self, name: &[u8]) -> bool
         ensures { result ≡ list_any (is_name_equal_ignoring_case name.now) self.now.names.items }
     {
-        match name.to_ascii_lowercase(self.alloc) {
-            Ok(folded) => self.lower.has(folded.as_slice()),
-            Err(_) => {
+        match self.fold_to_look_up(name) {
+            Some(folded) => self.lower.has(folded.as_slice()),
+            None => {
                 self.names
                     .iter()
                     .any(|value| is_same_name_ignoring_case(name, value.as_slice()))
@@ -83,8 +99,7 @@ impl FilterValues {
         }
     }
 
-    /// Returns whether the pattern `pattern`, which has no wildcard, matches a host of one of these names. Without memory for its lower
-    /// case it compares each.
+    /// Returns whether the pattern `pattern`, which has no wildcard, matches a host of one of these names.
     pub fn has_host(&self, pattern: &[u8]) -> bool
         requires { list_any is_special_in_patterns pattern.now ≡ false }
         ensures { result ≡ list_any (λ name. is_host_pattern_match name pattern.now) self.now.names.items }
@@ -92,9 +107,9 @@ impl FilterValues {
         if pattern.contains(&b'.') {
             return self.has_name(pattern);
         }
-        match pattern.to_ascii_lowercase(self.alloc) {
-            Ok(folded) => self.short.has(folded.as_slice()),
-            Err(_) => is_any_host_matched(self.names.as_slice(), pattern),
+        match self.fold_to_look_up(pattern) {
+            Some(folded) => self.short.has(folded.as_slice()),
+            None => is_any_host_matched(self.names.as_slice(), pattern),
         }
     }
 

@@ -14,12 +14,12 @@ returns-then-contains c =
     c.has_name.ensures ∙ tests_alike_on_elements_pass_alike (is_name_equal_ignoring_case pattern) (λ name. is_host_pattern_match name pattern) c.args.self.now.names.items (λ name has.
     sym (plain_host_pattern_matches_same_name name pattern c.requires ∙ ap (λ d. bytes_eq (str_to_ascii_lowercase pattern) (str_to_ascii_lowercase (if d then name else host_name_before_dot name))) dot))
 
-pub returns-in-Ok : goal.returns-in-Ok
-returns-in-Ok c =
+pub returns-in-Some : goal.returns-in-Some
+returns-in-Some c =
     let pattern = c.args.pattern.now in
     let dot : has_dot pattern ≡ false = sym c.contains.ensures.value ∙ c.if-contains.false in
     c.has.ensures
-    ∙ ap (λ word. list_any (bytes_eq word) c.args.self.now.short) (c.as_slice.ensures.value ∙ c.in-Ok.ensures.ok)
+    ∙ ap (λ word. list_any (bytes_eq word) c.args.self.now.short) (c.as_slice.ensures.value ∙ c.in-Some.ensures)
     ∙ c.args.self.now.short_are (bytes_eq (str_to_ascii_lowercase pattern))
     ∙ tests_alike_on_elements_pass_alike (λ name. bytes_eq (str_to_ascii_lowercase pattern) (str_to_ascii_lowercase (host_name_before_dot name))) (λ name. is_host_pattern_match name pattern) c.args.self.now.names.items (λ name has.
     sym (plain_host_pattern_matches_same_name name pattern c.requires ∙ ap (λ d. bytes_eq (str_to_ascii_lowercase pattern) (str_to_ascii_lowercase (if d then name else host_name_before_dot name))) dot))
