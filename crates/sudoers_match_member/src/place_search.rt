@@ -1,4 +1,4 @@
-//! The places of a text from which the items behind a `*` may match, found for 64 items at once.
+//! The places of a text from which the items behind a `*` may match, found for 256 items at once.
 
 ghost use Rattle.std.specs.Prelude.{◌≡◌, ◌≢◌, ◌<◌, ◌≤◌, ◌+◌, ◌∷◌, ℕ, true, false, length, drop, get_or, [], None, IfSome};
 ghost use Rattle.sudoers_grammar.specs.Pattern.{is_special_in_patterns};
@@ -104,7 +104,7 @@ fn take_capitals_as_small(takers: &mut [ItemSet; 256])
     }
 }
 
-/// Returns the items of `pattern` from `at` on up to the next `*`, or the first 64 of them.
+/// Returns the items of `pattern` from `at` on up to the next `*`, or the first 256 of them.
 fn read_item_row(
     pattern: &[u8],
     at: usize,

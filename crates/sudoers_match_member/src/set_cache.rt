@@ -24,7 +24,7 @@ pub struct SetMatchCache {
     len: usize,
     /// Which bytes it takes.
     takes: [bool; 256],
-    /// The places behind which nothing closes a set, once there is such a set.
+    /// The places from which a set never ends. They are found after the first set that never ends.
     unclosed: Option<UnclosedPlaces>,
 }
 
@@ -93,7 +93,7 @@ impl SetMatchCache {
         front
     }
 
-    /// Finds the places behind which nothing closes a set, if they are not known.
+    /// Finds the places from which a set never ends, if they are not known.
     #[cold]
     #[inline(never)]
     fn find_unclosed_places(&mut self, pattern: &[u8], lower: bool)

@@ -1,4 +1,4 @@
-//! The places of a pattern behind which nothing closes a set.
+//! The places of a pattern from which a set goes on and never ends.
 
 ghost use Rattle.std.specs.Prelude.{◌≡◌, ◌≤◌, ◌<◌, ◌-◌, ◌⊎◌, ℕ, None, length, drop, IsTrue};
 ghost use Rattle.sudoers_match_member.specs.Folded.{bytes_case_folded_if_wanted};
@@ -11,7 +11,7 @@ use crate::byte_sets::read_set_item;
 /// How many places there are at most.
 const MOST_PLACES: usize = 65_536;
 
-/// Places of a pattern, counted from its end: if items of a set stand from there on, no `]` closes it.
+/// Places of a pattern, counted from its end. A set whose items go on there has no `]` that closes it.
 #[derive(Drop)]
 pub struct UnclosedPlaces {
     words: [u64; 1024],
@@ -33,7 +33,7 @@ impl UnclosedPlaces {
         self.words[left / 64] |= 1 << (left % 64);
     }
 
-    /// Returns the last places of `pattern` behind which nothing closes a set.
+    /// Returns those of the last places of `pattern` from which a set never ends.
     pub fn find_in_pattern(pattern: &[u8], lower: bool) -> UnclosedPlaces
         ensures { AreUnclosedPlaces lower pattern.now result }
     {
