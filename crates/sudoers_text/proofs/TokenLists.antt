@@ -97,7 +97,7 @@ token_list_by_line_end_test here line at start false found ts here_is e is later
 nothing_follows_line_end : (line : List ℕ) (at : ℕ) → length line ≤ at → is_line_end_or_empty (drop (next_token_start line at) line) ≡ true
 nothing_follows_line_end line at past = ap is_line_end_or_empty (drop_all (next_token_start line at) line (omega arith))
 
-tokens_from_offset_are_tokens_of_line : (n : ℕ) (here : TokenContext) (line : List ℕ) (at : ℕ) → length line - at ≤ n → AreTokensFrom here line at (tokens_from_offset n here line at)
+pub tokens_from_offset_are_tokens_of_line : (n : ℕ) (here : TokenContext) (line : List ℕ) (at : ℕ) → length line - at ≤ n → AreTokensFrom here line at (tokens_from_offset n here line at)
 unfolding tokens_from_offset
 tokens_from_offset_are_tokens_of_line zero here line at h = nothing_follows_line_end line at (omega arith)
 tokens_from_offset_are_tokens_of_line (suc n) here line at h =
@@ -114,7 +114,7 @@ pub computed_tokens_are_tokens_of_line : (m : Mode) (line : List ℕ) → HasTok
 unfolding tokens_of_line
 computed_tokens_are_tokens_of_line m line = tokens_from_offset_are_tokens_of_line (length line) (context.First m) line 0 (omega arith)
 
-tokens_from_place_are_unique : (ts us : List Token) (here : TokenContext) (line : List ℕ) (at : ℕ) → AreTokensFrom here line at ts → AreTokensFrom here line at us → ts ≡ us
+pub tokens_from_place_are_unique : (ts us : List Token) (here : TokenContext) (line : List ℕ) (at : ℕ) → AreTokensFrom here line at ts → AreTokensFrom here line at us → ts ≡ us
 tokens_from_place_are_unique [] [] here line at x y = refl
 tokens_from_place_are_unique [] (u ∷ us) here line at x y = absurd (let other : is_line_end_or_empty (drop (next_token_start line at) line) ≡ false = ap (λ (n : ℕ). is_line_end_or_empty (drop n line)) (sym y.0) ∙ y.1 in cc)
 tokens_from_place_are_unique (t ∷ ts) [] here line at x y = absurd (let other : is_line_end_or_empty (drop (next_token_start line at) line) ≡ false = ap (λ (n : ℕ). is_line_end_or_empty (drop n line)) (sym x.0) ∙ x.1 in cc)

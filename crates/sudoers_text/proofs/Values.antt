@@ -1,9 +1,9 @@
 -- What words stand for.
-use Rattle.std.proofs.Common.{◌≡◌, ℕ, zero, suc, ◌+◌, ◌-◌, ◌<◌, ◌≤◌, Bool, true, ◌||◌, List, [], ◌∷◌, ◌++◌, length, take, drop, get_or, refl, sym, ap, ◌∙◌, append_assoc, arith}
+use Rattle.std.proofs.Common.{◌≡◌, ℕ, zero, suc, ◌+◌, ◌-◌, ◌<◌, ◌≤◌, Bool, true, ◌||◌, List, [], ◌∷◌, ◌++◌, length, take, drop, get_or, refl, sym, ap, ◌∙◌, append-nil, append_assoc, arith, false}
 use Rattle.std.specs.Prelude.{◌==◌}
-use Rattle.std.proofs.lemmas.List.{drop-drop, drop_more, take_rest}
+use Rattle.std.proofs.lemmas.List.{drop-drop, drop_all, drop_more, take_all, take_rest}
 use Rattle.sudoers_text.proofs.Units.{untrue_disjunction_has_false_parts}
-use Rattle.sudoers_text.specs.Value.{escape_tail_size, unescaped_bytes_of_escape, value_of_remaining_bytes}
+use Rattle.sudoers_text.specs.Value.{escape_tail_size, unescaped_bytes_of_escape, value_of_remaining_bytes, value_of_word}
 
 -- behind what is passed over, the rest is read as if it stood alone
 value_past_bytes_is_value_of_rest : (k : ℕ) (quoted : Bool) (bytes : List ℕ) → value_of_remaining_bytes k quoted bytes ≡ value_of_remaining_bytes 0 quoted (drop k bytes)
@@ -36,3 +36,11 @@ unquoted_bytes_are_their_own_value quoted (b ∷ word) (suc at) within none =
     let here = untrue_disjunction_has_false_parts (b == 34) (b == 92) (none 0 (omega arith)) in
     let later = unquoted_bytes_are_their_own_value quoted word at (omega arith) (λ k below. none (suc k) (omega arith)) in
     rw (here.0, here.1) (ap (λ (t : List ℕ). b ∷ t) later)
+
+-- A word that is its own plain front is its own value.
+pub plain_word_is_its_own_value : (word : List ℕ) (len : ℕ) → len ≡ length word → take len word ++ value_of_remaining_bytes 0 false (drop len word) ≡ value_of_remaining_bytes 0 false word → value_of_word word ≡ word
+unfolding value_of_word
+plain_word_is_its_own_value word len whole plain =
+    let front : take len word ≡ word = take_all len word (omega arith) in
+    let rest : drop len word ≡ [] = drop_all len word (omega arith) in
+    sym plain ∙ ap (λ (bytes : List ℕ). take len word ++ value_of_remaining_bytes 0 false bytes) rest ∙ append-nil (take len word) ∙ front

@@ -12,6 +12,7 @@ pub mod Token
 pub mod Ascend
 pub mod LineMode
 pub mod Found
+pub mod LeftTokens
 pub mod Value
 pub mod Whole
 pub mod Renamed

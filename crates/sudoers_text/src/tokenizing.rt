@@ -1,20 +1,15 @@
-//! The tokens of a line.
+//! Where the next token of a line begins, and what stands left of it.
 
 ghost use Rattle.std.specs.Prelude.{◌≡◌, ◌≤◌, ◌<◌, ◌+◌, ◌∷◌, ◌-◌, ◌==◌, ◌||◌, not, ℕ, List, [], length, drop, take, slice_range, true, false, IfOk, IfErr, IfSome, IfNone, All};
-ghost use Rattle.sudoers_text.specs.declared.token.Token.{Token as TokenOf};
 ghost use Rattle.sudoers_text.specs.Unit.{LineUnit, line_end_size};
 ghost use Rattle.sudoers_text.specs.internal.Left.{LeftDescribesUnits, model_of_unit, ends_without_backslash_or_cr};
 ghost use Rattle.sudoers_text.specs.internal.Reached.{DescribesLeftAtOffset};
 ghost use Rattle.sudoers_text.specs.Piece.{TokenForm};
-ghost use Rattle.sudoers_text.specs.Token.{byte_or_escape_unit, units_with_those_of_bytes, units_left_of_place, next_token_start, is_line_end_or_empty, HasTokens, IsTokenWithinLine};
-ghost use Rattle.sudoers_text.specs.Found.{kind_and_size_of_token, kind_and_size_after_units, tokens_of_line};
+ghost use Rattle.sudoers_text.specs.Token.{byte_or_escape_unit, units_with_those_of_bytes, units_left_of_place, next_token_start, is_line_end_or_empty};
+ghost use Rattle.sudoers_text.specs.Found.{kind_and_size_of_token, kind_and_size_after_units};
 
-use crate::context::TokenContext;
-use crate::fault::TextFault;
 use crate::part::{ByteRunKind, leading_run_len};
 use crate::text_units::{LeftContext, TextUnit, begins_hash_or_percent, unit_of_backslash};
-use crate::token::{Mode, Token};
-use std::alloc::Global;
 
 /// Returns the unit that begins the bytes, where a quoted part and a comment are no units but their bytes.
 #[inline(always)]
@@ -154,40 +149,4 @@ impl LeftContextAtOffset {
             self.left
         }
     }
-}
-
-/// Returns the tokens of `line` from left to right (sudoers(5), SUDOERS FILE FORMAT).
-///
-/// The forms of a token have an order. The first form that fits at a place decides, and takes the longest piece of that form.
-/// Blanks, continuations and the line end separate tokens and belong to none.
-///
-/// # Errors
-///
-/// [`TextFault::NoMemory`] alone, where a growth of memory was refused: what begins no piece is a token that is Bad.
-pub fn tokens(alloc: Global, line: &[u8], mode: Mode) -> Result<Vec<Token>, TextFault>
-    // They are the line's tokens.
-    ensures exact { IfOk result (λ tokens. HasTokens mode line.now tokens.items) }
-    // In one word: the tokens that are computed, of which there is one list.
-    ensures outcome { IfOk result (λ tokens. tokens.items ≡ tokens_of_line mode line.now) }
-    // Each is a part of the line, and not empty.
-    ensures within { IfOk result (λ tokens. All (IsTokenWithinLine (length line.now)) tokens.items) }
-    // Nothing but want of memory is refused.
-    ensures only_memory { IfErr result (λ fault. fault ≡ TextFault.NoMemory) }
-{
-    let mut tokens = Vec::with_capacity(alloc, line.len() / 4)?;
-    let mut here = TokenContext::First(mode);
-    let mut reached = LeftContextAtOffset::start_of_line();
-    let mut at = 0;
-    while let Some(start) = find_next_token_start(line, at) {
-        let left = reached.advance_to_token(line, start);
-        let piece = here.find_token_in_context(left, &line[start..]);
-        at = start + piece.len;
-        tokens.push(Token {
-            kind: piece.kind,
-            start,
-            stop: at,
-        })?;
-        here = here.find_context_after_token(piece.kind, &line[start..at], &line[at..]);
-    }
-    Ok(tokens)
 }

@@ -95,6 +95,13 @@ fn literal_prefix_len(word: &[u8]) -> usize
     memchr2(b'"', b'\\', word).unwrap_or(word.len())
 }
 
+/// Returns whether a word has no quotes and no escapes, so that it stands for itself.
+pub fn is_own_value(word: &[u8]) -> bool
+    ensures { result ≡ true → value_of_word word.now ≡ word.now }
+{
+    literal_prefix_len(word) == word.len()
+}
+
 /// Returns what a word stands for, without its quotes and escapes (sudoers(5), Aliases; Other special characters and reserved words).
 ///
 /// # Errors
