@@ -1,6 +1,6 @@
 //! What a member of a list is, by its token, and the values that tokens have.
 
-ghost use Rattle.std.specs.Prelude.{◌≡◌, ◌∷◌, List, ℕ, IfOk, option_map};
+ghost use Rattle.std.specs.Prelude.{◌≡◌, ◌∷◌, List, ℕ, IfOk, false, option_map};
 ghost use Rattle.std.specs.Str.{bytes_eq};
 ghost use Rattle.sudoers_text.specs.Value.{value_of_word};
 ghost use Rattle.sudoers_grammar.specs.Number.{number_of_decimal_digits, id_limit, number_if_within_limit, ipv4_number_of_text};
@@ -13,56 +13,65 @@ use crate::numbers_and_addresses::{
     ID_LIMIT, is_digit_string, is_network_like, is_time_stamp, number_up_to, parse_ipv4_address,
     parse_network_atom,
 };
-use crate::pattern::{PatternSpelling, make_pattern_of_text};
+use crate::owned_atom::copy_atom;
+use crate::pattern::{PatternSpelling, read_pattern_of_text};
+use crate::text::Text;
 use crate::token_with_text::{TokenWithText, begins_with_byte, has_byte};
 use std::alloc::{AllocError, Global};
-use sudoers_text::{TokenKind, is_name, is_reserved, value};
+use sudoers_text::{TokenKind, is_name, is_own_value, is_reserved, value};
 
-/// Returns the bytes, if there are any.
-fn take_if_not_empty(bytes: Items<u8>) -> Option<Items<u8>>
-    ensures { result ≡ some_if_not_empty bytes }
+/// Returns the text, if it has any bytes.
+fn take_if_not_empty<'a>(text: Text<'a>) -> Option<Text<'a>>
+    ensures { result ≡ some_if_not_empty text.entry }
 {
-    if bytes.len() == 0 { None } else { Some(bytes) }
+    if text.as_slice().is_empty() {
+        None
+    } else {
+        Some(text)
+    }
 }
 
 /// Returns the bytes, or the value of the word that they are.
-fn copy_bytes_or_word_value(
+fn read_bytes_or_word_value<'a>(
     alloc: Global,
     escaped: bool,
-    text: &[u8],
-) -> Result<Items<u8>, AllocError>
-    ensures { IfOk result (λ bytes. bytes ≡ word_value_or_bytes escaped text.now) }
+    text: &'a [u8],
+) -> Result<Text<'a>, AllocError>
+    ensures { IfOk result (λ read. read ≡ word_value_or_bytes escaped text.now) }
 {
-    if escaped {
-        Ok(Items::from_vec(value(alloc, text)?))
+    if escaped && !is_own_value(text) {
+        Ok(Text::owned(value(alloc, text)?))
     } else {
-        Items::from_slice(alloc, text)
+        Ok(Text::borrowed(text))
     }
 }
 
 /// Returns a name that is not empty.
-fn read_nonempty_name(
+fn read_nonempty_name<'a>(
     alloc: Global,
     escaped: bool,
-    text: &[u8],
-) -> Result<Option<Items<u8>>, AllocError>
-    ensures { IfOk result (λ bytes. bytes ≡ some_if_not_empty (word_value_or_bytes escaped text.now)) }
+    text: &'a [u8],
+) -> Result<Option<Text<'a>>, AllocError>
+    ensures { IfOk result (λ name. name ≡ some_if_not_empty (word_value_or_bytes escaped text.now)) }
 {
-    Ok(take_if_not_empty(copy_bytes_or_word_value(alloc, escaped, text)?))
+    Ok(take_if_not_empty(read_bytes_or_word_value(alloc, escaped, text)?))
 }
 
 /// Returns what stands behind `%`: a non-Unix group, a number or a group's name.
-fn parse_group_after_percent(
+fn parse_group_after_percent<'a>(
     alloc: Global,
     escaped: bool,
-    text: &[u8],
-) -> Result<Option<Atom>, AllocError>
+    text: &'a [u8],
+) -> Result<Option<Atom<'a>>, AllocError>
     ensures { IfOk result (λ atom. atom ≡ group_atom_after_percent escaped text.now) }
 {
     match text {
         [b':', rest @ ..] => Ok(read_nonempty_name(alloc, escaped, rest)?.map(Atom::NonUnix)),
         [b'#', digits @ ..] if is_digit_string(digits) => {
-            Ok(number_up_to(ID_LIMIT, digits).map(Atom::GroupId))
+            match number_up_to(ID_LIMIT, digits) {
+                Some(number) => Ok(Some(Atom::GroupId(number))),
+                None => Ok(None),
+            }
         }
         [_, ..] => Ok(read_nonempty_name(alloc, escaped, text)?.map(Atom::Group)),
         [] => Ok(None),
@@ -70,35 +79,34 @@ fn parse_group_after_percent(
 }
 
 /// Returns a user whose name begins with `#`: a number behind it, or all of the name.
-fn parse_uid_or_name_after_hash(
-    alloc: Global,
-    name: &[u8],
-    digits: &[u8],
-) -> Result<Option<Atom>, AllocError>
+fn parse_uid_or_name_after_hash<'a>(name: &'a [u8], digits: &[u8]) -> Option<Atom<'a>>
     requires { name.now ≡ 35 ∷ digits.now }
-    ensures { IfOk result (λ atom. atom ≡ uid_or_name_atom_after_hash digits.now) }
+    ensures { result ≡ uid_or_name_atom_after_hash digits.now }
 {
     if digits.is_empty() {
-        Ok(None)
+        None
     } else if is_digit_string(digits) {
-        Ok(number_up_to(ID_LIMIT, digits).map(Atom::Id))
+        match number_up_to(ID_LIMIT, digits) {
+            Some(number) => Some(Atom::Id(number)),
+            None => None,
+        }
     } else {
-        Ok(Some(Atom::Name(Items::from_slice(alloc, name)?)))
+        Some(Atom::Name(Text::borrowed(name)))
     }
 }
 
 /// Returns a user by its prefix, and without one by name.
-fn parse_user_by_prefix(
+fn parse_user_by_prefix<'a>(
     alloc: Global,
     escaped: bool,
-    text: &[u8],
-) -> Result<Option<Atom>, AllocError>
+    text: &'a [u8],
+) -> Result<Option<Atom<'a>>, AllocError>
     ensures { IfOk result (λ atom. atom ≡ user_atom_by_prefix escaped text.now) }
 {
     match text {
         [b'%', rest @ ..] => parse_group_after_percent(alloc, escaped, rest),
         [b'+', rest @ ..] => Ok(read_nonempty_name(alloc, escaped, rest)?.map(Atom::Netgroup)),
-        [b'#', rest @ ..] => parse_uid_or_name_after_hash(alloc, text, rest),
+        [b'#', rest @ ..] => Ok(parse_uid_or_name_after_hash(text, rest)),
         [_, ..] => Ok(read_nonempty_name(alloc, escaped, text)?.map(Atom::Name)),
         [] => Ok(None),
     }
@@ -106,13 +114,13 @@ fn parse_user_by_prefix(
 
 /// Returns a user that is a word.
 #[tactic(auto, unfolding(crate::specs::Atom::user_atom_of_word))]
-fn parse_user_word(alloc: Global, text: &[u8]) -> Result<Option<Atom>, AllocError>
+fn parse_user_word<'a>(alloc: Global, text: &'a [u8]) -> Result<Option<Atom<'a>>, AllocError>
     ensures { IfOk result (λ atom. atom ≡ user_atom_of_word text.now) }
 {
     if text == b"ALL".as_slice() {
         Ok(Some(Atom::All))
     } else if is_name(text) {
-        Ok(Some(Atom::Alias(Items::from_slice(alloc, text)?)))
+        Ok(Some(Atom::Alias(Text::borrowed(text))))
     } else {
         parse_user_by_prefix(alloc, true, text)
     }
@@ -139,74 +147,91 @@ pub fn is_id_above_limit(text: &[u8]) -> bool
 
 /// Returns a user that is an ID: `#uid`, `%#gid`, or `%:#` and a name of digits.
 #[tactic(auto, unfolding(crate::specs::Atom::user_atom_of_bounded_id))]
-fn parse_user_atom_that_is_id(alloc: Global, text: &[u8]) -> Result<Option<Atom>, AllocError>
-    ensures { IfOk result (λ atom. atom ≡ user_atom_of_bounded_id text.now) }
+fn parse_user_atom_that_is_id(text: &[u8]) -> Option<Atom<'_>>
+    ensures { result ≡ user_atom_of_bounded_id text.now }
 {
-    let Some(number) = number_up_to(ID_LIMIT, digits_of_id(text)) else {
-        return Ok(None);
-    };
+    let number = number_up_to(ID_LIMIT, digits_of_id(text))?;
     match text {
-        [] => Ok(None),
-        [b'#', ..] => Ok(Some(Atom::Id(number))),
-        [_, b'#', ..] => Ok(Some(Atom::GroupId(number))),
-        [_, _, name @ ..] => Ok(Some(Atom::NonUnix(Items::from_slice(alloc, name)?))),
-        [_] => Ok(Some(Atom::NonUnix(Items::new(alloc)))),
+        [] => None,
+        [b'#', ..] => Some(Atom::Id(number)),
+        [_, b'#', ..] => Some(Atom::GroupId(number)),
+        [_, _, name @ ..] => Some(Atom::NonUnix(Text::borrowed(name))),
+        [_] => Some(Atom::NonUnix(Text::borrowed(&[]))),
+    }
+}
+
+/// Returns a user that stands in quotes.
+fn parse_quoted_user<'a>(alloc: Global, text: &'a [u8]) -> Result<Option<Atom<'a>>, AllocError>
+    ensures { IfOk result (λ atom. atom ≡ user_atom_by_prefix false (value_of_word text.now)) }
+{
+    let name = value(alloc, text)?;
+    match parse_user_by_prefix(alloc, false, name.as_slice())? {
+        Some(atom) => Ok(Some(copy_atom(alloc, &atom)?)),
+        None => Ok(None),
     }
 }
 
 /// Returns a user or runas user.
 #[tactic(auto, unfolding(crate::specs::Atom::user_atom_of_token))]
-fn parse_user_atom(alloc: Global, kind: TokenKind, text: &[u8]) -> Result<Option<Atom>, AllocError>
+fn parse_user_atom<'a>(
+    alloc: Global,
+    kind: TokenKind,
+    text: &'a [u8],
+) -> Result<Option<Atom<'a>>, AllocError>
     ensures { IfOk result (λ atom. atom ≡ user_atom_of_token kind text.now) }
 {
     match kind {
         TokenKind::Word => parse_user_word(alloc, text),
-        TokenKind::Quoted => parse_user_by_prefix(alloc, false, value(alloc, text)?.as_slice()),
-        TokenKind::Id => parse_user_atom_that_is_id(alloc, text),
+        TokenKind::Quoted => parse_quoted_user(alloc, text),
+        TokenKind::Id => Ok(parse_user_atom_that_is_id(text)),
         _ => Ok(None),
     }
 }
 
 /// Returns a host that is a word without escapes, and neither `ALL` nor an alias nor a netgroup.
-fn parse_address_network_or_host(alloc: Global, text: &[u8]) -> Result<Option<Atom>, AllocError>
-    ensures { IfOk result (λ atom. atom ≡ address_network_or_host_atom text.now (ipv4_number_of_text text.now)) }
+fn parse_address_network_or_host(text: &[u8]) -> Option<Atom<'_>>
+    ensures { result ≡ address_network_or_host_atom text.now (ipv4_number_of_text text.now) }
 {
     if let Some(address) = parse_ipv4_address(text) {
-        Ok(Some(Atom::Address(address)))
+        Some(Atom::Address(address))
     } else if is_network_like(text) {
-        Ok(parse_network_atom(text))
+        parse_network_atom(text)
     } else {
-        Ok(Some(Atom::Host(Items::from_slice(alloc, text)?)))
+        Some(Atom::Host(Text::borrowed(text)))
     }
 }
 
 /// Returns a host that is a word without escapes.
 #[tactic(auto, unfolding(crate::specs::Atom::host_atom_without_escapes))]
-fn parse_unescaped_host(alloc: Global, text: &[u8]) -> Result<Option<Atom>, AllocError>
-    ensures { IfOk result (λ atom. atom ≡ host_atom_without_escapes text.now) }
+fn parse_unescaped_host(text: &[u8]) -> Option<Atom<'_>>
+    ensures { result ≡ host_atom_without_escapes text.now }
 {
     if text == b"ALL".as_slice() {
-        Ok(Some(Atom::All))
+        Some(Atom::All)
     } else if is_name(text) {
-        Ok(Some(Atom::Alias(Items::from_slice(alloc, text)?)))
+        Some(Atom::Alias(Text::borrowed(text)))
     } else if begins_with_byte(b'+', text) {
-        Ok(read_nonempty_name(alloc, false, &text[1..])?.map(Atom::Netgroup))
+        take_if_not_empty(Text::borrowed(&text[1..])).map(Atom::Netgroup)
     } else {
-        parse_address_network_or_host(alloc, text)
+        parse_address_network_or_host(text)
     }
 }
 
 /// Returns a host.
 #[tactic(auto, unfolding(crate::specs::Atom::host_atom_of_token))]
-fn parse_host_atom(alloc: Global, kind: TokenKind, text: &[u8]) -> Result<Option<Atom>, AllocError>
+fn parse_host_atom<'a>(
+    alloc: Global,
+    kind: TokenKind,
+    text: &'a [u8],
+) -> Result<Option<Atom<'a>>, AllocError>
     ensures { IfOk result (λ atom. atom ≡ host_atom_of_token kind text.now) }
 {
     match kind {
         TokenKind::Word if has_byte(b'\\', text) => {
-            Ok(Some(Atom::Host(make_pattern_of_text(alloc, PatternSpelling::Host, text)?)))
+            Ok(Some(Atom::Host(read_pattern_of_text(alloc, PatternSpelling::Host, text)?)))
         }
-        TokenKind::Word => parse_unescaped_host(alloc, text),
-        TokenKind::Quoted => Ok(take_if_not_empty(make_pattern_of_text(
+        TokenKind::Word => Ok(parse_unescaped_host(text)),
+        TokenKind::Quoted => Ok(take_if_not_empty(read_pattern_of_text(
             alloc,
             PatternSpelling::QuotedHost,
             text,
@@ -216,34 +241,34 @@ fn parse_host_atom(alloc: Global, kind: TokenKind, text: &[u8]) -> Result<Option
 }
 
 /// Returns a command that is a word.
-fn parse_command_word(alloc: Global, text: &[u8]) -> Result<Option<Atom>, AllocError>
-    ensures { IfOk result (λ atom. atom ≡ command_atom_of_word text.now) }
+fn parse_command_word(text: &[u8]) -> Option<Atom<'_>>
+    ensures { result ≡ command_atom_of_word text.now }
 {
     if text == b"ALL".as_slice() {
-        Ok(Some(Atom::All))
+        Some(Atom::All)
     } else if text == b"list".as_slice() {
-        Ok(Some(Atom::Listing))
+        Some(Atom::Listing)
     } else if text == b"sudoedit".as_slice() {
-        Ok(Some(Atom::Sudoedit { args: Args::Any }))
+        Some(Atom::Sudoedit { args: Args::Any })
     } else if is_name(text) && !is_reserved(text) {
-        Ok(Some(Atom::Alias(Items::from_slice(alloc, text)?)))
+        Some(Atom::Alias(Text::borrowed(text)))
     } else {
-        Ok(None)
+        None
     }
 }
 
 /// Returns a command without arguments.
 #[tactic(auto, unfolding(crate::specs::Atom::command_atom_without_args))]
-pub fn parse_command_without_args(
+pub fn parse_command_without_args<'a>(
     alloc: Global,
-    part: &TokenWithText<'_>,
-) -> Result<Option<Atom>, AllocError>
+    part: &TokenWithText<'a>,
+) -> Result<Option<Atom<'a>>, AllocError>
     ensures { IfOk result (λ atom. atom ≡ command_atom_without_args part.now.kind part.now.text.now) }
 {
     match part.kind {
-        TokenKind::Word => parse_command_word(alloc, part.text),
+        TokenKind::Word => Ok(parse_command_word(part.text)),
         TokenKind::Path => Ok(Some(Atom::Path {
-            path: make_pattern_of_text(alloc, PatternSpelling::Command, part.text)?,
+            path: read_pattern_of_text(alloc, PatternSpelling::Command, part.text)?,
             args: Args::Any,
         })),
         _ => Ok(None),
@@ -252,11 +277,11 @@ pub fn parse_command_without_args(
 
 /// Returns a member of a list of this kind that is one token.
 #[tactic(auto, unfolding(crate::specs::Atom::atom_of_token))]
-pub fn parse_single_token_atom(
+pub fn parse_single_token_atom<'a>(
     alloc: Global,
     kind: Kind,
-    part: &TokenWithText<'_>,
-) -> Result<Option<Atom>, AllocError>
+    part: &TokenWithText<'a>,
+) -> Result<Option<Atom<'a>>, AllocError>
     ensures { IfOk result (λ atom. atom ≡ atom_of_token kind (model_of_token_part part.now)) }
 {
     match kind {
@@ -267,7 +292,7 @@ pub fn parse_single_token_atom(
 }
 
 /// Returns whether digests may stand before the command.
-pub fn may_have_digests(atom: &Atom) -> bool
+pub fn may_have_digests(atom: &Atom<'_>) -> bool
     ensures { result ≡ is_command_allowing_digests atom.now }
 {
     matches!(atom, Atom::All | Atom::Path { .. })
@@ -305,10 +330,10 @@ pub fn parse_option_value(
 
 /// Returns the path of an include.
 #[tactic(auto, unfolding(crate::specs::Atom::include_path_of_token))]
-pub fn parse_include_path(
+pub fn parse_include_path<'a>(
     alloc: Global,
-    part: &TokenWithText<'_>,
-) -> Result<Option<Items<u8>>, AllocError>
+    part: &TokenWithText<'a>,
+) -> Result<Option<Text<'a>>, AllocError>
     ensures { IfOk result (λ path. path ≡ include_path_of_token (model_of_token_part part.now)) }
 {
     if part.is_word() || part.is_quoted() {

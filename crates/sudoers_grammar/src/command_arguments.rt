@@ -8,7 +8,8 @@ ghost use Rattle.sudoers_grammar.specs.Arguments.{args_with_one_more};
 
 use crate::items::Items;
 use crate::node::Args;
-use crate::pattern::{PatternSpelling, make_pattern_of_text};
+use crate::pattern::{PatternSpelling, read_pattern_of_text};
+use crate::text::Text;
 use crate::token_with_text::begins_with_byte;
 use std::alloc::{AllocError, Global};
 
@@ -28,24 +29,24 @@ fn is_empty_quotes_argument(text: &[u8], pattern: &[u8]) -> bool
 }
 
 /// Appends an argument to the arguments.
-pub fn append_argument_to_args(alloc: Global, args: Args, text: &[u8]) -> Result<Args, AllocError>
-    ensures { IfOk result (λ more. more ≡ args_with_one_more args text.now) }
+pub fn append_argument_to_args<'a>(
+    alloc: Global,
+    args: Args<'a>,
+    text: &'a [u8],
+) -> Result<Args<'a>, AllocError>
+    ensures { IfOk result (λ more. more ≡ args_with_one_more args.entry text.now) }
 {
-    let pattern = make_pattern_of_text(alloc, PatternSpelling::Command, text)?;
+    let pattern = read_pattern_of_text(alloc, PatternSpelling::Command, text)?;
     match args {
         Args::Any if is_empty_quotes_argument(text, pattern.as_slice()) => Ok(Args::Nothing),
         Args::Any => Ok(Args::Pattern(pattern)),
-        Args::Nothing => join_args_with_blank(Items::from_slice(alloc, b"\"\"")?, pattern),
-        Args::Pattern(first) => join_args_with_blank(first, pattern),
+        Args::Nothing => {
+            let first = Text::borrowed(b"\"\"");
+            Ok(Args::Pattern(first.join_with_blank(alloc, pattern.as_slice())?))
+        }
+        Args::Pattern(first) => Ok(Args::Pattern(first.join_with_blank(
+            alloc,
+            pattern.as_slice(),
+        )?)),
     }
-}
-
-/// Arguments with a blank between them.
-fn join_args_with_blank(first: Items<u8>, last: Items<u8>) -> Result<Args, AllocError>
-    ensures { IfOk result (λ args. args ≡ Args.Pattern (first ++ 32 ∷ last)) }
-{
-    let mut all = first;
-    all.push(b' ')?;
-    all.extend_from_slice(last.as_slice())?;
-    Ok(Args::Pattern(all))
 }

@@ -1,6 +1,6 @@
 //! What one line of a policy says.
 
-use crate::items::Items;
+use crate::text::Text;
 
 /// The kind of an alias, and of the members of a list (sudoers(5), Aliases).
 #[derive(Clone, Copy, Debug, PartialEq, Eq)]
@@ -61,25 +61,25 @@ pub enum DigestKind {
 
 /// What a member is, its `!` aside. Names are without quotes and escapes, patterns keep the escapes that wildcards need.
 #[derive(Drop)]
-pub enum Atom {
+pub enum Atom<'a> {
     /// `ALL`
     All,
     /// The name of an alias.
-    Alias(Items<u8>),
+    Alias(Text<'a>),
     /// A user, or in the groups of a runas part a group, by name.
-    Name(Items<u8>),
+    Name(Text<'a>),
     /// The same by number: `#uid`, `#gid`.
     Id(u32),
     /// The users of a group, or there the group: `%group`.
-    Group(Items<u8>),
+    Group(Text<'a>),
     /// The same by the group's number: `%#gid`.
     GroupId(u32),
     /// `%:group`
-    NonUnix(Items<u8>),
+    NonUnix(Text<'a>),
     /// `+netgroup`
-    Netgroup(Items<u8>),
+    Netgroup(Text<'a>),
     /// A host's name, with wildcards.
-    Host(Items<u8>),
+    Host(Text<'a>),
     /// A host by its address.
     Address(Address),
     /// The hosts of a network.
@@ -87,9 +87,9 @@ pub enum Atom {
     /// The command `list`.
     Listing,
     /// A command or the commands of a directory, with wildcards.
-    Path { path: Items<u8>, args: Args },
+    Path { path: Text<'a>, args: Args<'a> },
     /// The command `sudoedit`.
-    Sudoedit { args: Args },
+    Sudoedit { args: Args<'a> },
 }
 
 /// An IPv4 address as a number, the first part highest.
@@ -108,11 +108,11 @@ pub enum Mask {
 
 /// What is said of a command's arguments.
 #[derive(Drop)]
-pub enum Args {
+pub enum Args<'a> {
     /// Nothing: any arguments do.
     Any,
     /// `""`: there are none.
     Nothing,
     /// They match this, joined by single spaces.
-    Pattern(Items<u8>),
+    Pattern(Text<'a>),
 }

@@ -133,7 +133,7 @@ fn parse_network_mask(text: &[u8]) -> Option<Mask>
 
 /// Returns an address, `/` and a mask.
 #[tactic(auto, unfolding(crate::specs::Number::network_atom_of_text))]
-pub fn parse_network_atom(text: &[u8]) -> Option<Atom>
+pub fn parse_network_atom<'a>(text: &[u8]) -> Option<Atom<'a>>
     ensures { result ≡ network_atom_of_text text.now }
 {
     let (front, back) = split_at_first_byte(b'/', text)?;

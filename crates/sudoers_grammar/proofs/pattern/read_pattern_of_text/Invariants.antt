@@ -1,6 +1,6 @@
 use Rattle.std.proofs.Common.{◌≡◌, ◌++◌, ◌-◌, ◌≤◌, length, drop}
 use Rattle.sudoers_grammar.specs.Pattern.{pattern_of_remaining_bytes, pattern_of_text}
-use Rattle.sudoers_grammar.proofs.pattern.make_pattern_of_text.Given as goal
+use Rattle.sudoers_grammar.proofs.pattern.read_pattern_of_text.Given as goal
 
 -- what has been appended and what is left are the whole
 abbrev pub invariant-loop-at : goal.invariant-loop-at
