@@ -17,3 +17,4 @@ pub mod SoFar
 pub mod WordRows
 pub mod ArgumentRows
 pub mod Contract
+mod FaultOfLine

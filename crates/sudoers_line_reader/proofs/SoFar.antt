@@ -18,6 +18,20 @@ pub record IsRepetitionReadSoFar {R X : Type 0} (view : Tables → R → X) (beg
   pub lasts : (u : Tables) → TablesHaveGrown now u → map (view u) rows ≡ map (view now) rows
   pub grown : TablesHaveGrown begun now
 
+-- One row was read before the loop.
+pub one_row_is_read : {R X : Type 0} (view : Tables → R → X) (begins : TokenWithBytes → Bool) (p : TokenReader X) (t : Tables) (all : List TokenWithBytes) (row : R) (rows : List R) → RowMeaningLasts view t row → rows ≡ row ∷ [] → IsRepetitionReadSoFar view begins p (view t row ∷ []) t all t all rows
+one_row_is_read view begins p t all row rows lasts is = record {
+  reads = ap (λ rs. repetition_reader snoc begins p (map (view t) rs) all) (sym is);
+  lasts = λ u later. ap (map (view u)) is ∙ ap (λ x. x ∷ []) (lasts u later) ∙ ap (map (view t)) (sym is);
+  grown = tables_have_grown_from_themselves t;
+}
+
+-- Nothing was read before the row that halts.
+pub first_row_halts : {R X S : Type 0} (view : Tables → R → X) (begins : TokenWithBytes → Bool) (p : TokenReader X) → ReaderConsumesTokens p → (lists : Tables → S → List X) (all : List TokenWithBytes) (next : Tables) (end : List TokenWithBytes) (h : HaltCause)
+    → is_next_token begins all ≡ true → RowReadsAsOutcome (p all) view next (Err h) end → RowReadsAsOutcome (repetition_reader snoc begins p [] all) lists next (Err h) end
+first_row_halts view begins p sh lists all next end Fault c e = next_halt snoc begins p sh [] all end c e
+first_row_halts view begins p sh lists all next end NoMemory c e = tt
+
 module _ {R X : Type 0} {view : Tables → R → X} {begins : TokenWithBytes → Bool} {p : TokenReader X} {acc : List X} {begun : Tables} {all : List TokenWithBytes} {now : Tables} {left : List TokenWithBytes} {rows : List R} (sh : ReaderConsumesTokens p) (so : IsRepetitionReadSoFar view begins p acc begun all now left rows) where
   pub next_taken : (next : Tables) (behind_it : List TokenWithBytes) (row : R) → is_next_token begins left ≡ true → p left ≡ Read (view next row) behind_it → RowMeaningLasts view next row → TablesHaveGrown now next → IsRepetitionReadSoFar view begins p acc begun all next behind_it (rows ++ row ∷ [])
   next_taken next behind_it row c e lasts g = record {

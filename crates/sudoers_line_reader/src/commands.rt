@@ -25,11 +25,11 @@ use sudoers_line_rows::{
 };
 
 /// Reads the arguments behind the first, and returns all of them, and where the last ends.
-fn add_further_arguments_to_first(
+fn add_further_arguments_to_first<'a>(
     alloc: Global,
-    cursor: &mut TokenCursor<'_>,
-    first: &TokenWithText<'_>,
-) -> ReadResult<(Args, usize)>
+    cursor: &mut TokenCursor<'a>,
+    first: &TokenWithText<'a>,
+) -> ReadResult<(Args<'a>, usize)>
     ensures { ReadsAsOutcome (repetition_reader args_and_stop_with_one_more is_argument_token (passing_token_reader is_argument_token) (args_with_one_more Any first.now.text.now, first.now.stop) cursor.old) value_itself result cursor.new }
 {
     let mut args = append_argument_to_args(alloc, Args::Any, first.text)?;

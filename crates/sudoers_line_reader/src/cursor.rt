@@ -2,17 +2,21 @@
 
 ghost use Rattle.std.specs.Prelude.{◌≡◌, Bool, Option, drop, length, map, not, option_and_then, option_map};
 ghost use Rattle.sudoers_grammar.specs.Seen.{model_of_token_part};
-ghost use Rattle.sudoers_grammar.specs.Piece.{TokenWithBytes, is_mark_of_byte, is_alias_name, alias_kind_of_token, include_is_dir_of_token, option_of_token, tag_and_sign_of_token, digest_kind_of_token, operator_of_token, scope_kind_of_sign_token_after};
+ghost use Rattle.sudoers_text.specs.LineMode.{line_mode};
+ghost use Rattle.sudoers_text.specs.Found.{tokens_of_line};
+ghost use Rattle.sudoers_grammar.specs.Piece.{TokenWithBytes, tokens_with_bytes, is_mark_of_byte, is_alias_name, alias_kind_of_token, include_is_dir_of_token, option_of_token, tag_and_sign_of_token, digest_kind_of_token, operator_of_token, scope_kind_of_sign_token_after};
 ghost use Rattle.sudoers_grammar.specs.Grammar.{is_defaults, start_of_first_token};
 ghost use Rattle.sudoers_line_reader.specs.Reader.{is_next_token, one_token_reader, passing_token_reader};
 ghost use Rattle.sudoers_line_reader.specs.Descent.{is_any_token, is_argument_token, is_comment_token, is_digest_token, is_argument_token_but_no_regex, is_inside_runas_users, is_parameter_name_token, has_meaning_by, is_parameter_value_token};
 ghost use Rattle.sudoers_line_reader.specs.internal.Cursor.{first_token_option, value_itself, ReadsAsOutcome};
+ghost use Rattle.sudoers_line_reader.specs.internal.Source.{tokens_of_source};
 
 use std::alloc::AllocError;
 use std::marker::Model;
 use sudoers_grammar::{
-    DigestKind, Kind, Operator, OptionName, Tag, TokenWithText, begins_with_byte,
+    DigestKind, Kind, Operator, OptionName, Tag, TokenWithText, add_text_to_token, begins_with_byte,
 };
+use sudoers_text::{LineTokens, choose_line_mode};
 
 /// Why a reader halts.
 #[derive(Clone, Copy)]
@@ -37,54 +41,92 @@ impl From<AllocError> for HaltCause {
     }
 }
 
+/// Where the tokens behind the next one come from.
+#[derive(Drop)]
+enum TokenSource<'a> {
+    /// A line, in which each is found as it is taken.
+    Line(LineTokens<'a>),
+    /// These tokens.
+    List(&'a [TokenWithText<'a>]),
+}
+
+impl<'a> TokenSource<'a> {
+    /// Takes the next token, if there is one.
+    fn take_next(&mut self) -> Option<TokenWithText<'a>>
+        ensures next { option_map model_of_token_part result ≡ first_token_option (tokens_of_source self.old) }
+        ensures left { tokens_of_source self.new ≡ drop 1 (tokens_of_source self.old) }
+    {
+        match self {
+            TokenSource::Line(left) => {
+                let line = left.line();
+                let token = left.take_next_token()?;
+                Some(add_text_to_token(line, &token))
+            }
+            TokenSource::List(tokens) => {
+                let [token, left @ ..] = *tokens else {
+                    return None;
+                };
+                *tokens = left;
+                Some(*token)
+            }
+        }
+    }
+}
+
 /// The tokens that are left of a line.
 #[derive(Drop)]
 pub struct TokenCursor<'a> {
-    left: &'a [TokenWithText<'a>],
+    next: Option<TokenWithText<'a>>,
+    behind: TokenSource<'a>,
 }
 
 impl<'a> Model for TokenCursor<'a> {
-    ghost use Rattle.std.specs.Prelude.{List, map};
+    ghost use Rattle.std.specs.Prelude.{List};
     ghost use Rattle.sudoers_grammar.specs.Piece.{TokenWithBytes};
-    ghost use Rattle.sudoers_grammar.specs.Seen.{model_of_token_part};
+    ghost use Rattle.sudoers_line_reader.specs.internal.Source.{tokens_from_next, tokens_of_source};
 
     ghost Value = { List TokenWithBytes };
 
-    ghost view = { λ c. map model_of_token_part c.left.now };
+    ghost view = { λ c. tokens_from_next c.next (tokens_of_source c.behind) };
 }
 
 impl<'a> TokenCursor<'a> {
+    /// Returns a cursor before all tokens of `source`.
+    fn at_source(source: TokenSource<'a>) -> Self
+        ensures { result ≡ tokens_of_source source.entry }
+    {
+        let mut behind = source;
+        let next = behind.take_next();
+        TokenCursor { next, behind }
+    }
+
+    /// Returns a cursor before all tokens of `line`.
+    pub fn of_line(line: &'a [u8]) -> Self
+        ensures { result ≡ tokens_with_bytes line.now (tokens_of_line (line_mode line.now) line.now) }
+    {
+        Self::at_source(TokenSource::Line(LineTokens::of_line(line, choose_line_mode(line))))
+    }
+
     /// Returns a cursor before all these tokens.
     pub fn new(left: &'a [TokenWithText<'a>]) -> Self
         ensures { result ≡ map model_of_token_part left.now }
     {
-        TokenCursor { left }
+        Self::at_source(TokenSource::List(left))
     }
 
     /// Returns the next token.
     pub fn peek(&self) -> Option<TokenWithText<'a>>
         ensures { option_map model_of_token_part result ≡ first_token_option self.now }
     {
-        match self.left {
-            [] => None,
-            [part, ..] => Some(*part),
-        }
-    }
-
-    /// Returns how many tokens are left.
-    pub fn len(&self) -> usize
-        ensures { result ≡ length self.now }
-    {
-        self.left.len()
+        self.next
     }
 
     /// Passes the next token.
     pub fn pass_next_token(&mut self)
         ensures { self.new ≡ drop 1 self.old }
     {
-        match self.left {
-            [] => {}
-            [_, left @ ..] => self.left = left,
+        if self.next.is_some() {
+            self.next = self.behind.take_next();
         }
     }
 

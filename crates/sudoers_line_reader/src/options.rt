@@ -113,7 +113,7 @@ pub fn read_command_options(
     ensures reads { RowReadsAsOutcome (repetition_reader snoc (has_meaning_by option_of_token) option_reader [] cursor.old) options_of_range_in_tables tables.new result cursor.new }
     ensures grown { TablesHaveGrown tables.old tables.new }
 {
-    read_repeated_rows(OptionReader, Vec::new(alloc), alloc, cursor, tables)
+    read_repeated_rows(OptionReader, alloc, cursor, tables)
 }
 
 /// Reads the tags of a command.
@@ -126,5 +126,5 @@ pub fn read_command_tags(
     ensures reads { RowReadsAsOutcome (repetition_reader snoc (has_meaning_by tag_and_sign_of_token) tag_reader [] cursor.old) tags_of_range_in_tables tables.new result cursor.new }
     ensures grown { TablesHaveGrown tables.old tables.new }
 {
-    read_repeated_rows(TagReader, Vec::new(alloc), alloc, cursor, tables)
+    read_repeated_rows(TagReader, alloc, cursor, tables)
 }

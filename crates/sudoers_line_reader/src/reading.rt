@@ -1,7 +1,9 @@
 //! What a line says, read into tables.
 
-ghost use Rattle.std.specs.Prelude.{◌≡◌, ◌≤◌, ℕ, false, length, map, All, IfErr, IfOk, OnErr};
+ghost use Rattle.std.specs.Prelude.{◌≡◌, ◌≤◌, ◌-◌, ℕ, false, length, map, All, IfErr, IfOk, OnErr};
 ghost use Rattle.sudoers_text.specs.Token.{IsTokenWithinLine};
+ghost use Rattle.sudoers_text.specs.LineMode.{line_mode};
+ghost use Rattle.sudoers_text.specs.Found.{tokens_of_line};
 ghost use Rattle.sudoers_grammar.specs.Fault.{syntax_fault_cause, sample_name_word, sample_time_stamp, sample_path_token};
 ghost use Rattle.sudoers_grammar.specs.declared.fault.Why.{Why as WhyOf};
 ghost use Rattle.sudoers_grammar.specs.Node.{Node as NodeOf};
@@ -10,6 +12,7 @@ ghost use Rattle.sudoers_line_rows.specs.View.{node_of_view};
 ghost use Rattle.sudoers_grammar.specs.Piece.{tokens_with_bytes};
 ghost use Rattle.sudoers_grammar.specs.Seen.{model_of_token_part};
 ghost use Rattle.sudoers_line_reader.specs.Descent.{expected_tokens_after, whole_line_reader as reading, is_token_allowed_after};
+ghost use Rattle.sudoers_line_reader.specs.Reader.{Halt};
 ghost use Rattle.sudoers_line_reader.specs.Outcome.{RowShowsOutcomeOrNoMemory, IsLineOutcomeOrNoMemory, fault_after_tokens, line_outcome_of_reading, outcome_of_line};
 ghost use Rattle.sudoers_line_rows.specs.Tables.{TablesHaveGrown};
 
@@ -134,32 +137,35 @@ fn find_fault_after_tokens(
     }
 }
 
-/// Reads the tokens of a line that ends at the byte `stop`.
-fn read_tokens_or_fault(
-    alloc: Global,
-    tables: &mut Tables,
-    parts: &[TokenWithText<'_>],
-    stop: usize,
-) -> Result<NodeRow, LineFault>
-    ensures gives { RowShowsOutcomeOrNoMemory tables.new result (line_outcome_of_reading stop (map model_of_token_part parts.now) (reading (map model_of_token_part parts.now))) }
-    ensures grown { TablesHaveGrown tables.old tables.new }
-    ensures refused { OnErr result (TablesHaveGrown tables.new tables.old) }
+/// Returns how many of `parts` stand before the tokens that are left.
+fn count_tokens_before(parts: &[TokenWithText<'_>], left: TokenCursor<'_>) -> usize
+    ensures value { result ≡ length parts.now - length left.entry }
+    ensures within { result ≤ length parts.now }
 {
-    let counts = tables.row_counts();
-    let mut cursor = TokenCursor::new(parts);
-    match read_whole(alloc, &mut cursor, tables) {
-        Ok(row) => Ok(row),
-        Err(halted) => {
-            tables.cut_back_to_counts(counts);
-            match halted {
-                HaltCause::NoMemory => Err(LineFault::NoMemory),
-                HaltCause::Fault => {
-                    let count = parts.len().saturating_sub(cursor.len());
-                    Err(find_fault_after_tokens(alloc, parts, count, stop)?)
-                }
-            }
-        }
+    let mut left = left;
+    let mut before = parts.len();
+    while before > 0 && !left.has_no_tokens_left() {
+        left.pass_next_token();
+        before -= 1;
     }
+    before
+}
+
+/// Returns the fault of the line `line`, before whose tokens `left` its reader halted.
+fn find_fault_of_line(
+    alloc: Global,
+    line: &[u8],
+    left: TokenCursor<'_>,
+) -> Result<LineFault, AllocError>
+    ensures { IfOk result (λ fault. reading (tokens_with_bytes line.now (tokens_of_line (line_mode line.now) line.now)) ≡ Halt left.entry → outcome_of_line line.now ≡ Err fault) }
+{
+    let Ok(tokens) = tokens(alloc, line, choose_line_mode(line)) else {
+        return Err(AllocError);
+    };
+    let parts = add_texts_to_tokens(alloc, line, tokens.as_slice())?;
+    let stop = line.len() - final_line_end_len(line);
+    let count = count_tokens_before(parts.as_slice(), left);
+    find_fault_after_tokens(alloc, parts.as_slice(), count, stop)
 }
 
 /// Reads one logical line into the tables (sudoers(5), SUDOERS FILE FORMAT). It does not check limits, reserved words or
@@ -177,12 +183,18 @@ pub fn read_line(alloc: Global, tables: &mut Tables, line: &[u8]) -> Result<Node
     // A line that is refused leaves no row.
     ensures refused { OnErr result (TablesHaveGrown tables.new tables.old) }
 {
-    let Ok(tokens) = tokens(alloc, line, choose_line_mode(line)) else {
-        return Err(LineFault::NoMemory);
-    };
-    let parts = add_texts_to_tokens(alloc, line, tokens.as_slice())?;
-    let stop = line.len() - final_line_end_len(line);
-    read_tokens_or_fault(alloc, tables, parts.as_slice(), stop)
+    let counts = tables.row_counts();
+    let mut cursor = TokenCursor::of_line(line);
+    match read_whole(alloc, &mut cursor, tables) {
+        Ok(row) => Ok(row),
+        Err(halted) => {
+            tables.cut_back_to_counts(counts);
+            match halted {
+                HaltCause::NoMemory => Err(LineFault::NoMemory),
+                HaltCause::Fault => Err(find_fault_of_line(alloc, line, cursor)?),
+            }
+        }
+    }
 }
 
 /// What one line says. Contracts see what it says as a value.

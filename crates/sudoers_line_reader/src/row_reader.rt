@@ -3,14 +3,17 @@
 ghost use Rattle.std.specs.Prelude.{◌≡◌, ◌∷◌, ◌++◌, [], Bool, map, OnOk};
 ghost use Rattle.sudoers_grammar.specs.Piece.{TokenWithBytes, is_mark_of_byte};
 ghost use Rattle.sudoers_line_rows.specs.declared.rows.Tables.{Tables as TablesOf};
-ghost use Rattle.sudoers_line_rows.specs.Tables.{TablesHaveGrown, values_of_row_range};
+ghost use Rattle.sudoers_line_rows.specs.Tables.{TablesHaveGrown, RowMeaningLasts, values_of_row_range};
 ghost use Rattle.sudoers_line_reader.specs.Reader.{TokenReader, ReaderConsumesTokens, reader_after_mark, is_next_token, repetition_reader, separated_list_reader, snoc};
 ghost use Rattle.sudoers_line_reader.specs.internal.Answer.{RowReadsAsOutcome};
 
 use crate::cursor::{ReadResult, TokenCursor};
 use crate::table_rows::TableRow;
 use std::alloc::{AllocError, Global};
-use sudoers_line_rows::{RowRange, Tables};
+use sudoers_line_rows::{NONE, RowRange, Tables};
+
+/// For how many rows of a list there is room at once.
+const FEW_ROWS: usize = 4;
 
 /// A reader of rows of one kind.
 pub trait RowReader: Copy {
@@ -85,25 +88,47 @@ fn push<T: Drop>(rows: &mut Vec<T>, row: T) -> Result<(), AllocError>
     Ok(())
 }
 
-/// Reads rows while they come, and keeps them behind these.
-pub fn read_repeated_rows<R: LookaheadRowReader>(
+/// Reads rows while they come, and keeps them behind `first`. Where none comes, no list of rows is made.
+fn read_further_rows<R: LookaheadRowReader>(
     reader: R,
-    rows: Vec<R::Row>,
+    first: R::Row,
     alloc: Global,
     cursor: &mut TokenCursor<'_>,
     tables: &mut Tables,
 ) -> ReadResult<RowRange>
     requires shrinks { ReaderConsumesTokens (R.rule reader) }
-    requires last { (u : TablesOf) → TablesHaveGrown tables.now u → map (R.said u) rows.items ≡ map (R.said tables.now) rows.items }
-    ensures reads { RowReadsAsOutcome (repetition_reader snoc (R.begins reader) (R.rule reader) (map (R.said tables.old) rows.items) cursor.old) (λ t. values_of_row_range (R.Row.table t) (R.said t)) tables.new result cursor.new }
+    requires lasts { RowMeaningLasts (R.said) tables.now first }
+    ensures reads { RowReadsAsOutcome (repetition_reader snoc (R.begins reader) (R.rule reader) (R.said tables.old first ∷ []) cursor.old) (λ t. values_of_row_range (R.Row.table t) (R.said t)) tables.new result cursor.new }
     ensures grown { TablesHaveGrown tables.old tables.new }
 {
-    let mut rows = rows;
+    if !reader.comes(cursor) {
+        return Ok(R::Row::keep_one(tables, first)?);
+    }
+    let mut rows = Vec::with_capacity(alloc, FEW_ROWS)?;
+    push(&mut rows, first)?;
     while reader.comes(cursor) {
         let next = reader.read(alloc, cursor, tables)?;
         push(&mut rows, next)?;
     }
     Ok(R::Row::keep(tables, rows.as_slice())?)
+}
+
+/// Reads rows while they come, and keeps them.
+pub fn read_repeated_rows<R: LookaheadRowReader>(
+    reader: R,
+    alloc: Global,
+    cursor: &mut TokenCursor<'_>,
+    tables: &mut Tables,
+) -> ReadResult<RowRange>
+    requires { ReaderConsumesTokens (R.rule reader) }
+    ensures reads { RowReadsAsOutcome (repetition_reader snoc (R.begins reader) (R.rule reader) [] cursor.old) (λ t. values_of_row_range (R.Row.table t) (R.said t)) tables.new result cursor.new }
+    ensures grown { TablesHaveGrown tables.old tables.new }
+{
+    if !reader.comes(cursor) {
+        return Ok(NONE);
+    }
+    let first = reader.read(alloc, cursor, tables)?;
+    read_further_rows(reader, first, alloc, cursor, tables)
 }
 
 /// Reads rows with this mark between two, and keeps them.
@@ -119,11 +144,9 @@ pub fn read_separated_rows<R: RowReader>(
     ensures grown { TablesHaveGrown tables.old tables.new }
 {
     let first = reader.read(alloc, cursor, tables)?;
-    let mut rows = Vec::new(alloc);
-    push(&mut rows, first)?;
-    read_repeated_rows(
+    read_further_rows(
         AfterMarkReader { mark, reader },
-        rows,
+        first,
         alloc,
         cursor,
         tables,

@@ -1,6 +1,6 @@
 //! Rows that stand in tables, each kind in its own.
 
-ghost use Rattle.std.specs.Prelude.{◌≡◌, ◌++◌, List, length, IfOk};
+ghost use Rattle.std.specs.Prelude.{◌≡◌, [], ◌∷◌, ◌++◌, List, length, IfOk};
 ghost use Rattle.sudoers_line_rows.specs.declared.rows.Tables.{Tables as TablesOf};
 ghost use Rattle.sudoers_line_rows.specs.Tables.{TablesHaveGrown, IsExtendedList, IsRowRangeFromTo};
 
@@ -19,6 +19,11 @@ pub trait TableRow: Copy + Drop {
         ensures kept { IfOk result (λ r. (table tables.new ≡ table tables.old ++ rows.now) × IsRowRangeFromTo r (length (table tables.old)) (length (table tables.new))) }
         ensures grown { TablesHaveGrown tables.old tables.new };
 
+    /// Appends a row to its table.
+    fn keep_one(tables: &mut Tables, row: Self) -> Result<RowRange, AllocError>
+        ensures kept { IfOk result (λ r. (table tables.new ≡ table tables.old ++ row ∷ []) × IsRowRangeFromTo r (length (table tables.old)) (length (table tables.new))) }
+        ensures grown { TablesHaveGrown tables.old tables.new };
+
     ghost grows: { (t u : TablesOf) → TablesHaveGrown t u → IsExtendedList (table t) (table u) };
 }
 
@@ -30,6 +35,10 @@ impl TableRow for DigestRow {
     fn keep(tables: &mut Tables, rows: &[Self]) -> Result<RowRange, AllocError> {
         append_table_rows(&mut tables.digests, rows)
     }
+
+    fn keep_one(tables: &mut Tables, row: Self) -> Result<RowRange, AllocError> {
+        append_table_rows(&mut tables.digests, &[row])
+    }
 }
 
 impl TableRow for MemberRow {
@@ -39,6 +48,10 @@ impl TableRow for MemberRow {
 
     fn keep(tables: &mut Tables, rows: &[Self]) -> Result<RowRange, AllocError> {
         append_table_rows(&mut tables.members, rows)
+    }
+
+    fn keep_one(tables: &mut Tables, row: Self) -> Result<RowRange, AllocError> {
+        append_table_rows(&mut tables.members, &[row])
     }
 }
 
@@ -50,6 +63,10 @@ impl TableRow for OptionRow {
     fn keep(tables: &mut Tables, rows: &[Self]) -> Result<RowRange, AllocError> {
         append_table_rows(&mut tables.options, rows)
     }
+
+    fn keep_one(tables: &mut Tables, row: Self) -> Result<RowRange, AllocError> {
+        append_table_rows(&mut tables.options, &[row])
+    }
 }
 
 impl TableRow for TagRow {
@@ -59,6 +76,10 @@ impl TableRow for TagRow {
 
     fn keep(tables: &mut Tables, rows: &[Self]) -> Result<RowRange, AllocError> {
         append_table_rows(&mut tables.tags, rows)
+    }
+
+    fn keep_one(tables: &mut Tables, row: Self) -> Result<RowRange, AllocError> {
+        append_table_rows(&mut tables.tags, &[row])
     }
 }
 
@@ -70,6 +91,10 @@ impl TableRow for CommandRow {
     fn keep(tables: &mut Tables, rows: &[Self]) -> Result<RowRange, AllocError> {
         append_table_rows(&mut tables.commands, rows)
     }
+
+    fn keep_one(tables: &mut Tables, row: Self) -> Result<RowRange, AllocError> {
+        append_table_rows(&mut tables.commands, &[row])
+    }
 }
 
 impl TableRow for HostGroupRow {
@@ -79,6 +104,10 @@ impl TableRow for HostGroupRow {
 
     fn keep(tables: &mut Tables, rows: &[Self]) -> Result<RowRange, AllocError> {
         append_table_rows(&mut tables.groups, rows)
+    }
+
+    fn keep_one(tables: &mut Tables, row: Self) -> Result<RowRange, AllocError> {
+        append_table_rows(&mut tables.groups, &[row])
     }
 }
 
@@ -90,6 +119,10 @@ impl TableRow for AliasDefinitionRow {
     fn keep(tables: &mut Tables, rows: &[Self]) -> Result<RowRange, AllocError> {
         append_table_rows(&mut tables.defs, rows)
     }
+
+    fn keep_one(tables: &mut Tables, row: Self) -> Result<RowRange, AllocError> {
+        append_table_rows(&mut tables.defs, &[row])
+    }
 }
 
 impl TableRow for ParamRow {
@@ -99,5 +132,9 @@ impl TableRow for ParamRow {
 
     fn keep(tables: &mut Tables, rows: &[Self]) -> Result<RowRange, AllocError> {
         append_table_rows(&mut tables.params, rows)
+    }
+
+    fn keep_one(tables: &mut Tables, row: Self) -> Result<RowRange, AllocError> {
+        append_table_rows(&mut tables.params, &[row])
     }
 }

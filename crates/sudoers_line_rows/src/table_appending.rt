@@ -59,7 +59,7 @@ pub fn store_text(tables: &mut Tables, text: &[u8]) -> Result<ByteRange, AllocEr
 }
 
 /// Keeps the arguments of a command.
-pub fn store_command_args(tables: &mut Tables, args: &Args) -> Result<ArgsRow, AllocError>
+pub fn store_command_args(tables: &mut Tables, args: &Args<'_>) -> Result<ArgsRow, AllocError>
     ensures keeps { IfOk result (λ r. RowMeansForGood args_in_tables tables.new r args.now) }
     ensures grown { TablesHaveGrown tables.old tables.new }
 {
@@ -71,7 +71,7 @@ pub fn store_command_args(tables: &mut Tables, args: &Args) -> Result<ArgsRow, A
 }
 
 /// Keeps what a member is.
-pub fn store_atom(tables: &mut Tables, atom: &Atom) -> Result<AtomRow, AllocError>
+pub fn store_atom(tables: &mut Tables, atom: &Atom<'_>) -> Result<AtomRow, AllocError>
     ensures keeps { IfOk result (λ r. RowMeansForGood atom_in_tables tables.new r atom.now) }
     ensures grown { TablesHaveGrown tables.old tables.new }
 {

@@ -1,21 +1,34 @@
-use Rattle.std.proofs.Common.{◌≡◌, ◌-◌, ℕ, List, map, ap, subst, ◌∙◌, length}
+use Rattle.std.proofs.Common.{ℕ, List, sym, ap, ◌∙◌}
 use Rattle.sudoers_text.specs.LineMode.{line_mode}
 use Rattle.sudoers_text.specs.Found.{tokens_of_line}
 use Rattle.sudoers_grammar.specs.Piece.{TokenWithBytes, tokens_with_bytes}
 use Rattle.sudoers_grammar.specs.Line.{line_stop_before_line_end}
-use Rattle.sudoers_grammar.specs.Seen.{model_of_token_part}
 use Rattle.sudoers_line_reader.specs.Descent.{whole_line_reader as reading}
-use Rattle.sudoers_line_reader.specs.Outcome.{RowShowsOutcomeOrNoMemory, line_outcome_of_reading, outcome_of_line}
+use Rattle.sudoers_line_reader.specs.Outcome.{line_outcome_of_reading, outcome_of_line}
+use Rattle.sudoers_line_rows.proofs.CutBack.{cut_grown, cut_back, on_err_holds_if_claim_holds}
 use Rattle.sudoers_line_reader.proofs.reading.read_line.Goals as goal
 
-pub returns-clause-gives : goal.returns-clause-gives
+pub returns-in_err-find_fault_of_line-in-Fault-clause-grown : goal.returns-in_err-find_fault_of_line-in-Fault-clause-grown
+returns-in_err-find_fault_of_line-in-Fault-clause-grown c = cut_grown _ _ _ _ c.row_counts-counts.ensures c.in-Err.ensures.grown c.cut_back_to_counts.ensures
+
+pub returns-in_err-find_fault_of_line-in-Fault-clause-refused : goal.returns-in_err-find_fault_of_line-in-Fault-clause-refused
+returns-in_err-find_fault_of_line-in-Fault-clause-refused c = on_err_holds_if_claim_holds _ (cut_back _ _ _ _ c.row_counts-counts.ensures c.in-Err.ensures.grown c.cut_back_to_counts.ensures)
+
+pub returns-in-NoMemory-clause-grown : goal.returns-in-NoMemory-clause-grown
+returns-in-NoMemory-clause-grown c = cut_grown _ _ _ _ c.row_counts-counts.ensures c.in-Err.ensures.grown c.cut_back_to_counts.ensures
+
+pub returns-in-NoMemory-clause-refused : goal.returns-in-NoMemory-clause-refused
+returns-in-NoMemory-clause-refused c = cut_back _ _ _ _ c.row_counts-counts.ensures c.in-Err.ensures.grown c.cut_back_to_counts.ensures
+
+pub returns-in_ok-find_fault_of_line-in-Fault-clause-grown : goal.returns-in_ok-find_fault_of_line-in-Fault-clause-grown
+returns-in_ok-find_fault_of_line-in-Fault-clause-grown c = cut_grown _ _ _ _ c.row_counts-counts.ensures c.in-Err.ensures.grown c.cut_back_to_counts.ensures
+
+pub returns-in_ok-find_fault_of_line-in-Fault-clause-refused : goal.returns-in_ok-find_fault_of_line-in-Fault-clause-refused
+returns-in_ok-find_fault_of_line-in-Fault-clause-refused c = cut_back _ _ _ _ c.row_counts-counts.ensures c.in-Err.ensures.grown c.cut_back_to_counts.ensures
+
+pub returns-in-Ok-clause-gives : goal.returns-in-Ok-clause-gives
 unfolding outcome_of_line
-returns-clause-gives c =
+returns-in-Ok-clause-gives c =
     let line : List ℕ = c.args.line.now in
-    let tokens_are : c.in-Ok.tokens.items ≡ tokens_of_line (line_mode line) line =
-    subst (λ m. c.in-Ok.tokens.items ≡ tokens_of_line m line) c.choose_line_mode.ensures c.in-Ok.ensures.outcome in
-    let parts : map model_of_token_part c.as_slice-2.result.now ≡ tokens_with_bytes line (tokens_of_line (line_mode line) line) =
-    ap (map model_of_token_part) c.as_slice-2.ensures.value ∙ c.in_ok-parts.ensures ∙ ap (tokens_with_bytes line) (c.as_slice.ensures.value ∙ tokens_are) in
-    let stop : length line - c.final_line_end_len.result ≡ line_stop_before_line_end line = ap (λ n. length line - n) c.final_line_end_len.ensures.value in
-    subst (λ (ts : List TokenWithBytes). RowShowsOutcomeOrNoMemory c.read_tokens_or_fault.new.tables c.read_tokens_or_fault.result (line_outcome_of_reading (line_stop_before_line_end line) ts (reading ts))) parts
-    (subst (λ (at : ℕ). RowShowsOutcomeOrNoMemory c.read_tokens_or_fault.new.tables c.read_tokens_or_fault.result (line_outcome_of_reading at (map model_of_token_part c.as_slice-2.result.now) (reading (map model_of_token_part c.as_slice-2.result.now)))) stop c.read_tokens_or_fault.ensures.gives)
+    let tokens : List TokenWithBytes = tokens_with_bytes line (tokens_of_line (line_mode line) line) in
+    (ap (line_outcome_of_reading (line_stop_before_line_end line) tokens) (ap reading (sym c.of_line-cursor.ensures) ∙ c.in-Ok.ensures.reads.0), c.in-Ok.ensures.reads.1)
