@@ -125,6 +125,8 @@ INNER = {
     "check::DefinitionNumbers::new": "check::check",
     "check::list_unused_definitions_of_walk": "check::unused",
     "check::mark_used_definitions": "cvt::expand_policy",
+    "match_member::GroupNumberSet::add": "list_people::who_for",
+    "match_member::Groups::from_vec": "list_people::who_for",
     "match_list::AcyclicWalk::make_verdict_cache": "match::answer",
     "match_list::AcyclicWalk::new": "match::answer",
     "match_list::AliasVerdictCache::find_last_hit": "match::answer",

@@ -10,12 +10,11 @@ ghost use Rattle.sudoers_list_people.specs.Rows.{with_item_if_new};
 ghost use Rattle.sudoers_list_people.specs.Person.{account_named, is_user_in_group_row, groups_of_user, name_of_group_number, person_with_groups, has_same_group_number};
 
 use crate::account_and_group_row_types::{GroupFileRow, PasswdAccount};
-use crate::group_numbers::GroupNumberSet;
 use crate::people::People;
 use crate::text_pieces::split_text_at_byte;
 use std::alloc::{AllocError, Global};
 use sudoers_grammar::Items;
-use sudoers_match_member::{Group, Person};
+use sudoers_match_member::{Group, GroupNumberSet, Groups, Person};
 
 /// Returns the user with the name `name`.
 pub fn find_user_account<'a>(people: &'a People, name: &[u8]) -> Option<&'a PasswdAccount>
@@ -106,7 +105,7 @@ pub fn make_person_with_groups(
     ensures { IfOk result (λ person. person ≡ person_with_groups people.now user.now) }
 {
     let name = Items::from_slice(alloc, user.name.as_slice())?;
-    let groups = Items::from_vec(collect_groups_of_user(alloc, people, user)?);
+    let groups = Groups::from_vec(alloc, collect_groups_of_user(alloc, people, user)?)?;
     Ok(Person {
         name,
         uid: user.uid,

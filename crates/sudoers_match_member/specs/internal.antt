@@ -1,5 +1,6 @@
 -- Devices of the proofs. No contract of an exported function cites them.
 pub mod Count
+pub mod Grouped
 pub mod Known
 pub mod Places
 pub mod Run

@@ -5,6 +5,8 @@ mod atom_matches;
 mod byte_classes;
 mod byte_sets;
 mod first_pattern_item;
+mod group_numbers;
+mod groups;
 mod item_set;
 pub mod laws;
 mod network;
@@ -17,9 +19,11 @@ mod unclosed_places;
 mod wildcards;
 
 pub use atom_matches::{
-    has_group_of_number, is_same_name_ignoring_case, matches_command_atom, matches_host_atom,
-    matches_runas_group_atom, matches_user_atom,
+    is_same_name_ignoring_case, matches_command_atom, matches_host_atom, matches_runas_group_atom,
+    matches_user_atom,
 };
+pub use group_numbers::GroupNumberSet;
+pub use groups::Groups;
 pub use network::{Interface, network_hits};
 pub use people_and_commands::{CommandLine, Group, Person, Who};
 pub use request::Request;

@@ -1,5 +1,6 @@
 //! What is asked: users, groups, hosts and commands.
 
+use crate::groups::Groups;
 use crate::network::Interface;
 use sudoers_grammar::Items;
 
@@ -15,7 +16,7 @@ pub struct Group {
 pub struct Person {
     pub name: Items<u8>,
     pub uid: u32,
-    pub groups: Items<Group>,
+    pub groups: Groups,
 }
 
 /// A user on a host.

@@ -1,4 +1,4 @@
-//! Numbers of groups that were seen.
+//! Numbers of groups.
 
 ghost use Rattle.std.specs.Prelude.{◌≡◌, [], ◌∷◌, ◌++◌, not, ◌==◌, if◌then◌else◌, IfOk, OnOk};
 ghost use Rattle.std.specs.List.{list_any};
@@ -18,7 +18,7 @@ impl Model for GroupNumberSet {
 
     ghost Value = { List ℕ };
 
-    ghost view = { λ seen. seen.numbers.keys };
+    ghost view = { λ set. set.numbers.keys };
 }
 
 impl GroupNumberSet {
@@ -29,6 +29,13 @@ impl GroupNumberSet {
         GroupNumberSet {
             numbers: IndexSet::new(alloc),
         }
+    }
+
+    /// Returns whether `number` is one of them.
+    pub fn has(&self, number: u32) -> bool
+        ensures { result ≡ list_any (λ n. number == n) self.now }
+    {
+        self.numbers.contains(&number)
     }
 
     /// Adds `number`. Returns whether it is new.
