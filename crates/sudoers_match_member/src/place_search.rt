@@ -6,7 +6,7 @@ ghost use Rattle.sudoers_match_member.specs.declared.wildcards.GlobMode.{GlobMod
 ghost use Rattle.sudoers_match_member.specs.Folded.{byte_case_folded_if_wanted, bytes_case_folded_if_wanted};
 ghost use Rattle.sudoers_match_member.specs.Wildcard.{is_byte_taken_by_item, pattern_item_at, Star};
 ghost use Rattle.sudoers_match_member.specs.internal.Known.{IsCorrectSetCache};
-ghost use Rattle.sudoers_match_member.specs.internal.Places.{IsTaker, IsTakerOrOfAll, IsItemRow, DoTakersTakeFrom, DoesMatchFromNoneBefore};
+ghost use Rattle.sudoers_match_member.specs.internal.Places.{items_from_place, BeginWithStarless, IsTaker, IsTakerOrOfAll, IsItemRow, DoTakersTakeFrom, DoesMatchFromNoneBefore};
 
 use crate::byte_classes::fold_byte_case_if_wanted;
 use crate::item_set::{ItemSet, MOST_ITEMS};
@@ -188,7 +188,8 @@ fn find_first_place(places: &[bool]) -> Option<usize>
     None
 }
 
-/// Returns the first of the first `most` places of `text` from which the items of `pattern` up to its next `*` may match.
+/// Returns the first of the first `most` places of `text` from which the items of `pattern` up to its next `*` may match. They are at least
+/// `count`, which becomes as many as were read.
 fn find_place_among_first(
     pattern: &[u8],
     text: &[u8],
@@ -196,12 +197,15 @@ fn find_place_among_first(
     mode: GlobMode,
     lower: bool,
     known: &mut SetMatchCache,
+    count: &mut usize,
 ) -> Option<usize>
     requires most { most ≤ 16384 }
     requires within { most ≤ length text.now }
     requires known { IsCorrectSetCache mode lower pattern.now known.old }
+    requires count { BeginWithStarless (items_from_place lower pattern.now 0) count.old }
     ensures found { IfSome result (λ place. (place ≤ most) × DoesMatchFromNoneBefore mode lower pattern.now text.now place) }
     ensures missing { result ≡ None → DoesMatchFromNoneBefore mode lower pattern.now text.now most }
+    ensures count { BeginWithStarless (items_from_place lower pattern.now 0) count.new }
     ensures known { IsCorrectSetCache mode lower pattern.now known.new }
     ensures tail { known.new.tail ≡ known.old.tail }
 {
@@ -224,6 +228,7 @@ fn find_place_among_first(
             return None;
         }
         passed += row.count;
+        *count = passed.max(*count);
         at = row.end;
     }
 }
@@ -272,19 +277,19 @@ pub fn find_place_to_try(
         return text.len();
     };
     let mut most = FIRST_PLACES;
+    let mut count = 0;
     while passed < text.len() {
         let rest = &text[passed..];
+        if rest.len() < count {
+            return text.len();
+        }
+        let places = most.min(rest.len()).min(rest.len() - count + 1);
         if let Some(place) = find_place_among_first(
-            pattern,
-            rest,
-            most.min(rest.len()),
-            mode,
-            lower,
-            known,
+            pattern, rest, places, mode, lower, known, &mut count,
         ) {
             return passed + place;
         }
-        passed += most.min(rest.len());
+        passed += places;
         most = MOST_PLACES.min(16 * most);
     }
     text.len()
