@@ -14,7 +14,7 @@ use crate::people::People;
 use crate::text_pieces::split_text_at_byte;
 use std::alloc::{AllocError, Global};
 use sudoers_grammar::Items;
-use sudoers_match_member::{Group, GroupNumberSet, Groups, Person};
+use sudoers_match_member::{Group, Groups, NumberSet, Person};
 
 /// Returns the user with the name `name`.
 pub fn find_user_account<'a>(people: &'a People, name: &[u8]) -> Option<&'a PasswdAccount>
@@ -57,7 +57,7 @@ fn has_group_member(alloc: Global, user: &[u8], row: &GroupFileRow) -> Result<bo
 fn add_group_if_number_new(
     alloc: Global,
     groups: &mut Vec<Group>,
-    seen: &mut GroupNumberSet,
+    seen: &mut NumberSet,
     gid: u32,
     name: &[u8],
 ) -> Result<(), AllocError>
@@ -81,7 +81,7 @@ fn collect_groups_of_user(
     ensures { IfOk result (λ groups. groups.items ≡ groups_of_user people.now user.now) }
 {
     let mut groups = Vec::new(alloc);
-    let mut seen = GroupNumberSet::new(alloc);
+    let mut seen = NumberSet::new(alloc);
     let primary = group_name_of_number(people, user.gid);
     add_group_if_number_new(alloc, &mut groups, &mut seen, user.gid, primary)?;
     for row in people.groups() {

@@ -65,12 +65,11 @@ fn matches_host_name(pattern: &[u8], who: &Who) -> bool
 pub fn matches_host_atom(atom: &BorrowedAtom<'_>, who: &Who) -> bool
     ensures { result ≡ is_host_atom_match who.now (atom_of_view atom.now) }
 {
-    let interfaces = who.interfaces.as_slice();
     match *atom {
         BorrowedAtom::All => true,
         BorrowedAtom::Alias(name) | BorrowedAtom::Host(name) => matches_host_name(name, who),
-        BorrowedAtom::Address(address) => network_hits(address, None, interfaces),
-        BorrowedAtom::Network(address, mask) => network_hits(address, Some(mask), interfaces),
+        BorrowedAtom::Address(address) => network_hits(address, None, &who.interfaces),
+        BorrowedAtom::Network(address, mask) => network_hits(address, Some(mask), &who.interfaces),
         _ => false,
     }
 }

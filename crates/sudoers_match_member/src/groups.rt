@@ -3,10 +3,10 @@
 ghost use Rattle.std.specs.Prelude.{◌≡◌, [], IfOk, IfSome};
 ghost use Rattle.std.specs.Str.{str_to_ascii_lowercase};
 ghost use Rattle.sudoers_match_member.specs.Hits.{is_name_among_groups, is_number_among_groups};
-ghost use Rattle.sudoers_match_member.specs.internal.Grouped.{AreLowerNamesOf, AreNumbersOf};
+ghost use Rattle.sudoers_match_member.specs.internal.LookedUp.{AreLowerNamesOf, AreNumbersOf};
 
 use crate::atom_matches::is_same_name_ignoring_case;
-use crate::group_numbers::GroupNumberSet;
+use crate::numbers::NumberSet;
 use crate::people_and_commands::Group;
 use std::alloc::{AllocError, Global};
 use std::marker::Model;
@@ -21,7 +21,7 @@ pub struct Groups {
     list: Vec<Group>,
     /// The names in lower case.
     names: NameSet,
-    numbers: GroupNumberSet,
+    numbers: NumberSet,
     alloc: Global,
 }
 
@@ -31,7 +31,7 @@ impl Model for Groups {
 
     ghost Value = { List Group };
 
-    ghost use Rattle.sudoers_match_member.specs.internal.Grouped.{AreLowerNamesOf, AreNumbersOf};
+    ghost use Rattle.sudoers_match_member.specs.internal.LookedUp.{AreLowerNamesOf, AreNumbersOf};
 
     ghost view = { λ groups. groups.list.items };
 
@@ -51,10 +51,10 @@ fn collect_lower_names(alloc: Global, groups: &[Group]) -> Result<NameSet, Alloc
 }
 
 /// Returns the numbers of `groups`.
-fn collect_numbers(alloc: Global, groups: &[Group]) -> Result<GroupNumberSet, AllocError>
+fn collect_numbers(alloc: Global, groups: &[Group]) -> Result<NumberSet, AllocError>
     ensures { IfOk result (λ numbers. AreNumbersOf groups.now numbers) }
 {
-    let mut numbers = GroupNumberSet::new(alloc);
+    let mut numbers = NumberSet::new(alloc);
     for group in groups {
         numbers.add(group.gid)?;
     }
@@ -69,7 +69,7 @@ impl Groups {
         Groups {
             list: Vec::new(alloc),
             names: NameSet::new(alloc),
-            numbers: GroupNumberSet::new(alloc),
+            numbers: NumberSet::new(alloc),
             alloc,
         }
     }

@@ -1,7 +1,7 @@
 //! What is asked: users, groups, hosts and commands.
 
 use crate::groups::Groups;
-use crate::network::Interface;
+use crate::network::Interfaces;
 use sudoers_grammar::Items;
 
 /// A group: its number and its name.
@@ -25,7 +25,7 @@ pub struct Who {
     pub user: Person,
     pub long_host: Items<u8>,
     pub short_host: Items<u8>,
-    pub interfaces: Items<Interface>,
+    pub interfaces: Interfaces,
 }
 
 /// A command, or `sudoedit` or `list`, and its arguments, joined by single spaces.
