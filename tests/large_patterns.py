@@ -79,6 +79,16 @@ def part_that_goes_round_in_turns_but_once():
 
 
 @case
+def part_that_fits_at_the_last_place_alone():
+    return asked("*" + "?" * 10 + r"\b" + "[c]" * 300 + "*", "a" * 20_000 + "b" + "c" * 300, True)
+
+
+@case
+def part_that_lacks_a_byte_at_the_last_place():
+    return asked("*" + "?" * 10 + r"\b" + "[c]" * 300 + "*", "a" * 20_000 + "b" + "c" * 299, False)
+
+
+@case
 def second_part_behind_many_places():
     return asked("*[x]y*" + "[a]" * 257 + "b*c", "a" * 5_000 + "xy" + "a" * 5_000 + "bc", True)
 

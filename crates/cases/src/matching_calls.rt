@@ -37,7 +37,7 @@ pub fn push_answer_of_matching_call(
 fn has_network_hit(alloc: Global, network: &[u8], interfaces: &[u8]) -> Result<bool, AllocError> {
     let (address, mask) = address_and_mask_of(network);
     let interfaces = interfaces_of_bytes(alloc, interfaces)?;
-    Ok(network_hits(address, mask, interfaces.as_slice()))
+    Ok(network_hits(address, mask, &interfaces))
 }
 
 /// Adds what a policy, the first part of `call`, answers to the question that the other parts are; `unknown` if they are none.

@@ -4,7 +4,7 @@ use crate::case_frames::{split_eight_byte_number, split_first_part_or_empty, wor
 use std::alloc::{AllocError, Global};
 use sudoers_grammar::{Address, Items, Mask};
 use sudoers_match::Request;
-use sudoers_match_member::{CommandLine, Group, Interface, Person, Who};
+use sudoers_match_member::{CommandLine, Group, Groups, Interface, Interfaces, Person, Who};
 
 /// Returns the number that four bytes are, the first highest: 0 if there are fewer.
 fn four_byte_id_of(bytes: &[u8]) -> u32 {
@@ -39,14 +39,14 @@ pub fn address_and_mask_of(bytes: &[u8]) -> (Address, Option<Mask>) {
 /// # Errors
 ///
 /// Memory ran out.
-pub fn interfaces_of_bytes(alloc: Global, bytes: &[u8]) -> Result<Vec<Interface>, AllocError> {
+pub fn interfaces_of_bytes(alloc: Global, bytes: &[u8]) -> Result<Interfaces, AllocError> {
     let mut interfaces = Vec::new(alloc);
     for piece in bytes.chunks_exact(9) {
         if let (address, Some(mask)) = address_and_mask_of(piece) {
             interfaces.push(Interface { address, mask })?;
         }
     }
-    Ok(interfaces)
+    Interfaces::from_vec(alloc, interfaces)
 }
 
 /// Returns the group that the first two parts are: a name, and a number of four bytes.
@@ -79,7 +79,7 @@ pub fn user_of_parts(alloc: Global, bytes: &[u8]) -> Result<Person, AllocError> 
 }
 
 /// Returns the groups that the parts are, two for each.
-fn groups_of_parts(alloc: Global, bytes: &[u8]) -> Result<Items<Group>, AllocError> {
+fn groups_of_parts(alloc: Global, bytes: &[u8]) -> Result<Groups, AllocError> {
     let mut groups = Vec::new(alloc);
     let mut left = bytes;
     for _ in 0..bytes.len() {
@@ -91,7 +91,7 @@ fn groups_of_parts(alloc: Global, bytes: &[u8]) -> Result<Items<Group>, AllocErr
         let (_, others) = split_first_part_or_empty(rest);
         left = others;
     }
-    Ok(Items::from_vec(groups))
+    Groups::from_vec(alloc, groups)
 }
 
 /// Returns `user` on the host that three parts are, its short name, its long name and its interfaces.
@@ -107,7 +107,7 @@ pub fn who_of_user_and_host(alloc: Global, user: Person, host: &[u8]) -> Result<
         user,
         long_host: Items::from_slice(alloc, long)?,
         short_host: Items::from_slice(alloc, short)?,
-        interfaces: Items::from_vec(interfaces_of_bytes(alloc, interfaces)?),
+        interfaces: interfaces_of_bytes(alloc, interfaces)?,
     })
 }
 

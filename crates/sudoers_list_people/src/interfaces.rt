@@ -5,8 +5,8 @@ ghost use Rattle.sudoers_list_people.specs.Person.{interface_of_text, interfaces
 
 use crate::text_pieces::split_text_at_byte;
 use std::alloc::{AllocError, Global};
-use sudoers_grammar::{Atom, Items, Mask, network_of};
-use sudoers_match_member::Interface;
+use sudoers_grammar::{Atom, Mask, network_of};
+use sudoers_match_member::{Interface, Interfaces};
 
 /// Returns the interface that `text` says, if it is an address, `/` and a number of bits.
 fn read_interface(text: &[u8]) -> Option<Interface>
@@ -26,16 +26,13 @@ fn read_interface(text: &[u8]) -> Option<Interface>
 /// # Errors
 ///
 /// Memory ran out.
-pub fn read_interface_list(
-    alloc: Global,
-    text: &[u8],
-) -> Result<Option<Items<Interface>>, AllocError>
+pub fn read_interface_list(alloc: Global, text: &[u8]) -> Result<Option<Interfaces>, AllocError>
     ensures { IfOk result (λ interfaces. interfaces ≡ interfaces_of_text text.now) }
 {
-    let mut interfaces = Vec::new(alloc);
     if text.is_empty() {
-        return Ok(Some(Items::from_vec(interfaces)));
+        return Ok(Some(Interfaces::new(alloc)));
     }
+    let mut interfaces = Vec::new(alloc);
     let parts = split_text_at_byte(alloc, b',', text)?;
     for part in &parts {
         let Some(interface) = read_interface(part) else {
@@ -43,5 +40,5 @@ pub fn read_interface_list(
         };
         interfaces.push(interface)?;
     }
-    Ok(Some(Items::from_vec(interfaces)))
+    Ok(Some(Interfaces::from_vec(alloc, interfaces)?))
 }

@@ -3,7 +3,6 @@
 
 mod account_and_group_row_types;
 mod fault;
-mod group_numbers;
 mod interfaces;
 mod making_person_with_groups;
 mod passwd_and_group_row_reading;

@@ -10,12 +10,11 @@ ghost use Rattle.sudoers_list_people.specs.Rows.{with_item_if_new};
 ghost use Rattle.sudoers_list_people.specs.Person.{account_named, is_user_in_group_row, groups_of_user, name_of_group_number, person_with_groups, has_same_group_number};
 
 use crate::account_and_group_row_types::{GroupFileRow, PasswdAccount};
-use crate::group_numbers::GroupNumberSet;
 use crate::people::People;
 use crate::text_pieces::split_text_at_byte;
 use std::alloc::{AllocError, Global};
 use sudoers_grammar::Items;
-use sudoers_match_member::{Group, Person};
+use sudoers_match_member::{Group, Groups, NumberSet, Person};
 
 /// Returns the user with the name `name`.
 pub fn find_user_account<'a>(people: &'a People, name: &[u8]) -> Option<&'a PasswdAccount>
@@ -58,7 +57,7 @@ fn has_group_member(alloc: Global, user: &[u8], row: &GroupFileRow) -> Result<bo
 fn add_group_if_number_new(
     alloc: Global,
     groups: &mut Vec<Group>,
-    seen: &mut GroupNumberSet,
+    seen: &mut NumberSet,
     gid: u32,
     name: &[u8],
 ) -> Result<(), AllocError>
@@ -82,7 +81,7 @@ fn collect_groups_of_user(
     ensures { IfOk result (λ groups. groups.items ≡ groups_of_user people.now user.now) }
 {
     let mut groups = Vec::new(alloc);
-    let mut seen = GroupNumberSet::new(alloc);
+    let mut seen = NumberSet::new(alloc);
     let primary = group_name_of_number(people, user.gid);
     add_group_if_number_new(alloc, &mut groups, &mut seen, user.gid, primary)?;
     for row in people.groups() {
@@ -106,7 +105,7 @@ pub fn make_person_with_groups(
     ensures { IfOk result (λ person. person ≡ person_with_groups people.now user.now) }
 {
     let name = Items::from_slice(alloc, user.name.as_slice())?;
-    let groups = Items::from_vec(collect_groups_of_user(alloc, people, user)?);
+    let groups = Groups::from_vec(alloc, collect_groups_of_user(alloc, people, user)?)?;
     Ok(Person {
         name,
         uid: user.uid,

@@ -35,6 +35,7 @@ pub use sudoers_match_list::{
     RunasGroupListKind, UserListKind, Verdict, decide,
 };
 pub use sudoers_match_member::{
-    CommandLine, GlobMode, Group, Interface, Person, Request, Who, glob, network_hits,
+    CommandLine, GlobMode, Group, Groups, Interface, Interfaces, Person, Request, Who, glob,
+    network_hits,
 };
 pub use tags::CommandTags;

@@ -19,7 +19,7 @@ use sudoers_line_rows::RunasSpec;
 use sudoers_match_list::{
     AcyclicWalk, AliasVerdictCache, RunasGroupListKind, UserListKind, Verdict,
 };
-use sudoers_match_member::{Group, Request, has_group_of_number, is_same_name_ignoring_case};
+use sudoers_match_member::{Group, Groups, Request, is_same_name_ignoring_case};
 use sudoers_tree::{Kind, MemberRow, RowsOfTable};
 
 /// A request to a policy.
@@ -61,10 +61,7 @@ impl<'a> RequestVerdictCache<'a> {
         requires { IsRunasDefault policy.now request.now.who default.now }
         ensures { IfOk result (λ question. (test : AtomOf → Bool) → IsValidRequestCache policy.now test request.now question) }
     {
-        let own = is_requested_group_absent_or_among(
-            request.target.groups.as_slice(),
-            &request.target_group,
-        );
+        let own = is_requested_group_absent_or_among(&request.target.groups, &request.target_group);
         let users = policy.make_verdict_cache(alloc)?;
         let hosts = policy.make_verdict_cache(alloc)?;
         let targets = policy.make_verdict_cache(alloc)?;
@@ -108,10 +105,7 @@ impl<'a> RequestVerdictCache<'a> {
             if request.target.uid != user.uid {
                 Ok(false)
             } else if runas.groups.rows.is_empty() {
-                Ok(is_requested_group_absent_or_among(
-                    user.groups.as_slice(),
-                    &request.target_group,
-                ))
+                Ok(is_requested_group_absent_or_among(&user.groups, &request.target_group))
             } else {
                 self.allows_requested_group(asked, &runas.groups)
             }
@@ -180,11 +174,11 @@ impl<'a> RequestVerdictCache<'a> {
 }
 
 /// Returns whether no group is asked for, or it is one of `groups`.
-fn is_requested_group_absent_or_among(groups: &[Group], group: &Option<Group>) -> bool
+fn is_requested_group_absent_or_among(groups: &Groups, group: &Option<Group>) -> bool
     ensures { result ≡ is_group_absent_or_among groups.now group.now }
 {
     match group {
-        Some(group) => has_group_of_number(groups, group.gid),
+        Some(group) => groups.has_number(group.gid),
         None => true,
     }
 }

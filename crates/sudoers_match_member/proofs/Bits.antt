@@ -1,5 +1,5 @@
 -- Bits of numbers, and of items in words of 64.
-use Rattle.std.proofs.Common.{◌≡◌, ◌≢◌, ℕ, zero, suc, ◌+◌, ◌*◌, ◌/◌, ◌%◌, ◌<◌, List, [], ◌∷◌, add-one, bit_and, bit_or, get_or, arith, sym, ap, subst, ◌∙◌, inl, inr}
+use Rattle.std.proofs.Common.{◌≡◌, ◌≢◌, ℕ, zero, suc, ◌+◌, ◌*◌, ◌/◌, ◌%◌, ◌<◌, List, [], ◌∷◌, add-one, bit_and, bit_or, get_or, arith, sym, ap, subst, ◌∙◌, ◌⊎◌, inl, inr}
 use Rattle.std.specs.Prelude.{◌^◌}
 use Rattle.std.specs.Int.{bit_at}
 use Rattle.std.proofs.lemmas.Bool.{cases_lt}
@@ -81,6 +81,20 @@ moved_words_have_item_behind first word taking i within is taken =
     let next : i / 64 + 1 ≡ (i + 1) / 64 = omega arith in let first : 0 ≡ (i + 1) % 64 = omega arith in
     subst (λ n. Goal n ((i + 1) % 64)) next (subst (Goal (i / 64 + 1)) first (moved_words_have_last_bit_in_next _ word taking (i / 64) (omega arith) (subst (λ m. bit_at (word (i / 64)) m ≡ 1) h is))) in
     elim (cases_lt (i % 64 + 1) 64) [ inl h ↦ inside h taken | inr h ↦ across (omega arith) taken ]
+
+-- ---- items of one of two sets
+
+abbrev pub joined_words : (ℕ → ℕ) → (ℕ → ℕ) → List ℕ
+joined_words word other = bit_or (word 0) (other 0) ∷ bit_or (word 1) (other 1) ∷ bit_or (word 2) (other 2) ∷ bit_or (word 3) (other 3) ∷ []
+
+or_has_bit_of_either : (n m i : ℕ) → (bit_at n i ≡ 1) ⊎ (bit_at m i ≡ 1) → bit_at (bit_or n m) i ≡ 1
+or_has_bit_of_either n m i (inl h) = set_bit_stays_set_by_or n m i h
+or_has_bit_of_either n m i (inr h) = or_has_bit_of_second n m i h
+
+pub joined_words_have_bits_of_both : (word other : ℕ → ℕ) (n i : ℕ) → n < 4 → (bit_at (word n) i ≡ 1) ⊎ (bit_at (other n) i ≡ 1) → bit_at (get_or (joined_words word other) n 0) i ≡ 1
+joined_words_have_bits_of_both word other n i within =
+    property_of_four_numbers (λ n. (bit_at (word n) i ≡ 1) ⊎ (bit_at (other n) i ≡ 1) → bit_at (get_or (joined_words word other) n 0) i ≡ 1)
+    (or_has_bit_of_either (word 0) (other 0) i) (or_has_bit_of_either (word 1) (other 1) i) (or_has_bit_of_either (word 2) (other 2) i) (or_has_bit_of_either (word 3) (other 3) i) n within
 
 -- ---- sets that have an item in common
 

@@ -1,6 +1,7 @@
 pub mod Sets
 pub mod Splits
 pub mod Names
+pub mod Added
 pub mod Directories
 pub mod AsRead
 pub mod Items

@@ -18,20 +18,6 @@ pub fn is_same_name_ignoring_case(a: &[u8], b: &[u8]) -> bool
     a.eq_ignore_ascii_case(b)
 }
 
-/// Returns whether one of the groups has this name.
-fn has_group_of_name(groups: &[Group], name: &[u8]) -> bool
-    ensures { result ≡ is_name_among_groups groups.now name.now }
-{
-    groups.iter().any(|group| is_same_name_ignoring_case(name, group.name.as_slice()))
-}
-
-/// Returns whether one of the groups has this number.
-pub fn has_group_of_number(groups: &[Group], number: u32) -> bool
-    ensures { result ≡ is_number_among_groups groups.now number }
-{
-    groups.iter().any(|group| number == group.gid)
-}
-
 /// Returns whether `atom` matches `person`: a user, or as whom a command runs (sudoers(5), User_List).
 pub fn matches_user_atom(atom: &BorrowedAtom<'_>, person: &Person) -> bool
     ensures { result ≡ is_user_atom_match person.now (atom_of_view atom.now) }
@@ -43,8 +29,8 @@ pub fn matches_user_atom(atom: &BorrowedAtom<'_>, person: &Person) -> bool
             person.name.as_slice(),
         ),
         BorrowedAtom::Id(number) => number == person.uid,
-        BorrowedAtom::Group(name) => has_group_of_name(person.groups.as_slice(), name),
-        BorrowedAtom::GroupId(number) => has_group_of_number(person.groups.as_slice(), number),
+        BorrowedAtom::Group(name) => person.groups.has_name(name),
+        BorrowedAtom::GroupId(number) => person.groups.has_number(number),
         _ => false,
     }
 }
@@ -79,12 +65,11 @@ fn matches_host_name(pattern: &[u8], who: &Who) -> bool
 pub fn matches_host_atom(atom: &BorrowedAtom<'_>, who: &Who) -> bool
     ensures { result ≡ is_host_atom_match who.now (atom_of_view atom.now) }
 {
-    let interfaces = who.interfaces.as_slice();
     match *atom {
         BorrowedAtom::All => true,
         BorrowedAtom::Alias(name) | BorrowedAtom::Host(name) => matches_host_name(name, who),
-        BorrowedAtom::Address(address) => network_hits(address, None, interfaces),
-        BorrowedAtom::Network(address, mask) => network_hits(address, Some(mask), interfaces),
+        BorrowedAtom::Address(address) => network_hits(address, None, &who.interfaces),
+        BorrowedAtom::Network(address, mask) => network_hits(address, Some(mask), &who.interfaces),
         _ => false,
     }
 }

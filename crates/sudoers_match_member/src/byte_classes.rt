@@ -112,6 +112,9 @@ fn begins_with_bracketed_class_name(bytes: &[u8], name: &[u8], lower: bool) -> b
 pub fn find_class_named_at(bytes: &[u8], lower: bool) -> Option<PosixByteClass>
     ensures { result ≡ class_named_at (bytes_case_folded_if_wanted lower bytes.now) }
 {
+    if !begins_with_bracketed_class_name(bytes, b"[:", lower) {
+        return None;
+    }
     for class in &CLASSES {
         if begins_with_bracketed_class_name(bytes, class.to_bracketed_name(), lower) {
             return Some(*class);

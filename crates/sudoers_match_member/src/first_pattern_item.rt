@@ -32,7 +32,10 @@ fn turn_into_taken_bytes(takes: &mut [bool; 256], negated: bool, mode: GlobMode)
     ensures { (b : ℕ) → b < 256 → get_or takes.new b false ≡ (may_wildcard_take mode b && not (beq (get_or takes.old b false) negated)) }
 {
     for byte in 0..256 {
-        takes[byte] = mode.may_wildcard_take_byte(byte as u8) && takes[byte] != negated;
+        takes[byte] = takes[byte] != negated;
+    }
+    if !mode.may_wildcard_take_byte(b'/') {
+        takes[b'/' as usize] = false;
     }
 }
 

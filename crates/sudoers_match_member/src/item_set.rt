@@ -1,6 +1,6 @@
 //! Items of a pattern in a row, one bit for each.
 
-ghost use Rattle.std.specs.Prelude.{◌≡◌, ◌<◌, ◌+◌, ℕ, true};
+ghost use Rattle.std.specs.Prelude.{◌≡◌, ◌<◌, ◌+◌, ◌⊎◌, ℕ, true};
 ghost use Rattle.sudoers_match_member.specs.internal.Places.{HasItem};
 
 /// How many items there may be.
@@ -34,6 +34,15 @@ impl ItemSet {
         ensures kept { (i : ℕ) → HasItem self.old i → HasItem self.new i }
     {
         self.words[item / 64] |= 1 << (item % 64);
+    }
+
+    /// Adds the items `others`.
+    pub fn add_all(&mut self, others: &ItemSet)
+        ensures { (i : ℕ) → i < 256 → HasItem self.old i ⊎ HasItem others.now i → HasItem self.new i }
+    {
+        let [a, b, c, d] = self.words;
+        let [e, f, g, h] = others.words;
+        self.words = [a | e, b | f, c | g, d | h];
     }
 
     /// Returns the items behind these, and the first item if `first` says so, as far as they are among `taking`.

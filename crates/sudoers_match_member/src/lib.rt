@@ -5,9 +5,11 @@ mod atom_matches;
 mod byte_classes;
 mod byte_sets;
 mod first_pattern_item;
+mod groups;
 mod item_set;
 pub mod laws;
 mod network;
+mod numbers;
 mod people_and_commands;
 mod place_search;
 mod request;
@@ -17,10 +19,12 @@ mod unclosed_places;
 mod wildcards;
 
 pub use atom_matches::{
-    has_group_of_number, is_same_name_ignoring_case, matches_command_atom, matches_host_atom,
-    matches_runas_group_atom, matches_user_atom,
+    is_same_name_ignoring_case, matches_command_atom, matches_host_atom, matches_runas_group_atom,
+    matches_user_atom,
 };
-pub use network::{Interface, network_hits};
+pub use groups::Groups;
+pub use network::{Interface, Interfaces, network_hits};
+pub use numbers::NumberSet;
 pub use people_and_commands::{CommandLine, Group, Person, Who};
 pub use request::Request;
 pub use time_stamp::convert_stamp_to_zero_filled_number;

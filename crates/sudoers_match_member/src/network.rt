@@ -1,8 +1,12 @@
 //! Addresses, masks and networks.
 
-ghost use Rattle.std.specs.Prelude.{◌≡◌};
-ghost use Rattle.sudoers_match_member.specs.Network.{mask_as_number, network_under_mask, is_interface_hit, is_any_interface_hit};
+ghost use Rattle.std.specs.Prelude.{◌≡◌, [], IfOk};
+ghost use Rattle.sudoers_match_member.specs.Network.{mask_as_number, network_under_mask, is_any_interface_hit};
+ghost use Rattle.sudoers_match_member.specs.internal.LookedUp.{AreNumbersHitWithoutMask};
 
+use crate::numbers::NumberSet;
+use std::alloc::{AllocError, Global};
+use std::marker::Model;
 use sudoers_grammar::{Address, Mask};
 
 /// A network interface of a host: its address, and the mask of its network.
@@ -32,26 +36,83 @@ fn masked_network_of(mask: Mask, address: Address) -> u32
     address.number & number_of_mask(mask)
 }
 
-impl Interface {
-    /// Returns whether an address, or the network under its mask, hits the interface.
-    fn is_hit_by_address(&self, address: Address, mask: Option<Mask>) -> bool
-        ensures { result ≡ is_interface_hit address mask self.now }
+/// The network interfaces of a host, among which addresses are looked up.
+#[derive(Drop)]
+pub struct Interfaces {
+    list: Vec<Interface>,
+    /// What hits one of them without a mask: their addresses and their networks.
+    hit: NumberSet,
+}
+
+impl Model for Interfaces {
+    ghost use Rattle.std.specs.Prelude.{List};
+    ghost use Rattle.sudoers_match_member.specs.declared.network.Interface.{Interface};
+
+    ghost Value = { List Interface };
+
+    ghost use Rattle.sudoers_match_member.specs.internal.LookedUp.{AreNumbersHitWithoutMask};
+
+    ghost view = { λ interfaces. interfaces.list.items };
+
+    ghost invariant = { λ interfaces. AreNumbersHitWithoutMask interfaces.list.items interfaces.hit };
+}
+
+/// Returns what hits one of `interfaces` without a mask.
+fn collect_numbers_hit_without_mask(
+    alloc: Global,
+    interfaces: &[Interface],
+) -> Result<NumberSet, AllocError>
+    ensures { IfOk result (λ numbers. AreNumbersHitWithoutMask interfaces.now numbers) }
+{
+    let mut numbers = NumberSet::new(alloc);
+    for interface in interfaces {
+        numbers.add(interface.address.number)?;
+        numbers.add(masked_network_of(interface.mask, interface.address))?;
+    }
+    Ok(numbers)
+}
+
+impl Interfaces {
+    /// Returns no interfaces.
+    pub fn new(alloc: Global) -> Interfaces
+        ensures { result ≡ [] }
     {
-        match mask {
-            None => {
-                address.number == self.address.number
-                    || address.number == masked_network_of(self.mask, self.address)
-            }
-            Some(mask) => masked_network_of(mask, address) == masked_network_of(mask, self.address),
+        Interfaces {
+            list: Vec::new(alloc),
+            hit: NumberSet::new(alloc),
         }
+    }
+
+    /// Returns the interfaces `list`, in their order.
+    ///
+    /// # Errors
+    ///
+    /// Memory ran out.
+    pub fn from_vec(alloc: Global, list: Vec<Interface>) -> Result<Interfaces, AllocError>
+        ensures { IfOk result (λ interfaces. interfaces ≡ list.items) }
+    {
+        let hit = collect_numbers_hit_without_mask(alloc, list.as_slice())?;
+        Ok(Interfaces { list, hit })
+    }
+
+    /// Returns the interfaces, in their order.
+    pub fn as_slice(&self) -> &[Interface]
+        ensures { result.now ≡ self.now }
+    {
+        self.list.as_slice()
     }
 }
 
 /// Returns whether `address`, or the network under `mask`, hits one of the interfaces (sudoers(5), Host_List).
-pub fn network_hits(address: Address, mask: Option<Mask>, interfaces: &[Interface]) -> bool
+pub fn network_hits(address: Address, mask: Option<Mask>, interfaces: &Interfaces) -> bool
     ensures { result ≡ is_any_interface_hit address mask interfaces.now }
 {
-    interfaces
-        .iter()
-        .any(|interface| interface.is_hit_by_address(address, mask))
+    match mask {
+        None => interfaces.hit.has(address.number),
+        Some(mask) => {
+            let network = masked_network_of(mask, address);
+            interfaces.list.iter().any(|interface| network
+                == masked_network_of(mask, interface.address))
+        }
+    }
 }

@@ -1,6 +1,7 @@
 //! What is asked: users, groups, hosts and commands.
 
-use crate::network::Interface;
+use crate::groups::Groups;
+use crate::network::Interfaces;
 use sudoers_grammar::Items;
 
 /// A group: its number and its name.
@@ -15,7 +16,7 @@ pub struct Group {
 pub struct Person {
     pub name: Items<u8>,
     pub uid: u32,
-    pub groups: Items<Group>,
+    pub groups: Groups,
 }
 
 /// A user on a host.
@@ -24,7 +25,7 @@ pub struct Who {
     pub user: Person,
     pub long_host: Items<u8>,
     pub short_host: Items<u8>,
-    pub interfaces: Items<Interface>,
+    pub interfaces: Interfaces,
 }
 
 /// A command, or `sudoedit` or `list`, and its arguments, joined by single spaces.

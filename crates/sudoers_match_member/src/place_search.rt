@@ -6,7 +6,7 @@ ghost use Rattle.sudoers_match_member.specs.declared.wildcards.GlobMode.{GlobMod
 ghost use Rattle.sudoers_match_member.specs.Folded.{byte_case_folded_if_wanted, bytes_case_folded_if_wanted};
 ghost use Rattle.sudoers_match_member.specs.Wildcard.{is_byte_taken_by_item, pattern_item_at, Star};
 ghost use Rattle.sudoers_match_member.specs.internal.Known.{IsCorrectSetCache};
-ghost use Rattle.sudoers_match_member.specs.internal.Places.{IsTaker, IsItemRow, DoTakersTakeFrom, DoesMatchFromNoneBefore};
+ghost use Rattle.sudoers_match_member.specs.internal.Places.{items_from_place, BeginWithStarless, IsTaker, IsTakerOrOfAll, IsItemRow, DoTakersTakeFrom, DoesMatchFromNoneBefore};
 
 use crate::byte_classes::fold_byte_case_if_wanted;
 use crate::item_set::{ItemSet, MOST_ITEMS};
@@ -47,51 +47,55 @@ fn find_only_byte_of_item(rest: &[u8], len: usize, lower: bool) -> Option<u8>
     }
 }
 
-/// Adds the item with this number to those that take a byte, for each byte.
-fn add_item_for_all_bytes(takers: &mut [ItemSet; 256], item: usize)
+/// Adds the item with this number to those that take a byte, for each byte that is taken.
+fn add_item_for_taken_bytes(takers: &mut [ItemSet; 256], item: usize, taken: &[bool; 256])
     requires item { item < 256 }
-    ensures taker { (b : ℕ) → b < 256 → IsTaker takers.new b item }
+    ensures taker { (b : ℕ) → b < 256 → get_or taken.now b false ≡ true → IsTaker takers.new b item }
     ensures kept { (b i : ℕ) → IsTaker takers.old b i → IsTaker takers.new b i }
 {
     for byte in 0..256 {
-        takers[byte].add(item);
+        if taken[byte] {
+            takers[byte].add(item);
+        }
     }
 }
 
-/// Adds the item with this number, which begins at `at`, to those that take a byte, for each byte that it takes.
+/// Adds the item with this number, which begins at `at`, to those that take a byte, for each byte that it takes. What takes several bytes and is
+/// not the last set that was read is added to `of_all`.
 fn add_item_for_its_bytes(
     takers: &mut [ItemSet; 256],
+    of_all: &mut ItemSet,
     item: usize,
     pattern: &[u8],
     at: usize,
     len: usize,
-    mode: GlobMode,
     lower: bool,
-    known: &mut SetMatchCache,
+    known: &SetMatchCache,
 )
     requires item { item < 256 }
     requires within { at < length pattern.now }
     requires no_star { (pattern_item_at (bytes_case_folded_if_wanted lower (drop at pattern.now))).0 ≢ Star }
     requires len { len ≡ (pattern_item_at (bytes_case_folded_if_wanted lower (drop at pattern.now))).1 }
     requires inside { len ≤ length (drop at pattern.now) }
-    requires known { IsCorrectSetCache mode lower pattern.now known.old }
-    ensures taker { (b : ℕ) → b < 256 → is_byte_taken_by_item mode (pattern_item_at (bytes_case_folded_if_wanted lower (drop at pattern.now))).0 b ≡ true → IsTaker takers.new b item }
-    ensures kept { (b i : ℕ) → IsTaker takers.old b i → IsTaker takers.new b i }
-    ensures known { IsCorrectSetCache mode lower pattern.now known.new }
-    ensures tail { known.new.tail ≡ known.old.tail }
+    ensures taker { (mode : GlobModeOf) → IsCorrectSetCache mode lower pattern.now known.now → (b : ℕ) → b < 256
+        → is_byte_taken_by_item mode (pattern_item_at (bytes_case_folded_if_wanted lower (drop at pattern.now))).0 b ≡ true → IsTakerOrOfAll takers.new of_all.new b item }
+    ensures kept { (b i : ℕ) → IsTakerOrOfAll takers.old of_all.old b i → IsTakerOrOfAll takers.new of_all.new b i }
 {
     if let Some(byte) = find_only_byte_of_item(&pattern[at..], len, lower) {
         takers[byte as usize].add(item);
-        return;
+    } else if let Some(taken) = known.find_taken_bytes(at) {
+        add_item_for_taken_bytes(takers, item, taken);
+    } else {
+        of_all.add(item);
     }
-    if len == 1 {
-        add_item_for_all_bytes(takers, item);
-        return;
-    }
-    for byte in 0..=255 {
-        if known.match_item_at(pattern, at, byte, mode, lower).takes {
-            takers[byte as usize].add(item);
-        }
+}
+
+/// Adds the items `of_all` to those that take a byte, for each byte.
+fn add_items_for_all_bytes(takers: &mut [ItemSet; 256], of_all: &ItemSet)
+    ensures { (b i : ℕ) → b < 256 → i < 256 → IsTakerOrOfAll takers.old of_all.now b i → IsTaker takers.new b i }
+{
+    for byte in 0..256 {
+        takers[byte].add_all(of_all);
     }
 }
 
@@ -119,6 +123,7 @@ fn read_item_row(
     ensures tail { known.new.tail ≡ known.old.tail }
 {
     let mut takers = [ItemSet::new(); 256];
+    let mut of_all = ItemSet::new();
     let mut count = 0;
     let mut end = at;
     while end < pattern.len()
@@ -126,10 +131,20 @@ fn read_item_row(
         && fold_byte_case_if_wanted(lower, pattern[end]) != b'*'
     {
         let len = known.match_item_at(pattern, end, 0, mode, lower).len;
-        add_item_for_its_bytes(&mut takers, count, pattern, end, len, mode, lower, known);
+        add_item_for_its_bytes(
+            &mut takers,
+            &mut of_all,
+            count,
+            pattern,
+            end,
+            len,
+            lower,
+            known,
+        );
         end += len;
         count += 1;
     }
+    add_items_for_all_bytes(&mut takers, &of_all);
     if lower {
         take_capitals_as_small(&mut takers);
     }
@@ -173,7 +188,8 @@ fn find_first_place(places: &[bool]) -> Option<usize>
     None
 }
 
-/// Returns the first of the first `most` places of `text` from which the items of `pattern` up to its next `*` may match.
+/// Returns the first of the first `most` places of `text` from which the items of `pattern` up to its next `*` may match. They are at least
+/// `count`, which becomes as many as were read.
 fn find_place_among_first(
     pattern: &[u8],
     text: &[u8],
@@ -181,12 +197,15 @@ fn find_place_among_first(
     mode: GlobMode,
     lower: bool,
     known: &mut SetMatchCache,
+    count: &mut usize,
 ) -> Option<usize>
     requires most { most ≤ 16384 }
     requires within { most ≤ length text.now }
     requires known { IsCorrectSetCache mode lower pattern.now known.old }
+    requires count { BeginWithStarless (items_from_place lower pattern.now 0) count.old }
     ensures found { IfSome result (λ place. (place ≤ most) × DoesMatchFromNoneBefore mode lower pattern.now text.now place) }
     ensures missing { result ≡ None → DoesMatchFromNoneBefore mode lower pattern.now text.now most }
+    ensures count { BeginWithStarless (items_from_place lower pattern.now 0) count.new }
     ensures known { IsCorrectSetCache mode lower pattern.now known.new }
     ensures tail { known.new.tail ≡ known.old.tail }
 {
@@ -209,6 +228,7 @@ fn find_place_among_first(
             return None;
         }
         passed += row.count;
+        *count = passed.max(*count);
         at = row.end;
     }
 }
@@ -257,19 +277,19 @@ pub fn find_place_to_try(
         return text.len();
     };
     let mut most = FIRST_PLACES;
+    let mut count = 0;
     while passed < text.len() {
         let rest = &text[passed..];
+        if rest.len() < count {
+            return text.len();
+        }
+        let places = most.min(rest.len()).min(rest.len() - count + 1);
         if let Some(place) = find_place_among_first(
-            pattern,
-            rest,
-            most.min(rest.len()),
-            mode,
-            lower,
-            known,
+            pattern, rest, places, mode, lower, known, &mut count,
         ) {
             return passed + place;
         }
-        passed += most.min(rest.len());
+        passed += places;
         most = MOST_PLACES.min(16 * most);
     }
     text.len()

@@ -1,6 +1,6 @@
 //! What is known of the sets of a pattern, so that none is read again for each byte of a text.
 
-ghost use Rattle.std.specs.Prelude.{◌≡◌, ◌≢◌, ◌<◌, ◌≤◌, ◌+◌, ◌-◌, Bool, List, ℕ, length, drop, None, IfSome, IsTrue};
+ghost use Rattle.std.specs.Prelude.{◌≡◌, ◌≢◌, ◌<◌, ◌≤◌, ◌+◌, ◌-◌, Bool, List, ℕ, false, length, drop, get_or, None, IfSome, IsTrue};
 ghost use Rattle.sudoers_match_member.specs.declared.wildcards.GlobMode.{GlobMode as GlobModeOf};
 ghost use Rattle.sudoers_match_member.specs.Wildcard.{is_byte_taken_by_item, bracket_item, pattern_item_at as item_of, Star, Byte};
 ghost use Rattle.sudoers_match_member.specs.Sets.{set_items_behind_opening_bracket};
@@ -115,6 +115,18 @@ impl SetMatchCache {
         match &self.unclosed {
             Some(places) => places.is_behind_item(&pattern[first..], lower),
             None => false,
+        }
+    }
+
+    /// Returns which bytes the set takes that begins at `at`, if it is the last that was read.
+    pub fn find_taken_bytes(&self, at: usize) -> Option<&[bool; 256]>
+        ensures { (mode : GlobModeOf) (lower : Bool) (pattern : List ℕ) → IsCorrectSetCache mode lower pattern self.now
+            → IfSome result (λ taken. (b : ℕ) → b < 256 → get_or taken.now b false ≡ is_byte_taken_by_item mode (item_of (bytes_case_folded_if_wanted lower (drop at pattern))).0 b) }
+    {
+        if self.at == Some(at) {
+            Some(&self.takes)
+        } else {
+            None
         }
     }
 

@@ -17,7 +17,7 @@ use crate::users_fault::UserChangesFault;
 use std::alloc::Global;
 use sudoers_grammar::Items;
 use sudoers_list_people::{People, who_for};
-use sudoers_match::{Person, Request, Who};
+use sudoers_match::{Groups, Person, Request, Who};
 use sudoers_review::{ChangeLines, list_changed_other_defaults};
 use sudoers_tree::Policy;
 
@@ -56,7 +56,7 @@ fn make_empty_request(alloc: Global, who: Who, now: u64) -> Request
         target: Person {
             name: Items::new(alloc),
             uid: 0,
-            groups: Items::new(alloc),
+            groups: Groups::new(alloc),
         },
         target_group: None,
         command: Items::new(alloc),

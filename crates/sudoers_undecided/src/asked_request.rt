@@ -162,7 +162,7 @@ impl AskedRequest<'_, '_> {
                 .aliases
                 .standing_of_runas_groups(self.policy.definition_numbers(), self.request, runas),
             None => PartStanding::from_fact(is_group_absent_or_one_of(
-                self.request.target.groups.as_slice(),
+                &self.request.target.groups,
                 &self.request.target_group,
             )),
         }

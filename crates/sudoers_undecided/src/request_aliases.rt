@@ -13,7 +13,7 @@ use crate::member_question::MemberQuestion;
 use std::alloc::{AllocError, Global};
 use sudoers_check::DefinitionNumbers;
 use sudoers_line_rows::RunasSpec;
-use sudoers_match_member::{CommandLine, Group, Request, has_group_of_number};
+use sudoers_match_member::{CommandLine, Group, Groups, Request};
 use sudoers_tree::Kind;
 
 /// What the aliases say of the user, of the host, of the user and the group as whom a command is to run, and of the command.
@@ -37,11 +37,11 @@ fn question_of_group(group: &Option<Group>) -> MemberQuestion<'_>
 }
 
 /// Returns whether no group is asked for, or it is one of `groups`.
-pub fn is_group_absent_or_one_of(groups: &[Group], group: &Option<Group>) -> bool
+pub fn is_group_absent_or_one_of(groups: &Groups, group: &Option<Group>) -> bool
     ensures { result ≡ is_group_absent_or_among groups.now group.now }
 {
     match group {
-        Some(group) => has_group_of_number(groups, group.gid),
+        Some(group) => groups.has_number(group.gid),
         None => true,
     }
 }
@@ -113,18 +113,12 @@ impl<'b> RequestAliases<'b> {
             return PartStanding::from_fact(true);
         };
         if !runas.groups.rows.is_empty() {
-            let own = has_group_of_number(request.target.groups.as_slice(), group.gid);
+            let own = request.target.groups.has_number(group.gid);
             self.groups.standing_of_list(numbers, &runas.groups, own)
         } else if runas.users.rows.is_empty() {
-            PartStanding::from_fact(has_group_of_number(
-                request.who.user.groups.as_slice(),
-                group.gid,
-            ))
+            PartStanding::from_fact(request.who.user.groups.has_number(group.gid))
         } else {
-            PartStanding::from_fact(has_group_of_number(
-                request.target.groups.as_slice(),
-                group.gid,
-            ))
+            PartStanding::from_fact(request.target.groups.has_number(group.gid))
         }
     }
 }

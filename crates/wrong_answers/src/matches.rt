@@ -9,7 +9,7 @@ ghost use Rattle.sudoers_line_rows.specs.View.{atom_of_view};
 use sudoers_grammar::{Address, Mask};
 use sudoers_line_rows::BorrowedAtom;
 use sudoers_match_member::{
-    CommandLine, GlobMode, Group, Interface, Person, Who, glob, matches_command_atom,
+    CommandLine, GlobMode, Group, Interfaces, Person, Who, glob, matches_command_atom,
     matches_host_atom, matches_runas_group_atom, matches_user_atom, network_hits,
 };
 
@@ -21,7 +21,7 @@ pub fn matches_pattern(pattern: &[u8], text: &[u8], mode: GlobMode) -> bool
 }
 
 /// Returns whether an address, or with `mask` a network, hits one of `interfaces`.
-pub fn hits_network(address: Address, mask: Option<Mask>, interfaces: &[Interface]) -> bool
+pub fn hits_network(address: Address, mask: Option<Mask>, interfaces: &Interfaces) -> bool
     ensures { result ≡ network address mask interfaces.now }
 {
     network_hits(address, mask, interfaces)

@@ -1,5 +1,5 @@
 -- A device of the proof, which no public contract cites: the places of a text from which the items of a pattern may match.
-use Rattle.std.specs.Prelude.{◌≡◌, ◌≢◌, ◌<◌, ◌≤◌, ◌+◌, ◌/◌, ◌%◌, ℕ, Bool, true, List, [], length, drop, get_or}
+use Rattle.std.specs.Prelude.{◌≡◌, ◌≢◌, ◌<◌, ◌≤◌, ◌+◌, ◌/◌, ◌%◌, ◌⊎◌, ℕ, Bool, true, List, [], length, drop, get_or}
 use Rattle.std.specs.Int.{bit_at}
 use Rattle.sudoers_match_member.specs.declared.item_set.ItemSet.{ItemSet}
 use Rattle.sudoers_match_member.specs.declared.place_search.ItemRow.{ItemRow}
@@ -18,6 +18,10 @@ no_items = record { words = [] }
 -- the item is one of those that take the byte
 abbrev pub IsTaker : List ItemSet → ℕ → ℕ → Type 0
 IsTaker takers b item = HasItem (get_or takers b no_items) item
+
+-- the item is one of those that take the byte, or of those that take each byte
+abbrev pub IsTakerOrOfAll : List ItemSet → ItemSet → ℕ → ℕ → Type 0
+IsTakerOrOfAll takers of_all b item = IsTaker takers b item ⊎ HasItem of_all item
 
 -- the items of a pattern behind so many of its bytes
 abbrev pub items_from_place : Bool → List ℕ → ℕ → List PatternItem

@@ -1,9 +1,11 @@
-use Rattle.std.proofs.Common.{◌≡◌, ◌<◌, ℕ, true, false, Bool, List, drop, take, get_or, Option, Some, None, arith, refl, sym, ap, subst, ◌∙◌}
+use Rattle.std.proofs.Common.{◌≡◌, ◌+◌, ◌<◌, ℕ, true, false, Bool, List, drop, take, get_or, Option, Some, None, arith, refl, sym, ap, subst, ◌∙◌, inl, inr}
 use Rattle.std.specs.Option.{is_some}
+use Rattle.std.specs.Prelude.{max}
 use Rattle.std.proofs.lemmas.Option.{IfSome_then}
-use Rattle.std.proofs.lemmas.Bool.{false≢true}
+use Rattle.std.proofs.lemmas.Bool.{cases_lt, false≢true}
 use Rattle.std.proofs.lemmas.List.{drop-drop, get_or-take, get_or-replicate, take_rest, length-take}
-use Rattle.sudoers_match_member.specs.internal.Places.{items_from_place, DoesMatchFrom, DoTakersTakeFrom}
+use Rattle.sudoers_match_member.specs.Wildcard.{PatternItem}
+use Rattle.sudoers_match_member.specs.internal.Places.{items_from_place, BeginWithStarless, DoesMatchFrom, DoTakersTakeFrom}
 use Rattle.sudoers_match_member.proofs.Places.{row_extends_starless_items, match_from_place_has_bytes_for_row, takers_of_row_take_match}
 use Rattle.sudoers_match_member.proofs.place_search.find_place_among_first.Goals as goal
 
@@ -13,6 +15,7 @@ loop-mode-init c = record {
   passed = omega arith;
   items = refl;
   starless = λ i h. absurd (omega (arith, h));
+  count = c.requires.count;
   size = refl;
   width = omega arith;
   few = λ place h m. h;
@@ -66,6 +69,10 @@ returns-then-is_none-clause-missing c none place h m =
     dropped_place_does_not_match c.drop_places.new.places c.min-width.result place within
     (c.find_first_place-in-loop-mode.ensures.missing (option_without_value_is_none c.find_first_place-in-loop-mode.result c.if-is_none.ensures) place) (may place within m)
 
+starless_up_to_larger : (items : List PatternItem) (a b n : ℕ) → BeginWithStarless items a → BeginWithStarless items b → n ≡ max a b → BeginWithStarless items n
+starless_up_to_larger items a b n of_a of_b is i h =
+    elim (cases_lt i a) [ inl less ↦ of_a i less | inr more ↦ of_b i (omega (arith, is, h, more)) ]
+
 pub loop-mode-preserved : goal.loop-mode-preserved
 loop-mode-preserved c =
     let old = c.loop-mode.invariant in let row = c.read_item_row-row.ensures.row in let count = c.read_item_row-row.result.count in
@@ -83,6 +90,7 @@ loop-mode-preserved c =
       passed = omega (arith, c.if-left-row.false, old.passed);
       items = sym (drop-drop count passed (items_from_place lower pattern 0)) ∙ ap (drop count) old.items ∙ row.rest;
       starless = starless;
+      count = starless_up_to_larger _ (passed + count) c.loop-mode.count c.max.result starless old.count c.max.ensures;
       size = c.drop_places.ensures.length ∙ old.size;
       width = omega (arith, c.min-width.ensures, old.width);
       few = few;

@@ -9,6 +9,7 @@ invariant-loop-mode l = record {
   passed : l.passed ≤ length l.text;
   items : drop l.passed (items_from_place l.lower l.pattern 0) ≡ items_from_place l.lower l.pattern l.at;
   starless : BeginWithStarless (items_from_place l.lower l.pattern 0) l.passed;
+  count : BeginWithStarless (items_from_place l.lower l.pattern 0) l.count;
   size : length l.places ≡ 16640;
   width : l.width ≤ l.most;
   few : (place : ℕ) → place < l.most → DoesMatchFrom l.mode l.lower l.pattern l.text place → place < l.width;

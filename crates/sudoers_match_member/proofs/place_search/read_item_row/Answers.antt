@@ -3,7 +3,7 @@ use Rattle.std.proofs.lemmas.Bool.{cases_eq}
 use Rattle.std.proofs.lemmas.List.{get_or-drop, drop-drop, drop-map}
 use Rattle.sudoers_match_member.specs.Folded.{byte_case_folded_if_wanted, bytes_case_folded_if_wanted}
 use Rattle.sudoers_match_member.specs.Wildcard.{PatternItem, Star, is_byte_taken_by_item, pattern_item_at, items_of_pattern}
-use Rattle.sudoers_match_member.specs.internal.Places.{IsTaker, items_from_place}
+use Rattle.sudoers_match_member.specs.internal.Places.{IsTakerOrOfAll, items_from_place}
 use Rattle.sudoers_match_member.proofs.AsRead.{case_folding_keeps_length, folding_keeps_byte_that_is_no_star}
 use Rattle.sudoers_match_member.proofs.Capitals.{byte_is_read_as_byte, byte_is_read_as_it_is_where_case_counts}
 use Rattle.sudoers_match_member.proofs.Items.{items_of_pattern_begin_with_first_item, item_without_star_byte_is_no_star, pattern_item_has_positive_length}
@@ -32,14 +32,14 @@ loop-end-preserved c =
       rest = sym (drop-drop 1 count items) ∙ ap (drop 1) begins;
       starless = λ i h. elim (cases_eq i count) [ inl same ↦ subst (λ n. get_or items n Star ≢ Star) (sym same) (subst (λ p. p ≢ Star) (sym here) starless) | inr other ↦ old.starless i (omega (arith, h, other)) ];
       takers = λ i b h byte is. elim (cases_eq i count) [
-        | inl same ↦ subst (IsTaker c.add_item_for_its_bytes.new.takers b) (sym same)
-            (c.add_item_for_its_bytes.ensures.taker b byte
+        | inl same ↦ subst (IsTakerOrOfAll c.add_item_for_its_bytes.new.takers c.add_item_for_its_bytes.new.of_all b) (sym same)
+            (c.add_item_for_its_bytes.ensures.taker c.args.mode c.match_item_at-len.ensures.known b byte
             (ap (λ ys. is_byte_taken_by_item c.args.mode (pattern_item_at ys).0 b) (sym folded) ∙ ap (λ p. is_byte_taken_by_item c.args.mode p b) (sym here ∙ ap (λ n. get_or items n Star) (sym same))
             ∙ ap (is_byte_taken_by_item c.args.mode (get_or items i Star)) (sym (byte_is_read_as_it_is_where_case_counts b)) ∙ is))
         | inr other ↦ c.add_item_for_its_bytes.ensures.kept b i (old.takers i b (omega (arith, h, other)) byte is)
       ];
-      known = c.add_item_for_its_bytes.ensures.known;
-      tail = c.add_item_for_its_bytes.ensures.tail ∙ c.match_item_at-len.ensures.tail ∙ old.tail;
+      known = c.match_item_at-len.ensures.known;
+      tail = c.match_item_at-len.ensures.tail ∙ old.tail;
     }
 
 pub returns-then-lower-clause-row : goal.returns-then-lower-clause-row
@@ -52,6 +52,7 @@ returns-then-lower-clause-row c =
       rest = old.rest;
       starless = old.starless;
       takers = λ i b h byte is. c.take_capitals_as_small.ensures b i byte
+          (c.add_items_for_all_bytes.ensures (byte_case_folded_if_wanted true b) i (byte_is_read_as_byte b byte) (omega (arith, h, old.few))
           (old.takers i (byte_case_folded_if_wanted true b) h (byte_is_read_as_byte b byte)
-          (ap (is_byte_taken_by_item c.args.mode (get_or (items_from_place c.args.lower c.args.pattern.now c.args.at) i Star)) (byte_is_read_as_it_is_where_case_counts (byte_case_folded_if_wanted true b) ∙ ap (λ t. byte_case_folded_if_wanted t b) (sym c.if-lower.true)) ∙ is));
+          (ap (is_byte_taken_by_item c.args.mode (get_or (items_from_place c.args.lower c.args.pattern.now c.args.at) i Star)) (byte_is_read_as_it_is_where_case_counts (byte_case_folded_if_wanted true b) ∙ ap (λ t. byte_case_folded_if_wanted t b) (sym c.if-lower.true)) ∙ is)));
     }

@@ -1,5 +1,5 @@
-use Rattle.sudoers_match.proofs.Common.{Cmnd, Group, Host, IsValidGroupVerdictCache, None, Option, Runas, Some, User, ap, is_group_absent_or_among, is_host_atom_match}
-use Rattle.sudoers_match.proofs.Common.{is_runas_group_atom_match, is_user_atom_match, ◌∙◌}
+use Rattle.sudoers_match.proofs.Common.{Cmnd, Group, Host, IsValidGroupVerdictCache, None, Option, Runas, Some, User, is_host_atom_match}
+use Rattle.sudoers_match.proofs.Common.{is_runas_group_atom_match, is_user_atom_match}
 use Rattle.sudoers_match.proofs.request_verdicts.RequestVerdictCache.new.Goals as goal
 
 pub returns : goal.returns
@@ -12,7 +12,7 @@ returns c test =
       targets = c.in_ok-targets.ensures Runas (is_user_atom_match r.target);
       groups = by r.target_group;
       commands = c.in_ok-commands.ensures Cmnd test;
-      own = c.is_requested_group_absent_or_among-own.ensures ∙ ap (λ gs. is_group_absent_or_among gs r.target_group) c.as_slice.ensures;
+      own = c.is_requested_group_absent_or_among-own.ensures;
     }
   where
     by : (o : Option Group) → IsValidGroupVerdictCache c.args.policy.now o c.in_ok-groups.groups

@@ -1,4 +1,4 @@
-//! Numbers of groups that were seen.
+//! Numbers in a set.
 
 ghost use Rattle.std.specs.Prelude.{◌≡◌, [], ◌∷◌, ◌++◌, not, ◌==◌, if◌then◌else◌, IfOk, OnOk};
 ghost use Rattle.std.specs.List.{list_any};
@@ -9,26 +9,33 @@ use std::marker::Model;
 
 /// Numbers, each once.
 #[derive(Drop)]
-pub struct GroupNumberSet {
+pub struct NumberSet {
     numbers: IndexSet<u32>,
 }
 
-impl Model for GroupNumberSet {
+impl Model for NumberSet {
     ghost use Rattle.std.specs.Prelude.{ℕ, List};
 
     ghost Value = { List ℕ };
 
-    ghost view = { λ seen. seen.numbers.keys };
+    ghost view = { λ set. set.numbers.keys };
 }
 
-impl GroupNumberSet {
+impl NumberSet {
     /// Returns no numbers.
-    pub fn new(alloc: Global) -> GroupNumberSet
+    pub fn new(alloc: Global) -> NumberSet
         ensures { result ≡ [] }
     {
-        GroupNumberSet {
+        NumberSet {
             numbers: IndexSet::new(alloc),
         }
+    }
+
+    /// Returns whether `number` is one of them.
+    pub fn has(&self, number: u32) -> bool
+        ensures { result ≡ list_any (λ n. number == n) self.now }
+    {
+        self.numbers.contains(&number)
     }
 
     /// Adds `number`. Returns whether it is new.
