@@ -26,6 +26,9 @@ use sudoers_line_rows::{
 use sudoers_match::CommandSettings;
 use sudoers_text::LINE_LIMIT;
 
+/// For how many bytes of a line there is room at once. Few lines have more.
+const USUAL_LINE: usize = 256;
+
 /// Appends the commands of a host group, each with all that holds of it.
 fn append_effective_commands(
     alloc: Global,
@@ -99,7 +102,7 @@ fn make_user_spec_line(
     ensures text { IfOk result (λ line. line.items ≡ printed_spec (members_of_view users.now) (map effective_host_group (host_groups_of_view groups.now)) ++ codes "\n") }
     ensures long { IfErr result (IsFaultOfMakingLine (printed_spec (members_of_view users.now) (map effective_host_group (host_groups_of_view groups.now)) ++ codes "\n")) }
 {
-    let mut out = Vec::new(alloc);
+    let mut out = Vec::with_capacity(alloc, USUAL_LINE)?;
     append_printed_member_list(alloc, &mut out, true, Kind::User, users)?;
     out.extend_from_slice(b" ")?;
     append_effective_host_groups(alloc, &mut out, groups)?;
@@ -129,7 +132,8 @@ fn make_alias_definition_line(
 ) -> Result<Vec<u8>, AllocError>
     ensures { IfOk result (λ line. line.items ≡ printed_line (alias_node_of_one_definition kind (alias_definition_of_view def.now))) }
 {
-    let mut out = Vec::from_slice(alloc, alias_keyword_of_kind(kind))?;
+    let mut out = Vec::with_capacity(alloc, USUAL_LINE)?;
+    out.extend_from_slice(alias_keyword_of_kind(kind))?;
     out.extend_from_slice(b" ")?;
     append_alias_definition(alloc, &mut out, kind, def)?;
     out.extend_from_slice(b"\n")?;
@@ -144,7 +148,7 @@ fn make_defaults_line(
 ) -> Result<Vec<u8>, AllocError>
     ensures { IfOk result (λ line. line.items ≡ printed_defaults (option_map scope_of_view scope.now) (parameters_of_view params.now) ++ codes "\n") }
 {
-    let mut out = Vec::new(alloc);
+    let mut out = Vec::with_capacity(alloc, USUAL_LINE)?;
     append_defaults(alloc, &mut out, scope, params)?;
     out.extend_from_slice(b"\n")?;
     Ok(out)

@@ -12,7 +12,7 @@ use crate::row_reader::{RowReader, read_separated_rows};
 use std::alloc::Global;
 use sudoers_grammar::Kind;
 use sudoers_line_rows::{
-    AliasDefinitionRow, NodeRow, RowRange, Tables, convert_offset_to_u32, store_text,
+    AliasDefinitionRow, NodeRow, RowRange, Tables, convert_offset_to_u32, store_token_text,
 };
 
 /// Reads definitions of aliases of a kind.
@@ -40,7 +40,8 @@ impl RowReader for AliasDefinitionReader {
         let part = cursor.expect_alias_name()?;
         cursor.expect_mark(b'=')?;
         let start = convert_offset_to_u32(part.start)?;
-        let name = store_text(tables, part.text)?;
+        let end = cursor.end_in_bytes(part.stop);
+        let name = store_token_text(tables, end, part.text)?;
         let members = read_alias_member_list(alloc, cursor, tables, self.kind)?;
         Ok(AliasDefinitionRow {
             name,

@@ -22,17 +22,19 @@ pub struct CommandStartRow {
     pub has_room: bool,
 }
 
-/// Keeps what the token is as a command without arguments, if it is one.
+/// Keeps what the token is as a command without arguments, if it is one. The token ends before the byte `end` of the table of bytes, if
+/// its line stands there.
 fn store_command_without_args(
     alloc: Global,
     tables: &mut Tables,
     part: &TokenWithText<'_>,
+    end: usize,
 ) -> Result<Option<AtomRow>, AllocError>
     ensures keeps { IfOk result (λ row. OptionalRowMeansForGood atom_in_tables tables.new row (command_atom_without_args part.now.kind part.now.text.now)) }
     ensures grown { TablesHaveGrown tables.old tables.new }
 {
     match parse_command_without_args(alloc, part)? {
-        Some(atom) => Ok(Some(store_atom(tables, &atom)?)),
+        Some(atom) => Ok(Some(store_atom(tables, end, &atom)?)),
         None => Ok(None),
     }
 }
@@ -73,7 +75,8 @@ pub fn read_command_word(
         return Err(HaltCause::Fault);
     };
     let stop = convert_offset_to_u32(part.stop)?;
-    let Some(atom) = store_command_without_args(alloc, tables, &part)? else {
+    let end = cursor.end_in_bytes(part.stop);
+    let Some(atom) = store_command_without_args(alloc, tables, &part, end)? else {
         return Err(HaltCause::Fault);
     };
     if !may_follow_digests(has_digests, atom) {

@@ -78,6 +78,8 @@ impl<'a> TokenSource<'a> {
 pub struct TokenCursor<'a> {
     next: Option<TokenWithText<'a>>,
     behind: TokenSource<'a>,
+    /// Where the line stands in the table of bytes, if it does.
+    place: usize,
 }
 
 impl<'a> Model for TokenCursor<'a> {
@@ -91,27 +93,32 @@ impl<'a> Model for TokenCursor<'a> {
 }
 
 impl<'a> TokenCursor<'a> {
-    /// Returns a cursor before all tokens of `source`.
-    fn at_source(source: TokenSource<'a>) -> Self
+    /// Returns a cursor before all tokens of `source`, whose line stands at `place` of the table of bytes, if it does.
+    fn at_source(source: TokenSource<'a>, place: usize) -> Self
         ensures { result ≡ tokens_of_source source.entry }
     {
         let mut behind = source;
         let next = behind.take_next();
-        TokenCursor { next, behind }
+        TokenCursor {
+            next,
+            behind,
+            place,
+        }
     }
 
-    /// Returns a cursor before all tokens of `line`.
-    pub fn of_line(line: &'a [u8]) -> Self
+    /// Returns a cursor before all tokens of `line`, which stands at `place` of the table of bytes, if it does.
+    pub fn of_line(line: &'a [u8], place: usize) -> Self
         ensures { result ≡ tokens_with_bytes line.now (tokens_of_line (line_mode line.now) line.now) }
     {
-        Self::at_source(TokenSource::Line(LineTokens::of_line(line, choose_line_mode(line))))
+        let tokens = LineTokens::of_line(line, choose_line_mode(line));
+        Self::at_source(TokenSource::Line(tokens), place)
     }
 
     /// Returns a cursor before all these tokens.
     pub fn new(left: &'a [TokenWithText<'a>]) -> Self
         ensures { result ≡ map model_of_token_part left.now }
     {
-        Self::at_source(TokenSource::List(left))
+        Self::at_source(TokenSource::List(left), 0)
     }
 
     /// Returns the next token.
@@ -119,6 +126,11 @@ impl<'a> TokenCursor<'a> {
         ensures { option_map model_of_token_part result ≡ first_token_option self.now }
     {
         self.next
+    }
+
+    /// Returns where the byte `stop` of the line stands in the table of bytes, if the line stands there.
+    pub fn end_in_bytes(&self, stop: usize) -> usize {
+        self.place.saturating_add(stop)
     }
 
     /// Passes the next token.

@@ -169,13 +169,19 @@ fn find_fault_of_line(
 }
 
 /// Reads one logical line into the tables (sudoers(5), SUDOERS FILE FORMAT). It does not check limits, reserved words or
-/// names that are defined twice: these are checked for a whole policy.
+/// names that are defined twice: these are checked for a whole policy. If the line stands in the table of bytes, `place` is where. Its
+/// texts are not copied then. Any number gives the same outcome.
 ///
 /// # Errors
 ///
 /// [`LineFault::Syntax`] at the first token that no legal line has there, or at the end of an incomplete line, with the cause;
 /// [`LineFault::NoMemory`] where a growth of memory was refused. The tables are then as they were.
-pub fn read_line(alloc: Global, tables: &mut Tables, line: &[u8]) -> Result<NodeRow, LineFault>
+pub fn read_line(
+    alloc: Global,
+    tables: &mut Tables,
+    line: &[u8],
+    place: usize,
+) -> Result<NodeRow, LineFault>
     // The row that is returned says what the line says, for good; a fault is the line's first.
     ensures gives { RowShowsOutcomeOrNoMemory tables.new result (outcome_of_line line.now) }
     // The tables grow.
@@ -184,7 +190,7 @@ pub fn read_line(alloc: Global, tables: &mut Tables, line: &[u8]) -> Result<Node
     ensures refused { OnErr result (TablesHaveGrown tables.new tables.old) }
 {
     let counts = tables.row_counts();
-    let mut cursor = TokenCursor::of_line(line);
+    let mut cursor = TokenCursor::of_line(line, place);
     match read_whole(alloc, &mut cursor, tables) {
         Ok(row) => Ok(row),
         Err(halted) => {
@@ -246,7 +252,7 @@ pub fn parse(alloc: Global, line: &[u8]) -> Result<ParsedLine, LineFault>
     no_fault();
     one_fault();
     let mut tables = Tables::new(alloc);
-    let row = read_line(alloc, &mut tables, line)?;
+    let row = read_line(alloc, &mut tables, line, 0)?;
     let tables = Box::new(alloc, tables)?;
     Ok(ParsedLine { tables, row })
 }

@@ -7,8 +7,19 @@ ghost use Rattle.sudoers_line_rows.specs.Tables.{TablesHaveGrown, IsExtendedList
 use std::alloc::AllocError;
 use sudoers_line_rows::{
     AliasDefinitionRow, CommandRow, DigestRow, HostGroupRow, MemberRow, OptionRow, ParamRow,
-    RowRange, Tables, TagRow, append_table_rows,
+    RowRange, Tables, TagRow, append_table_rows, convert_offset_to_u32,
 };
+
+/// Appends a row to a table, and returns where it stands. More than 2^32 rows are want of memory.
+fn push_table_row<T: Copy + Drop>(table: &mut Vec<T>, row: T) -> Result<RowRange, AllocError>
+    ensures kept { IfOk result (λ r. (table.new.items ≡ table.old.items ++ row ∷ []) × IsRowRangeFromTo r (length table.old.items) (length table.new.items)) }
+    ensures grown { IsExtendedList table.old.items table.new.items }
+{
+    let from = convert_offset_to_u32(table.len())?;
+    table.push(row)?;
+    let to = convert_offset_to_u32(table.len())?;
+    Ok(RowRange { from, to })
+}
 
 /// A row that stands in a table of its kind.
 pub trait TableRow: Copy + Drop {
@@ -37,7 +48,7 @@ impl TableRow for DigestRow {
     }
 
     fn keep_one(tables: &mut Tables, row: Self) -> Result<RowRange, AllocError> {
-        append_table_rows(&mut tables.digests, &[row])
+        push_table_row(&mut tables.digests, row)
     }
 }
 
@@ -51,7 +62,7 @@ impl TableRow for MemberRow {
     }
 
     fn keep_one(tables: &mut Tables, row: Self) -> Result<RowRange, AllocError> {
-        append_table_rows(&mut tables.members, &[row])
+        push_table_row(&mut tables.members, row)
     }
 }
 
@@ -65,7 +76,7 @@ impl TableRow for OptionRow {
     }
 
     fn keep_one(tables: &mut Tables, row: Self) -> Result<RowRange, AllocError> {
-        append_table_rows(&mut tables.options, &[row])
+        push_table_row(&mut tables.options, row)
     }
 }
 
@@ -79,7 +90,7 @@ impl TableRow for TagRow {
     }
 
     fn keep_one(tables: &mut Tables, row: Self) -> Result<RowRange, AllocError> {
-        append_table_rows(&mut tables.tags, &[row])
+        push_table_row(&mut tables.tags, row)
     }
 }
 
@@ -93,7 +104,7 @@ impl TableRow for CommandRow {
     }
 
     fn keep_one(tables: &mut Tables, row: Self) -> Result<RowRange, AllocError> {
-        append_table_rows(&mut tables.commands, &[row])
+        push_table_row(&mut tables.commands, row)
     }
 }
 
@@ -107,7 +118,7 @@ impl TableRow for HostGroupRow {
     }
 
     fn keep_one(tables: &mut Tables, row: Self) -> Result<RowRange, AllocError> {
-        append_table_rows(&mut tables.groups, &[row])
+        push_table_row(&mut tables.groups, row)
     }
 }
 
@@ -121,7 +132,7 @@ impl TableRow for AliasDefinitionRow {
     }
 
     fn keep_one(tables: &mut Tables, row: Self) -> Result<RowRange, AllocError> {
-        append_table_rows(&mut tables.defs, &[row])
+        push_table_row(&mut tables.defs, row)
     }
 }
 
@@ -135,6 +146,6 @@ impl TableRow for ParamRow {
     }
 
     fn keep_one(tables: &mut Tables, row: Self) -> Result<RowRange, AllocError> {
-        append_table_rows(&mut tables.params, &[row])
+        push_table_row(&mut tables.params, row)
     }
 }

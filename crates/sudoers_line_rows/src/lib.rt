@@ -22,7 +22,7 @@ pub use rows::{
 };
 pub use table_appending::{
     append_table_rows, convert_offset_to_u32, store_atom, store_atom_of_member_token,
-    store_command_args, store_text,
+    store_command_args, store_text, store_token_text,
 };
 pub use view::{
     BorrowedArgs, BorrowedAtom, CmdSpec, Def, Digest, HostGroup, Member, Node, Param, RunasSpec,

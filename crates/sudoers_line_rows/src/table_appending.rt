@@ -1,6 +1,6 @@
 //! What is kept in tables.
 
-ghost use Rattle.std.specs.Prelude.{◌≡◌, ◌++◌, length, IfOk, OnOk};
+ghost use Rattle.std.specs.Prelude.{◌≡◌, ◌≤◌, ◌++◌, length, slice_range, IfOk, IfSome, OnOk};
 ghost use Rattle.sudoers_grammar.specs.Seen.{model_of_token_part};
 ghost use Rattle.sudoers_grammar.specs.Atom.{atom_of_token};
 ghost use Rattle.sudoers_line_rows.specs.Tables.{IsExtendedList, TablesHaveGrown, RowMeansForGood, IsRowRangeFromTo, OptionalRowMeansForGood, text_in_tables, args_in_tables, atom_in_tables};
@@ -58,59 +58,104 @@ pub fn store_text(tables: &mut Tables, text: &[u8]) -> Result<ByteRange, AllocEr
     })
 }
 
-/// Keeps the arguments of a command.
-pub fn store_command_args(tables: &mut Tables, args: &Args<'_>) -> Result<ArgsRow, AllocError>
+/// Returns where `text` stands directly before the byte `end` of `bytes`, if it does.
+fn find_text_before(bytes: &[u8], end: usize, text: &[u8]) -> Option<ByteRange>
+    ensures { IfSome result (λ x. (slice_range bytes.now x.from x.to ≡ text.now) × (x.to ≤ length bytes.now)) }
+{
+    let from = end.checked_sub(text.len())?;
+    if end > bytes.len() || &bytes[from..end] != text {
+        return None;
+    }
+    match (u32::try_from(from), u32::try_from(end)) {
+        (Ok(from), Ok(to)) => Some(ByteRange { from, to }),
+        _ => None,
+    }
+}
+
+/// Keeps the bytes `text`. Where they stand before the byte `end` of the table of bytes already, they are not copied.
+pub fn store_token_text(
+    tables: &mut Tables,
+    end: usize,
+    text: &[u8],
+) -> Result<ByteRange, AllocError>
+    ensures keeps { IfOk result (λ x. RowMeansForGood text_in_tables tables.new x text.now) }
+    ensures grown { TablesHaveGrown tables.old tables.new }
+{
+    match find_text_before(tables.bytes.as_slice(), end, text) {
+        Some(range) => Ok(range),
+        None => store_text(tables, text),
+    }
+}
+
+/// Keeps the arguments of a command, whose last token ends before the byte `end` of the table of bytes, if its line stands there.
+pub fn store_command_args(
+    tables: &mut Tables,
+    end: usize,
+    args: &Args<'_>,
+) -> Result<ArgsRow, AllocError>
     ensures keeps { IfOk result (λ r. RowMeansForGood args_in_tables tables.new r args.now) }
     ensures grown { TablesHaveGrown tables.old tables.new }
 {
     match args {
         Args::Any => Ok(ArgsRow::Any),
         Args::Nothing => Ok(ArgsRow::Nothing),
-        Args::Pattern(pattern) => Ok(ArgsRow::Pattern(store_text(tables, pattern.as_slice())?)),
+        Args::Pattern(pattern) => {
+            Ok(ArgsRow::Pattern(store_token_text(tables, end, pattern.as_slice())?))
+        }
     }
 }
 
-/// Keeps what a member is.
-pub fn store_atom(tables: &mut Tables, atom: &Atom<'_>) -> Result<AtomRow, AllocError>
+/// Keeps what a member is, whose token ends before the byte `end` of the table of bytes, if its line stands there.
+pub fn store_atom(tables: &mut Tables, end: usize, atom: &Atom<'_>) -> Result<AtomRow, AllocError>
     ensures keeps { IfOk result (λ r. RowMeansForGood atom_in_tables tables.new r atom.now) }
     ensures grown { TablesHaveGrown tables.old tables.new }
 {
     match atom {
         Atom::All => Ok(AtomRow::All),
-        Atom::Alias(name) => Ok(AtomRow::Alias(store_text(tables, name.as_slice())?)),
-        Atom::Name(name) => Ok(AtomRow::Name(store_text(tables, name.as_slice())?)),
+        Atom::Alias(name) => Ok(AtomRow::Alias(store_token_text(tables, end, name.as_slice())?)),
+        Atom::Name(name) => Ok(AtomRow::Name(store_token_text(tables, end, name.as_slice())?)),
         Atom::Id(number) => Ok(AtomRow::Id(*number)),
-        Atom::Group(name) => Ok(AtomRow::Group(store_text(tables, name.as_slice())?)),
+        Atom::Group(name) => Ok(AtomRow::Group(store_token_text(tables, end, name.as_slice())?)),
         Atom::GroupId(number) => Ok(AtomRow::GroupId(*number)),
-        Atom::NonUnix(name) => Ok(AtomRow::NonUnix(store_text(tables, name.as_slice())?)),
-        Atom::Netgroup(name) => Ok(AtomRow::Netgroup(store_text(tables, name.as_slice())?)),
-        Atom::Host(name) => Ok(AtomRow::Host(store_text(tables, name.as_slice())?)),
+        Atom::NonUnix(name) => Ok(AtomRow::NonUnix(store_token_text(
+            tables,
+            end,
+            name.as_slice(),
+        )?)),
+        Atom::Netgroup(name) => Ok(AtomRow::Netgroup(store_token_text(
+            tables,
+            end,
+            name.as_slice(),
+        )?)),
+        Atom::Host(name) => Ok(AtomRow::Host(store_token_text(tables, end, name.as_slice())?)),
         Atom::Address(address) => Ok(AtomRow::Address(*address)),
         Atom::Network(address, mask) => Ok(AtomRow::Network(*address, *mask)),
         Atom::Listing => Ok(AtomRow::Listing),
         Atom::Path { path, args } => {
-            let path = store_text(tables, path.as_slice())?;
-            let args = store_command_args(tables, args)?;
+            let path = store_token_text(tables, end, path.as_slice())?;
+            let args = store_command_args(tables, end, args)?;
             Ok(AtomRow::Path { path, args })
         }
         Atom::Sudoedit { args } => Ok(AtomRow::Sudoedit {
-            args: store_command_args(tables, args)?,
+            args: store_command_args(tables, end, args)?,
         }),
     }
 }
 
-/// Keeps what the token is as a member of a list of this kind, if it is one.
+/// Keeps what the token is as a member of a list of this kind, if it is one. The token ends before the byte `end` of the table of bytes,
+/// if its line stands there.
 pub fn store_atom_of_member_token(
     alloc: Global,
     tables: &mut Tables,
     kind: Kind,
     part: &TokenWithText<'_>,
+    end: usize,
 ) -> Result<Option<AtomRow>, AllocError>
     ensures keeps { IfOk result (λ row. OptionalRowMeansForGood atom_in_tables tables.new row (atom_of_token kind (model_of_token_part part.now))) }
     ensures grown { TablesHaveGrown tables.old tables.new }
 {
     match parse_single_token_atom(alloc, kind, part)? {
-        Some(atom) => Ok(Some(store_atom(tables, &atom)?)),
+        Some(atom) => Ok(Some(store_atom(tables, end, &atom)?)),
         None => Ok(None),
     }
 }

@@ -25,8 +25,8 @@ pub fn read_line_into_row(
     ensures gives { IsLineReadOutcome tables.new result line.now }
     ensures grown { TablesHaveGrown tables.old tables.new }
 {
-    let node = read_line(alloc, tables, line)?;
     let text = store_text(tables, line)?;
+    let node = read_line(alloc, tables, line, text.from as usize)?;
     let bits = alias_name_bits_of_node(&tables.node_of_row(&node));
     let lfs = convert_offset_to_u32(lf_count(line))?;
     Ok(LineRow {
