@@ -5,7 +5,7 @@ use Rattle.sudoers_check.proofs.Common.{definitions_from_place, definitions_in_l
 use Rattle.sudoers_check.proofs.Common.{is_first_mention_of_undefined, is_mention_of_name, is_some, length, length-drop, length-take, line_of_row, lines_of_rows, list_any, listed_members_of_node, map, map-append}
 use Rattle.sudoers_check.proofs.Common.{mention_of_atom, mentions_in_lines_numbered_from, mentions_in_node, new_undefined_mentions, note_in_line_text, note_in_walk_line, note_of_definition, note_of_mention}
 use Rattle.sudoers_check.proofs.Common.{notes_of_definitions_in_line_with_mark, notes_of_definitions_in_lines_with_mark, notes_of_definitions_in_line_node_with_mark, notes_of_mentions, option_map, refl, slice_get, slice_index_or, spot_of_walk_line, suc, sym}
-use Rattle.sudoers_check.proofs.Common.{take, text_of_line_at, true, undefined_mentions_of_lines, undefined_notes_in_lines, unmarked_places_in_line_counted_from, unmarked_places_in_lines, unmarked_places_in_line_node, zero, ℕ, ◌++◌, ◌+◌}
+use Rattle.sudoers_check.proofs.Common.{ltb, ltb-true, take, text_of_line_at, true, undefined_mentions_of_lines, undefined_notes_in_lines, unmarked_places_in_line_counted_from, unmarked_places_in_lines, unmarked_places_in_line_node, zero, ℕ, ◌++◌, ◌+◌}
 use Rattle.sudoers_check.proofs.Common.{◌<◌, ◌||◌, ◌∙◌, ◌∷◌, ◌≡◌}
 use Rattle.std.specs.Option.{is_some as is_there}
 use mathlib.Core.Bool.{beq}
@@ -93,6 +93,12 @@ row_at_number_holds_line_at_number lines held i none line same within shown = ap
     stands [] i l = absurd (omega arith)
     stands (r ∷ rows) zero l = refl
     stands (r ∷ rows) (suc i) l = stands rows i (omega (arith, l))
+
+-- a row that was looked up by its number holds the line with that number
+pub found_row_holds_line_at_number : (lines : List Line) (held : RowsOfTable LineRow) (i : ℕ) (row : LineRow) (line : Line) → lines_of_rows held ≡ lines → true ≡ ltb i (length held.rows.now)
+    → row ≡ slice_index_or held.rows.now i row → line ≡ line_of_row held.tables.now row → slice_get lines i ≡ Some line
+found_row_holds_line_at_number lines held i row line same within there shown =
+    row_at_number_holds_line_at_number lines held i row line same (ltb-true i (length held.rows.now) (sym within)) (shown ∙ ap (λ r. line_of_row held.tables.now r) there)
 
 line_after_front_has_its_text : (walk : WalkState) (front : List Line) (line : Line) (rest : List Line) → front ++ line ∷ rest ≡ walk.lines → text_of_line_at walk.lines (length front) ≡ line.text
 line_after_front_has_its_text walk front line rest e = ap (λ ls. text_of_line_at ls (length front)) (sym e) ∙ by front

@@ -4,4 +4,5 @@ pub mod Chains
 pub mod Led
 pub mod Report
 pub mod Numbers
+pub mod Places
 pub mod internal

@@ -1,4 +1,5 @@
 -- Devices of the proofs. No contract of an exported function cites them.
+pub mod Cursors
 pub mod Found
 pub mod Graph
 pub mod Noting

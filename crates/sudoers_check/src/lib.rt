@@ -12,7 +12,9 @@ mod notes;
 mod physical_line_cursor;
 mod report;
 mod seen_names;
+mod walk_cursor;
 
 pub use checking::{check, list_unused_definitions_of_walk, mark_used_definitions, unused};
 pub use definition_numbers::{AliasLineFirstNumber, DefinitionNumbers};
 pub use report::{Note, Report, report_text};
+pub use walk_cursor::{BytePlace, WalkCursor};

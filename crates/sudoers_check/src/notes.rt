@@ -12,7 +12,7 @@ ghost use Rattle.sudoers_check.specs.internal.Noting.{has_undefined_alias_in_lin
 
 use crate::definition_counts_and_line_kinds::count_definitions_in_row;
 use crate::line_mentions::{Mention, find_mentions_in_line};
-use crate::physical_line_cursor::PhysicalLineCursor;
+use crate::physical_line_cursor::{PhysicalLineCursor, make_cursor_at_line};
 use crate::report::Note;
 use crate::seen_names::SeenAliasNames;
 use std::alloc::{AllocError, Global};
@@ -49,21 +49,6 @@ pub fn make_notes_of_definitions(
         rest = behind;
     }
     Ok(Items::from_vec(notes))
-}
-
-/// Returns the beginning of `line`, the line with the number `number` of the walk.
-fn make_cursor_at_line<'a>(
-    policy: &Policy,
-    number: usize,
-    line: &Line<'a>,
-) -> PhysicalLineCursor<'a>
-    requires { slice_get policy.now.walk.lines number ≡ Some (line_of_view line.now) }
-    ensures text { result.text.now ≡ line.now.text.now }
-    ensures spot { result.spot ≡ spot_of_walk_line policy.now.walk number }
-{
-    // laws
-    policy.lines_stand();
-    PhysicalLineCursor::new(line.text, policy.spots_of_walk_lines()[number])
 }
 
 /// Adds the notes of those of a line's definitions that have the mark `wanted`.

@@ -1,10 +1,14 @@
 //! Where the bytes of a line stand in physical lines.
 
-ghost use Rattle.std.specs.Prelude.{◌≡◌, ◌≤◌, ◌+◌, ◌<◌, ◌^◌, length, take};
+ghost use Rattle.std.specs.Prelude.{◌≡◌, ◌≤◌, ◌+◌, ◌<◌, ◌^◌, length, take, slice_get, Some, MatchOption, None};
 ghost use Rattle.sudoers_text.specs.Fault.{lf_count as lfs};
+ghost use Rattle.sudoers_tree.specs.Line.{line_of_view};
 ghost use Rattle.sudoers_tree.specs.Physical.{column_behind, byte_count_after_last_lf};
+ghost use Rattle.sudoers_tree.specs.Walk.{spot_of_walk_line};
+ghost use Rattle.sudoers_check.specs.Places.{text_of_walk_line};
+ghost use Rattle.sudoers_check.specs.internal.Cursors.{IsTextOfWalkLineAtSpot};
 
-use sudoers_tree::{WalkLineSpot, lf_count};
+use sudoers_tree::{Line, Policy, WalkLineSpot, lf_count};
 
 /// A place in a line that stands at `spot`. Places are asked for in rising order; going back is slower.
 #[derive(Drop)]
@@ -22,8 +26,19 @@ pub struct PhysicalLineCursor<'a> {
 }
 
 impl<'a> PhysicalLineCursor<'a> {
+    /// Returns the beginning of the line with the number `number` of the walk of `policy`, if there is one.
+    pub fn from_line_of_walk(policy: &'a Policy, number: usize) -> Option<PhysicalLineCursor<'a>>
+        ensures { MatchOption result (text_of_walk_line policy.now.walk number ≡ None)
+            (λ cursor. IsTextOfWalkLineAtSpot policy.now.walk number cursor.text.now cursor.spot) }
+    {
+        let lines = policy.lines();
+        let row = lines.rows.get(number)?;
+        let line = Line::from_line_row(lines.tables, row);
+        Some(make_cursor_at_line(policy, number, &line))
+    }
+
     /// Returns the beginning of a line that stands at `spot`.
-    pub fn new(text: &'a [u8], spot: WalkLineSpot) -> PhysicalLineCursor<'a>
+    fn new(text: &'a [u8], spot: WalkLineSpot) -> PhysicalLineCursor<'a>
         requires { spot.row + length text.now < 2 ^ 62 }
         ensures text { result.text.now ≡ text.now }
         ensures spot { result.spot ≡ spot }
@@ -67,6 +82,21 @@ impl<'a> PhysicalLineCursor<'a> {
         self.behind = count_bytes_after_last_lf(self.behind, between);
         self.at = start;
     }
+}
+
+/// Returns the beginning of `line`, the line with the number `number` of the walk.
+pub fn make_cursor_at_line<'a>(
+    policy: &Policy,
+    number: usize,
+    line: &Line<'a>,
+) -> PhysicalLineCursor<'a>
+    requires { slice_get policy.now.walk.lines number ≡ Some (line_of_view line.now) }
+    ensures text { result.text.now ≡ line.now.text.now }
+    ensures spot { result.spot ≡ spot_of_walk_line policy.now.walk number }
+{
+    // laws
+    policy.lines_stand();
+    PhysicalLineCursor::new(line.text, policy.spots_of_walk_lines()[number])
 }
 
 /// Returns how many bytes stand behind the last LF, where `before` bytes stand behind it already and `bytes` follow.

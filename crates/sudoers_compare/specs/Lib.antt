@@ -8,6 +8,6 @@ pub mod Marked
 pub mod MemberIndex
 pub mod NextRows
 pub mod Overruled
+pub mod RelatedLists
 pub mod RowLists
-pub mod SameLists
 pub mod SameRow

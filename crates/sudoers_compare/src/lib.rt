@@ -19,10 +19,11 @@ mod narrowed_rows;
 mod next_rows;
 mod overruled;
 mod proposed_marks;
+mod related_lists;
 mod row_lists;
 mod runas_specs;
-mod same_lists;
 mod same_row;
+mod unchanged_rows;
 
 pub use covering::{covers_grant, covers_row};
 pub use flat_defaults::{

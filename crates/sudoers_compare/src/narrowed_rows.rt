@@ -1,9 +1,12 @@
 //! Rows that are narrowed, among those that are marked. No proof relies on which are found.
 
 use crate::flat_row::{FlatRow, FlatRunasView};
-use crate::flat_rows::PlacedFlatRow;
 use crate::marks::{RowMarks, find_unmarked};
-use crate::same_row::{CountedChanges, is_unchanged_row};
+use crate::related_lists::{KnownRelations, NO_RELATIONS};
+use crate::row_lists::{RowsWithLists, find_lists_of_row};
+use crate::same_row::CountedChanges;
+use crate::unchanged_rows::is_unchanged_row;
+use std::alloc::Global;
 use sudoers_line_rows::{MemberRow, RowsOfTable};
 
 /// How many pairs of members are compared at most to find the rows that are narrowed.
@@ -54,23 +57,42 @@ fn remove_mark(marks: &mut Vec<bool>, number: usize) {
     }
 }
 
-/// Returns the number of the first of the rows `old` that `new` narrows, from number `from` on. They went one behind another, as `gone` says. Takes
-/// the pairs of members that are compared from `left`.
+/// What was compared so far.
+#[derive(Clone, Copy)]
+struct Comparisons {
+    known: KnownRelations,
+    /// How many pairs of members may still be compared.
+    left: usize,
+}
+
+/// Returns the number of the first of the rows `old`, from number `from` on, that the row of `new` with the number `at` narrows. They went one
+/// behind another, as `gone` says.
 fn find_narrowed_row(
-    old: &[PlacedFlatRow<'_>],
+    alloc: Global,
+    old: RowsWithLists<'_, '_, '_>,
     gone: &[bool],
     from: usize,
-    new: &FlatRow<'_>,
-    left: &mut usize,
+    new: RowsWithLists<'_, '_, '_>,
+    at: usize,
+    comparisons: &mut Comparisons,
 ) -> Option<usize> {
+    let row = &new.rows.get(at)?.row;
     for skipped in 0..MOST_SKIPPED {
         let number = from.saturating_add(skipped);
-        let placed = old.get(number)?;
+        let was = &old.rows.get(number)?.row;
         if !is_marked(gone, number) {
             return None;
         }
-        *left = left.checked_sub(count_pairs(&placed.row, new))?;
-        if is_unchanged_row(CountedChanges::Granting, &placed.row, new) {
+        comparisons.left = comparisons.left.checked_sub(count_pairs(was, row))?;
+        if is_unchanged_row(
+            alloc,
+            CountedChanges::Granting,
+            &mut comparisons.known,
+            find_lists_of_row(old.lists, number),
+            was,
+            find_lists_of_row(new.lists, at),
+            row,
+        ) {
             return Some(number);
         }
     }
@@ -80,22 +102,28 @@ fn find_narrowed_row(
 /// Removes the marks of each row of `new` that came, and of a row of `old` that went in its place, where that one is narrowed. Rows are taken in
 /// order. No more than `MOST_COMPARED` pairs of members are compared.
 pub fn remove_marks_of_narrowed_rows(
+    alloc: Global,
     marks: &mut RowMarks,
-    old: &[PlacedFlatRow<'_>],
-    new: &[PlacedFlatRow<'_>],
+    old: RowsWithLists<'_, '_, '_>,
+    new: RowsWithLists<'_, '_, '_>,
 ) {
-    let mut left = MOST_COMPARED;
+    let mut comparisons = Comparisons {
+        known: NO_RELATIONS,
+        left: MOST_COMPARED,
+    };
     let mut reached = 0;
-    for number in 0..new.len() {
+    for number in 0..new.rows.len() {
         let gone = marks.gone.as_slice();
         if !is_marked(marks.came.as_slice(), number) {
             reached = find_unmarked(gone, reached).saturating_add(1);
         } else if let Some(narrowed) = find_narrowed_row(
+            alloc,
             old,
             gone,
             reached,
-            &new[number].row,
-            &mut left,
+            new,
+            number,
+            &mut comparisons,
         ) {
             remove_mark(&mut marks.gone, narrowed);
             remove_mark(&mut marks.came, number);

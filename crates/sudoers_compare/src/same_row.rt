@@ -1,15 +1,14 @@
 //! Rows that say the same.
 
-ghost use Rattle.std.specs.Prelude.{◌≡◌, ◌↔◌, ◌&&◌, true};
+ghost use Rattle.std.specs.Prelude.{◌≡◌, ◌↔◌, true};
 ghost use Rattle.std.specs.Option.{option_map};
 ghost use Rattle.sudoers_line_rows.specs.View.{member_of_view};
 ghost use Rattle.sudoers_match_list.specs.Flat.{signed_atom_of_member};
 ghost use Rattle.sudoers_match.specs.Values.{option_value_of_view, option_values_of_view};
 ghost use Rattle.laws_compare.specs.Decided.{is_same_flat_list, is_same_signed_atom};
 ghost use Rattle.sudoers_compare.specs.FlatRow.{flat_row_of_view, flat_runas_spec_of_view, grant_of_view, optional_signed_atoms_of_view, signed_atoms_of_view};
-ghost use Rattle.sudoers_compare.specs.SameRow.{are_same_option_values, are_same_tags, have_same_effect, is_narrowed_row, is_same_flat_row, is_same_flat_runas_spec, is_same_grant, is_same_option_value, is_same_optional_flat_list, is_same_tag, is_unchanged_row};
+ghost use Rattle.sudoers_compare.specs.SameRow.{are_same_option_values, are_same_tags, have_same_effect, is_same_flat_row, is_same_flat_runas_spec, is_same_grant, is_same_option_value, is_same_optional_flat_list, is_same_tag};
 
-use crate::covering::covers_row;
 use crate::flat_lists::is_same_flat_list;
 use crate::flat_row::{FlatRow, FlatRunasView};
 use sudoers_line_rows::{Member, MemberRow, RowsOfTable, are_row_lists_alike, is_same_atom};
@@ -146,38 +145,4 @@ pub fn is_same_row(row: &FlatRow<'_>, other: &FlatRow<'_>) -> bool
     ensures { (result ≡ true) ↔ (flat_row_of_view row.now ≡ flat_row_of_view other.now) }
 {
     has_same_parts(row, other)
-}
-
-/// Returns whether `old` allows all that `new` says something of, with the same sign, tags and options.
-fn is_narrowed_row(old: &FlatRow<'_>, new: &FlatRow<'_>) -> bool
-    ensures { result ≡ is_narrowed_row (flat_row_of_view old.now) (flat_row_of_view new.now) }
-{
-    !old.member.negated && has_same_effect(old, new) && covers_row(old, new)
-}
-
-/// Returns whether `new` is `old`, or differs from it only in what does not count.
-pub fn is_unchanged_row(counted: CountedChanges, old: &FlatRow<'_>, new: &FlatRow<'_>) -> bool
-    ensures { result ≡ is_unchanged_row counted (flat_row_of_view old.now) (flat_row_of_view new.now) }
-{
-    match counted {
-        CountedChanges::All => has_same_parts(old, new),
-        CountedChanges::Granting => has_same_parts(old, new) || is_narrowed_row(old, new),
-    }
-}
-
-/// Returns the same as `is_unchanged_row`. `are_same` says whether the users and the hosts of both are the same.
-pub fn is_unchanged_row_of_lists(
-    counted: CountedChanges,
-    are_same: bool,
-    old: &FlatRow<'_>,
-    new: &FlatRow<'_>,
-) -> bool
-    ensures { are_same ≡ (is_same_flat_list (signed_atoms_of_view old.now.users) (signed_atoms_of_view new.now.users) && is_same_flat_list (signed_atoms_of_view old.now.hosts) (signed_atoms_of_view new.now.hosts))
-        → result ≡ is_unchanged_row counted (flat_row_of_view old.now) (flat_row_of_view new.now) }
-{
-    let is_same = are_same && is_same_grant(old, new);
-    match counted {
-        CountedChanges::All => is_same,
-        CountedChanges::Granting => is_same || is_narrowed_row(old, new),
-    }
 }

@@ -1,11 +1,13 @@
 //! Members that are a user or a denial, in lists and in the aliases of these.
 
-use std::alloc::AllocError;
+use std::alloc::{AllocError, Global};
 use sudoers_grammar::Kind;
-use sudoers_line_rows::{AliasDefinitionRow, BorrowedAtom, Member, MemberRow, Node, RowsOfTable};
+use sudoers_line_rows::{
+    AliasDefinitionRow, BorrowedAtom, Member, MemberRow, NodeRow, RowsOfTable, rows_in,
+};
 use sudoers_match_member::is_same_name_ignoring_case;
-use sudoers_names::NameSet;
-use sudoers_tree::{ALIAS_LIMIT, Policy, is_same_kind};
+use sudoers_names::{NameSet, NumbersByName};
+use sudoers_tree::{Policy, is_same_kind};
 
 /// What is looked for.
 #[derive(Clone, Copy)]
@@ -36,18 +38,52 @@ pub fn is_name_of_user(policy: &Policy, kind: Kind, atom: &BorrowedAtom<'_>, use
     }
 }
 
-/// Returns the numbers, from 0, of the lines of the walk that define aliases of the kind `kind`.
-fn list_lines_with_definitions(policy: &Policy, kind: Kind) -> Result<Vec<usize>, AllocError> {
-    let mut numbers = Vec::new(policy.allocator());
+/// Returns the definitions of aliases of the kind `kind`, in the order of the walk.
+fn list_definitions_of_kind(
+    policy: &Policy,
+    kind: Kind,
+) -> Result<Vec<AliasDefinitionRow>, AllocError> {
+    let mut definitions = Vec::new(policy.allocator());
     let lines = policy.lines();
-    for (number, row) in lines.rows.iter().enumerate() {
-        if let Node::Alias { kind: own, .. } = lines.tables.node_of_row(&row.node)
+    for row in lines.rows {
+        if let NodeRow::Alias { kind: own, defs } = row.node
             && is_same_kind(own, kind)
         {
-            numbers.push(number)?;
+            definitions.extend_from_slice(rows_in(lines.tables.defs.as_slice(), defs))?;
         }
     }
-    Ok(numbers)
+    Ok(definitions)
+}
+
+/// Returns for each name the numbers of those of `defs` that have it as a member without `!`.
+fn list_mentions(
+    alloc: Global,
+    defs: &RowsOfTable<'_, AliasDefinitionRow>,
+) -> Result<NumbersByName, AllocError> {
+    let mut mentions = NumbersByName::new(alloc);
+    for (number, row) in defs.rows.iter().enumerate() {
+        let def = defs.tables.alias_definition_of_row(row);
+        add_mentions_of_members(alloc, &mut mentions, number, &def.members)?;
+    }
+    Ok(mentions)
+}
+
+/// Adds `number` to `mentions` under each alias that is one of `members`, without `!`.
+fn add_mentions_of_members(
+    alloc: Global,
+    mentions: &mut NumbersByName,
+    number: usize,
+    members: &RowsOfTable<'_, MemberRow>,
+) -> Result<(), AllocError> {
+    for row in members.rows {
+        let member = members.tables.member_of_row(row);
+        if let BorrowedAtom::Alias(name) = member.atom
+            && !member.negated
+        {
+            mentions.add_number(alloc, name, number)?;
+        }
+    }
+    Ok(())
 }
 
 impl<'a> MemberFinder<'a> {
@@ -67,39 +103,67 @@ impl<'a> MemberFinder<'a> {
             wanted,
             aliases: NameSet::new(policy.allocator()),
         };
-        let numbers = list_lines_with_definitions(policy, kind)?;
-        for _ in 0..ALIAS_LIMIT {
-            let before = finder.aliases.len();
-            finder.add_aliases_of_lines(numbers.as_slice())?;
-            if finder.aliases.len() == before {
-                break;
-            }
-        }
+        let rows = list_definitions_of_kind(policy, kind)?;
+        finder.add_aliases_of_definitions(&RowsOfTable {
+            tables: policy.lines().tables,
+            rows: rows.as_slice(),
+        })?;
         Ok(finder)
     }
 
-    /// Adds the aliases that the lines with the numbers `numbers` define, and that have a member which is looked for.
-    fn add_aliases_of_lines(&mut self, numbers: &[usize]) -> Result<(), AllocError> {
-        let lines = self.policy.lines();
-        for number in numbers {
-            if let Some(row) = lines.rows.get(*number)
-                && let Node::Alias { defs, .. } = lines.tables.node_of_row(&row.node)
-            {
-                self.add_aliases_of_definitions(&defs)?;
+    /// Adds the aliases of `defs` that have a member which is looked for, and then those that mention them.
+    fn add_aliases_of_definitions(
+        &mut self,
+        defs: &RowsOfTable<'_, AliasDefinitionRow>,
+    ) -> Result<(), AllocError> {
+        let mentions = list_mentions(self.policy.allocator(), defs)?;
+        let mut found = self.find_definitions_with_member(defs)?;
+        for reached in 0..defs.rows.len() {
+            let Some(number) = found.get(reached).copied() else {
+                break;
+            };
+            if let Some(row) = defs.rows.get(number) {
+                let def = defs.tables.alias_definition_of_row(row);
+                self.add_aliases_with_numbers(
+                    defs,
+                    mentions.numbers_of_name(def.name),
+                    &mut found,
+                )?;
             }
         }
         Ok(())
     }
 
-    /// Adds the aliases of `defs` that have a member which is looked for.
-    fn add_aliases_of_definitions(
+    /// Adds the aliases of `defs` that have a member which is looked for, and returns their numbers.
+    fn find_definitions_with_member(
         &mut self,
         defs: &RowsOfTable<'_, AliasDefinitionRow>,
-    ) -> Result<(), AllocError> {
-        for row in defs.rows {
+    ) -> Result<Vec<usize>, AllocError> {
+        let alloc = self.policy.allocator();
+        let mut found = Vec::new(alloc);
+        for (number, row) in defs.rows.iter().enumerate() {
             let def = defs.tables.alias_definition_of_row(row);
-            if !self.aliases.has(def.name) && self.has_member_among(&def.members) {
-                self.aliases.add(self.policy.allocator(), def.name)?;
+            if self.has_member_among(&def.members) && self.aliases.add(alloc, def.name)? {
+                found.push(number)?;
+            }
+        }
+        Ok(found)
+    }
+
+    /// Adds the aliases of those of `defs` that have these numbers. Appends the numbers of the new ones to `found`.
+    fn add_aliases_with_numbers(
+        &mut self,
+        defs: &RowsOfTable<'_, AliasDefinitionRow>,
+        numbers: &[usize],
+        found: &mut Vec<usize>,
+    ) -> Result<(), AllocError> {
+        let alloc = self.policy.allocator();
+        for number in numbers {
+            if let Some(row) = defs.rows.get(*number) {
+                let def = defs.tables.alias_definition_of_row(row);
+                if self.aliases.add(alloc, def.name)? {
+                    found.push(*number)?;
+                }
             }
         }
         Ok(())

@@ -11,23 +11,25 @@ ghost use Rattle.sudoers_lint.specs.Views.{finding_of_view, findings_of_view};
 use crate::finding_list::LintFinding;
 use crate::findings::find_lint_findings;
 use std::alloc::{AllocError, Global};
-use sudoers_list::append_place_on_walk_line;
+use sudoers_check::WalkCursor;
+use sudoers_list::append_place_at_cursor;
 use sudoers_review::CompareFault;
 use sudoers_tree::Policy;
 
 /// How many bytes a text may have before another line is appended.
 const TEXT_LIMIT: usize = 16_777_216;
 
-/// Appends the line on `finding` to `out`.
+/// Appends the line on `finding` to `out`. `cursor` goes over the walk of the policy.
 fn append_finding_line(
     alloc: Global,
     out: &mut Vec<u8>,
-    policy: &Policy,
+    cursor: &mut WalkCursor<'_>,
     finding: &LintFinding,
 ) -> Result<(), AllocError>
-    ensures { OnOk result (out.new.items ≡ out.old.items ++ lint_line policy.now (finding_of_view finding.now)) }
+    ensures line { OnOk result (out.new.items ≡ out.old.items ++ lint_line cursor.old.policy.now (finding_of_view finding.now)) }
+    ensures policy { cursor.new.policy.now ≡ cursor.old.policy.now }
 {
-    append_place_on_walk_line(alloc, out, policy, finding.line, finding.start)?;
+    append_place_at_cursor(alloc, out, cursor, finding.line, finding.start)?;
     out.extend_from_slice(b": warning: ")?;
     out.extend_from_slice(finding.rule.name())?;
     out.extend_from_slice(b": ")?;
@@ -47,8 +49,9 @@ fn append_finding_lines(
     ensures lines { OnOk result (out.new.items ≡ out.old.items ++ flat_map (lint_line policy.now) (findings_of_view findings.now)) }
     ensures fault { IfErr result IsMemoryOrSizeFault }
 {
+    let mut cursor = WalkCursor::new(policy);
     for finding in findings {
-        append_finding_line(alloc, out, policy, finding)?;
+        append_finding_line(alloc, out, &mut cursor, finding)?;
         if out.len() > TEXT_LIMIT {
             return Err(CompareFault::TooLarge);
         }

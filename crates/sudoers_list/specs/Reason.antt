@@ -11,6 +11,7 @@ use Rattle.sudoers_tree.specs.Files.{name_of_numbered_file}
 use Rattle.sudoers_tree.specs.Load.{LoadedPolicy}
 use Rattle.sudoers_tree.specs.Physical.{column_behind}
 use Rattle.sudoers_tree.specs.Walk.{spot_of_walk_line}
+use Rattle.sudoers_check.specs.declared.walk_cursor.BytePlace.{BytePlace}
 use Rattle.sudoers_match_member.specs.declared.request.Request.{Request}
 use Rattle.sudoers_match.specs.Answer.{Answer, is_request_command_match}
 use Rattle.sudoers_match.specs.Default.{IsRunasDefault}
@@ -30,6 +31,11 @@ file_name_of_walk_line policy line = name_of_numbered_file policy.files (spot_of
 -- the physical line of its file on which it begins, from 1
 abbrev pub physical_row_of_walk_line : LoadedPolicy → ℕ → ℕ
 physical_row_of_walk_line policy line = (spot_of_walk_line policy.walk line).row
+
+-- a place in the files of the policy: the file, the physical line of the file and the column
+abbrev pub byte_place_text : LoadedPolicy → BytePlace → List ℕ
+byte_place_text policy place =
+    name_of_numbered_file policy.files place.file ++ codes ":" ++ decimal place.row ++ codes ":" ++ decimal place.column
 
 -- what stands before a message: the place of the byte `start` of the line with this number of the walk, whose text is `text`. It is the
 -- file, the physical line of the file and the column

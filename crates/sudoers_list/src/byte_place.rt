@@ -3,10 +3,11 @@
 ghost use Rattle.std.specs.Prelude.{◌≡◌, ◌++◌, slice_get, Some, OnOk};
 ghost use Rattle.sudoers_tree.specs.Line.{line_of_view};
 ghost use Rattle.sudoers_tree.specs.Walk.{spot_of_walk_line};
-ghost use Rattle.sudoers_list.specs.Reason.{file_row_column_text, place_text_on_walk_line};
+ghost use Rattle.sudoers_list.specs.Reason.{byte_place_text, file_row_column_text, place_text_on_walk_line};
 
-use crate::deciding_rule::{NumberedLine, walk_line_at};
+use crate::deciding_rule::NumberedLine;
 use std::alloc::{AllocError, Global};
+use sudoers_check::{BytePlace, WalkCursor};
 use sudoers_text::append_decimal_number;
 use sudoers_tree::{Policy, WalkLineSpot, column_behind, lf_count};
 
@@ -22,6 +23,22 @@ fn walk_line_spot_at(policy: &Policy, number: usize) -> WalkLineSpot
             row: 1,
         },
     }
+}
+
+/// Appends the place `place` in the files of `policy`.
+fn append_place_in_files(
+    alloc: Global,
+    out: &mut Vec<u8>,
+    policy: &Policy,
+    place: BytePlace,
+) -> Result<(), AllocError>
+    ensures { OnOk result (out.new.items ≡ out.old.items ++ byte_place_text policy.now place) }
+{
+    out.extend_from_slice(policy.file_name(place.file))?;
+    out.extend_from_slice(b":")?;
+    append_decimal_number(alloc, out, place.row)?;
+    out.extend_from_slice(b":")?;
+    append_decimal_number(alloc, out, place.column)
 }
 
 /// Appends the place of the byte `start` of a line, from 0: its file, its physical line there and its column.
@@ -44,11 +61,33 @@ pub fn append_byte_place(
     let text = at.line.text;
     let before = &text[..start.min(text.len())];
     let spot = walk_line_spot_at(policy, at.number);
-    out.extend_from_slice(policy.file_name(spot.file))?;
-    out.extend_from_slice(b":")?;
-    append_decimal_number(alloc, out, spot.row + lf_count(before))?;
-    out.extend_from_slice(b":")?;
-    append_decimal_number(alloc, out, column_behind(before))
+    let place = BytePlace {
+        file: spot.file,
+        row: spot.row + lf_count(before),
+        column: column_behind(before),
+    };
+    append_place_in_files(alloc, out, policy, place)
+}
+
+/// Appends the place of a byte of the walk of `cursor`, as `append_place_on_walk_line` does. Places of one line are quick in rising order.
+///
+/// # Errors
+///
+/// Memory ran out.
+pub fn append_place_at_cursor(
+    alloc: Global,
+    out: &mut Vec<u8>,
+    cursor: &mut WalkCursor<'_>,
+    number: usize,
+    start: usize,
+) -> Result<(), AllocError>
+    ensures text { OnOk result (out.new.items ≡ out.old.items ++ place_text_on_walk_line cursor.old.policy.now number start) }
+    ensures policy { cursor.new.policy.now ≡ cursor.old.policy.now }
+{
+    match cursor.find_place_of_byte(number, start) {
+        Some(place) => append_place_in_files(alloc, out, cursor.policy, place),
+        None => Ok(()),
+    }
 }
 
 /// Appends the place of a byte of the walk: of the byte `start`, from 0, of the line with the number `number`, from 0. The place is a
@@ -66,8 +105,5 @@ pub fn append_place_on_walk_line(
 ) -> Result<(), AllocError>
     ensures { OnOk result (out.new.items ≡ out.old.items ++ place_text_on_walk_line policy.now number start) }
 {
-    match walk_line_at(policy, number) {
-        Some(line) => append_byte_place(alloc, out, policy, &NumberedLine { number, line }, start),
-        None => Ok(()),
-    }
+    append_place_at_cursor(alloc, out, &mut WalkCursor::new(policy), number, start)
 }

@@ -13,7 +13,7 @@ mod listing;
 pub use answer_reason::{
     AnswerReason, explain, explain_found_answer, explain_spelled_answer, find_answer_reason,
 };
-pub use byte_place::append_place_on_walk_line;
+pub use byte_place::{append_place_at_cursor, append_place_on_walk_line};
 pub use deciding_member::DecidingAliasMember;
 pub use deciding_rule::{CommandWithSettings, DecidingRule, NumberedLine};
 pub use listed_commands::{UserAndRunasDefaultNames, append_listed_command, append_runas_name};

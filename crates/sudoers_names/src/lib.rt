@@ -2,5 +2,7 @@
 #![tactic(auto)]
 
 mod names;
+mod numbers;
 
 pub use names::NameSet;
+pub use numbers::NumbersByName;

@@ -1,3 +1,4 @@
+pub mod MarkedDefinitions
 pub mod NothingWanted
 pub mod Numbers
 pub mod PlanOutcomes

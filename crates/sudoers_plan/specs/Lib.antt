@@ -1,4 +1,5 @@
 pub mod GivenText
+pub mod Mentions
 pub mod Numbers
 pub mod Plan
 pub mod User

@@ -8,6 +8,7 @@ mod member_text;
 mod member_wishes;
 mod planning;
 mod user_aliases;
+mod user_definitions;
 mod user_lines;
 mod user_members;
 mod user_misread;

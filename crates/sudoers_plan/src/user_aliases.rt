@@ -1,19 +1,22 @@
 //! The aliases in which a user stands.
 
-ghost use Rattle.std.specs.Prelude.{◌≡◌, ◌++◌, map, IfOk, OnOk};
-ghost use Rattle.sudoers_line_rows.specs.Tables.{alias_definition_in_tables, node_in_tables};
-ghost use Rattle.sudoers_line_rows.specs.View.{alias_definitions_of_view, members_of_view};
-ghost use Rattle.sudoers_tree.specs.Line.{lines_of_rows};
-ghost use Rattle.sudoers_plan.specs.User.{aliases_of_user, is_list_of_user, names_with_definitions_of_user, user_definitions_of_lines, user_definitions_of_node};
+ghost use Rattle.std.specs.Prelude.{◌≡◌, ◌<◌, ℕ, List, true, false, nat_eq, map, length, slice_index_or, IfOk, OnOk};
+ghost use Rattle.std.specs.List.{list_any};
+ghost use Rattle.sudoers_line_rows.specs.Tables.{alias_definition_in_tables};
+ghost use Rattle.sudoers_line_rows.specs.View.{alias_definition_of_view, members_of_view};
+ghost use Rattle.sudoers_names.specs.Numbers.{numbers_of_name};
+ghost use Rattle.sudoers_plan.specs.Mentions.{AreUnmarkedSettled, is_definition_settled, names_with_definition};
+ghost use Rattle.sudoers_plan.specs.User.{aliases_of_user, is_list_of_user, names_with_definitions_of_user, user_definitions_of_lines};
 
+use crate::user_definitions::UserDefinitions;
 use crate::user_members::{ListPart, UserMembers};
-use std::alloc::{AllocError, Global};
-use sudoers_grammar::Kind;
-use sudoers_line_rows::{AliasDefinitionRow, MemberRow, NodeRow, RowsOfTable, Tables, rows_in};
-use sudoers_names::NameSet;
-use sudoers_tree::{ALIAS_LIMIT, LineRow, Policy};
+use std::alloc::AllocError;
+use sudoers_line_rows::{Def, MemberRow, RowsOfTable};
+use sudoers_names::{NameSet, NumbersByName};
+use sudoers_tree::{ALIAS_LIMIT, Policy};
 
-/// Returns the aliases of users in which the user stands, by name or by such an alias: in any member, or in all.
+/// Returns the aliases of users in which the user stands, by name or by such an alias: in any member, or in all. `definitions` are those of
+/// `policy`.
 ///
 /// # Errors
 ///
@@ -21,22 +24,20 @@ use sudoers_tree::{ALIAS_LIMIT, LineRow, Policy};
 #[tactic(auto, unfolding(crate::specs::User::aliases_of_user))]
 pub fn find_aliases_of_user(
     policy: &Policy,
+    definitions: &UserDefinitions<'_>,
     part: ListPart,
     user: &[u8],
 ) -> Result<NameSet, AllocError>
+    requires { map (alias_definition_in_tables definitions.now.tables.now) definitions.now.rows.items ≡ user_definitions_of_lines policy.now.walk.lines }
     ensures { IfOk result (λ names. names ≡ aliases_of_user part user.now policy.now.walk.lines) }
 {
     let alloc = policy.allocator();
-    let lines = policy.lines();
-    let rows = list_user_definitions(alloc, &lines)?;
-    let defs = RowsOfTable {
-        tables: lines.tables,
-        rows: rows.as_slice(),
-    };
     let mut names = NameSet::new(alloc);
+    let mut marked = Vec::from_elem(alloc, true, definitions.rows.len())?;
+    let marks = marked.as_mut_slice();
     for _ in 0..ALIAS_LIMIT {
         let before = names.len();
-        add_aliases_of_definitions(policy, part, user, &defs, &mut names)?;
+        add_marked_aliases(policy, definitions, part, user, marks, &mut names)?;
         if names.len() == before {
             return Ok(names);
         }
@@ -44,56 +45,71 @@ pub fn find_aliases_of_user(
     Ok(names)
 }
 
-/// Returns the definitions of aliases of users in `lines`, in their order.
-fn list_user_definitions(
-    alloc: Global,
-    lines: &RowsOfTable<'_, LineRow>,
-) -> Result<Vec<AliasDefinitionRow>, AllocError>
-    ensures { IfOk result (λ rows. map (alias_definition_in_tables lines.now.tables.now) rows.items ≡ user_definitions_of_lines (lines_of_rows lines.now)) }
-{
-    let mut rows = Vec::new(alloc);
-    for line in lines.rows {
-        append_user_definitions(lines.tables, &line.node, &mut rows)?;
-    }
-    Ok(rows)
-}
-
-/// Appends the definitions of aliases of users in a line that says `node`.
-fn append_user_definitions(
-    tables: &Tables,
-    node: &NodeRow,
-    rows: &mut Vec<AliasDefinitionRow>,
-) -> Result<(), AllocError>
-    ensures { OnOk result (map (alias_definition_in_tables tables.now) rows.new.items
-        ≡ map (alias_definition_in_tables tables.now) rows.old.items ++ user_definitions_of_node (node_in_tables tables.now node.now)) }
-{
-    match *node {
-        NodeRow::Alias {
-            kind: Kind::User,
-            defs,
-        } => rows.extend_from_slice(rows_in(tables.defs.as_slice(), defs)),
-        _ => Ok(()),
-    }
-}
-
-/// Adds the aliases that are the user's, each asked with those before it.
-fn add_aliases_of_definitions(
+/// Adds the aliases that are the user's, each asked with those before it. Definitions without a mark are not asked: their aliases are there,
+/// or not the user's. Marks those that have to be asked again.
+fn add_marked_aliases(
     policy: &Policy,
+    definitions: &UserDefinitions<'_>,
     part: ListPart,
     user: &[u8],
-    defs: &RowsOfTable<'_, AliasDefinitionRow>,
+    marks: &mut [bool],
     names: &mut NameSet,
 ) -> Result<(), AllocError>
-    ensures { OnOk result (names.new ≡ names_with_definitions_of_user part user.now policy.now.walk.lines names.old (alias_definitions_of_view defs.now)) }
+    requires each { length marks.old ≡ length definitions.now.rows.items }
+    requires settled { AreUnmarkedSettled part user.now policy.now.walk.lines names.old (map (alias_definition_in_tables definitions.now.tables.now) definitions.now.rows.items) marks.old }
+    ensures names { OnOk result (names.new ≡ names_with_definitions_of_user part user.now policy.now.walk.lines names.old (map (alias_definition_in_tables definitions.now.tables.now) definitions.now.rows.items)) }
+    ensures settled { OnOk result (AreUnmarkedSettled part user.now policy.now.walk.lines names.new (map (alias_definition_in_tables definitions.now.tables.now) definitions.now.rows.items) marks.new) }
 {
-    let alloc = policy.allocator();
-    for row in defs.rows {
-        let def = defs.tables.alias_definition_of_row(row);
-        if !names.has(def.name) && is_list_of_user_part(policy, part, user, &def.members, names) {
-            names.add(alloc, def.name)?;
+    for (number, row) in definitions.rows.as_slice().iter().enumerate() {
+        if marks[number] {
+            marks[number] = false;
+            let def = definitions.tables.alias_definition_of_row(row);
+            add_alias_of_user(
+                policy,
+                part,
+                user,
+                &def,
+                &definitions.mentions,
+                marks,
+                names,
+            )?;
         }
     }
     Ok(())
+}
+
+/// Adds the alias that `def` defines, if it is the user's. Marks the definitions that mention it.
+fn add_alias_of_user(
+    policy: &Policy,
+    part: ListPart,
+    user: &[u8],
+    def: &Def<'_>,
+    mentions: &NumbersByName,
+    marks: &mut [bool],
+    names: &mut NameSet,
+) -> Result<(), AllocError>
+    ensures names { OnOk result (names.new ≡ names_with_definition part user.now policy.now.walk.lines names.old (alias_definition_of_view def.now)) }
+    ensures kept { OnOk result ((j : ℕ) → slice_index_or marks.old j false ≡ true → slice_index_or marks.new j false ≡ true) }
+    ensures marked { OnOk result (is_definition_settled part user.now policy.now.walk.lines names.old (alias_definition_of_view def.now) ≡ false
+        → (j : ℕ) → j < length marks.old → list_any (nat_eq j) (numbers_of_name def.now.name.now mentions.now) ≡ true → slice_index_or marks.new j false ≡ true) }
+{
+    if !names.has(def.name) && is_list_of_user_part(policy, part, user, &def.members, names) {
+        names.add(policy.allocator(), def.name)?;
+        set_marks_at(marks, mentions.numbers_of_name(def.name));
+    }
+    Ok(())
+}
+
+/// Marks the definitions with these numbers.
+fn set_marks_at(marks: &mut [bool], numbers: &[usize])
+    ensures kept { (j : ℕ) → slice_index_or marks.old j false ≡ true → slice_index_or marks.new j false ≡ true }
+    ensures marked { (j : ℕ) → j < length marks.old → list_any (nat_eq j) numbers.now ≡ true → slice_index_or marks.new j false ≡ true }
+{
+    for number in numbers {
+        if *number < marks.len() {
+            marks[*number] = true;
+        }
+    }
 }
 
 /// Returns whether any member of the list is the user's, or all are.

@@ -7,6 +7,7 @@ ghost use Rattle.sudoers_plan.specs.User.{edits_of_user_lines, edits_to_lose_use
 
 use crate::fault::PlanFault;
 use crate::user_aliases::find_aliases_of_user;
+use crate::user_definitions::UserDefinitions;
 use crate::user_lines::LeavingUser;
 use crate::user_members::ListPart;
 use crate::user_refusals::find_removal_fault;
@@ -24,8 +25,9 @@ pub fn find_edits_to_lose_user(
 ) -> Result<Edits, PlanFault>
     ensures { IsOutcomeUnlessNoMemory result (edits_to_lose_user user.now even_denials policy.now) }
 {
-    let his = find_aliases_of_user(policy, ListPart::Any, user)?;
-    let emptied = find_aliases_of_user(policy, ListPart::All, user)?;
+    let definitions = UserDefinitions::from_policy(policy)?;
+    let his = find_aliases_of_user(policy, &definitions, ListPart::Any, user)?;
+    let emptied = find_aliases_of_user(policy, &definitions, ListPart::All, user)?;
     let leaving = LeavingUser {
         policy,
         user,

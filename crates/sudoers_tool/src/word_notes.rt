@@ -4,13 +4,14 @@ use crate::found_words::{Finding, FoundWord};
 use crate::report_notes::ReportNotes;
 use crate::target_notes::Target;
 use std::alloc::{AllocError, Global};
+use sudoers_check::{BytePlace, WalkCursor};
 use sudoers_defaults::{ParameterFault, append_refusal_words};
 use sudoers_explain_edits::Nearest;
 use sudoers_forms::{
     Cause, Form, SudoRsForm, words_of_cause, words_of_form, words_of_sudo_rs_form,
 };
 use sudoers_text::append_decimal_number;
-use sudoers_tree::{Line, Policy, Span, WalkLineSpot, column_behind, lf_count};
+use sudoers_tree::{Policy, Span};
 
 /// How many unknown names are compared with the known ones.
 const MOST_COMPARED: usize = 32;
@@ -19,18 +20,11 @@ const MOST_COMPARED: usize = 32;
 #[derive(Drop)]
 struct WordNotes<'a> {
     alloc: Global,
-    policy: &'a Policy,
+    cursor: WalkCursor<'a>,
     target: Target,
     notes: ReportNotes,
     /// How many names were compared with the known ones.
     compared: usize,
-}
-
-/// A line of the walk: where it stands, and its text.
-#[derive(Clone, Copy)]
-struct WalkedText<'a> {
-    spot: WalkLineSpot,
-    text: &'a [u8],
 }
 
 /// Returns the notes on the words `words` of `policy`, which `target` finds.
@@ -42,7 +36,7 @@ pub fn make_notes_on_words(
 ) -> Result<ReportNotes, AllocError> {
     let mut notes = WordNotes {
         alloc,
-        policy,
+        cursor: WalkCursor::new(policy),
         target,
         notes: ReportNotes::new(alloc),
         compared: 0,
@@ -56,14 +50,21 @@ pub fn make_notes_on_words(
 /// Returns the physical line and the column of a part of a line of `policy`, with a colon between them.
 pub fn text_of_place(alloc: Global, policy: &Policy, at: Span) -> Result<Vec<u8>, AllocError> {
     let mut text = Vec::new(alloc);
-    if let Some(line) = find_walked_text(policy, at.line) {
-        let before = line.text.get(..at.start).unwrap_or(b"");
-        let row = line.spot.row.saturating_add(lf_count(before));
-        append_decimal_number(alloc, &mut text, row)?;
-        text.extend_from_slice(b":")?;
-        append_decimal_number(alloc, &mut text, column_behind(before))?;
+    if let Some(place) = WalkCursor::new(policy).find_place_of_byte(at.line, at.start) {
+        append_row_and_column(alloc, &mut text, place)?;
     }
     Ok(text)
+}
+
+/// Appends the physical line and the column of `place` to `out`, with a colon between them.
+fn append_row_and_column(
+    alloc: Global,
+    out: &mut Vec<u8>,
+    place: BytePlace,
+) -> Result<(), AllocError> {
+    append_decimal_number(alloc, out, place.row)?;
+    out.extend_from_slice(b":")?;
+    append_decimal_number(alloc, out, place.column)
 }
 
 impl WordNotes<'_> {
@@ -108,7 +109,7 @@ impl WordNotes<'_> {
 
     /// Appends what is wrong with the parameter named at `name`, which has the fault `fault`.
     fn append_parameter(&mut self, name: Span, fault: ParameterFault) -> Result<(), AllocError> {
-        let name = bytes_of_span(self.policy, name);
+        let name = bytes_of_span(self.cursor.policy, name);
         if fault == ParameterFault::NotDecided {
             self.append(b": not decided")?;
         } else {
@@ -152,13 +153,12 @@ impl WordNotes<'_> {
 
     /// Appends the file, the physical line and the column of a part of a line.
     fn append_place(&mut self, at: Span) -> Result<(), AllocError> {
-        let Some(line) = find_walked_text(self.policy, at.line) else {
+        let Some(place) = self.cursor.find_place_of_byte(at.line, at.start) else {
             return Ok(());
         };
-        let place = text_of_place(self.alloc, self.policy, at)?;
-        self.append(self.policy.file_name(line.spot.file))?;
+        self.append(self.cursor.policy.file_name(place.file))?;
         self.append(b":")?;
-        self.append(place.as_slice())
+        append_row_and_column(self.alloc, &mut self.notes.text, place)
     }
 
     /// Appends `bytes`.
@@ -167,21 +167,15 @@ impl WordNotes<'_> {
     }
 }
 
-/// Returns the line with the number `number` of the walk of `policy`.
-fn find_walked_text(policy: &Policy, number: usize) -> Option<WalkedText<'_>> {
-    let lines = policy.lines();
-    let row = lines.rows.get(number)?;
-    let spot = policy.spots_of_walk_lines().get(number)?;
-    Some(WalkedText {
-        spot: *spot,
-        text: Line::from_line_row(lines.tables, row).text,
-    })
-}
-
 /// Returns the bytes of a part of a line of `policy`.
 fn bytes_of_span(policy: &Policy, span: Span) -> &[u8] {
-    match find_walked_text(policy, span.line) {
-        Some(line) => line.text.get(span.start..span.stop).unwrap_or(b""),
+    let lines = policy.lines();
+    match lines.rows.get(span.line) {
+        Some(row) => lines
+            .tables
+            .bytes_of_text_row(row.text)
+            .get(span.start..span.stop)
+            .unwrap_or(b""),
         None => b"",
     }
 }

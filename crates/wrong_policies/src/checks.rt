@@ -2,12 +2,13 @@
 
 ghost use Rattle.std.specs.Prelude.{◌≡◌, IfOk, map};
 ghost use Rattle.sudoers_check.specs.Led.{unused_definitions_of_lines};
+ghost use Rattle.sudoers_check.specs.Places.{byte_place_on_walk};
 ghost use Rattle.sudoers_check.specs.Report.{is_report_parsed_ok, report_of_walk, report_text as text_of_report};
 ghost use Rattle.sudoers_tree.specs.Definition.{PlacedDefinition};
 ghost use Rattle.sudoers_tree.specs.FilePlaces.{file_place_of_walk_place};
 
 use std::alloc::{AllocError, Global};
-use sudoers_check::{Report, check, report_text, unused};
+use sudoers_check::{BytePlace, Report, WalkCursor, check, report_text, unused};
 use sudoers_tree::{DefinitionFilePlace, Kind, Policy};
 
 /// Returns what is noted of `policy`.
@@ -57,4 +58,11 @@ pub fn unused_aliases(
         ≡ map (λ (d : PlacedDefinition). (d.kind, file_place_of_walk_place policy.now.walk d.place)) (unused_definitions_of_lines policy.now.walk.lines)) }
 {
     unused(alloc, policy)
+}
+
+/// Returns where the byte `start` of the line with the number `number` of the walk of `policy` stands, both from 0.
+pub fn place_of_byte(policy: &Policy, number: usize, start: usize) -> Option<BytePlace>
+    ensures { result ≡ byte_place_on_walk policy.now.walk number start }
+{
+    WalkCursor::new(policy).find_place_of_byte(number, start)
 }

@@ -8,7 +8,7 @@ mod loads;
 mod names;
 mod texts;
 
-pub use checks::{check_policy, is_fine_report, report_of_policy, unused_aliases};
+pub use checks::{check_policy, is_fine_report, place_of_byte, report_of_policy, unused_aliases};
 pub use leads::{lead_of_line, lead_of_node, may_lead_somewhere};
 pub use lines::reading_of_line;
 pub use loads::{change_files, file_text, insert_line, load_files, load_text, walk_spots};

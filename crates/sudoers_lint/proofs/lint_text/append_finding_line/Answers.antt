@@ -6,15 +6,15 @@ use Rattle.sudoers_lint.specs.Rules.{rule_name, words_of_rule}
 use Rattle.sudoers_lint.proofs.LintLines.{eight_parts_are_grouped}
 use Rattle.sudoers_lint.proofs.lint_text.append_finding_line.Goals as goal
 
-pub returns : goal.returns
-returns c =
+pub returns-clause-line : goal.returns-clause-line
+returns-clause-line c =
     let o = c.args.out.now.items in
     let f = c.args.finding.now in
-    let place : List ℕ = place_text_on_walk_line c.args.policy.now f.line f.start in
+    let place : List ℕ = place_text_on_walk_line c.args.cursor.now.policy.now f.line f.start in
     let name : List ℕ = rule_name f.rule in
     let subject : List ℕ = f.subject.items in
     let words : List ℕ = words_of_rule f.rule in
-    let first : c.append_place_on_walk_line.new.out.items ≡ o ++ place = c.in_ok-append_place_on_walk_line.ensures in
+    let first : c.append_place_at_cursor.new.out.items ≡ o ++ place = c.in_ok-append_place_at_cursor.ensures.text in
     let second : c.extend_from_slice.new.self.items ≡ (o ++ place) ++ codes ": warning: " = c.in_ok-extend_from_slice.ensures.items ∙ ap (λ (x : List ℕ). x ++ codes ": warning: ") first in
     let third : c.extend_from_slice-2.new.self.items ≡ ((o ++ place) ++ codes ": warning: ") ++ name = c.in_ok-extend_from_slice-2.ensures.items ∙ ap₂ (λ (x y : List ℕ). x ++ y) second c.name.ensures in
     let fourth : c.extend_from_slice-3.new.self.items ≡ (((o ++ place) ++ codes ": warning: ") ++ name) ++ codes ": " = c.in_ok-extend_from_slice-3.ensures.items ∙ ap (λ (x : List ℕ). x ++ codes ": ") third in

@@ -5,8 +5,8 @@ use Rattle.sudoers_tree.specs.declared.place.WalkLineSpot.{WalkLineSpot}
 use Rattle.sudoers_tree.specs.Line.{line_of_view}
 use Rattle.sudoers_list.proofs.byte_place.append_byte_place.Goals as goal
 
-pub overflow_add-spot : goal.overflow_add-spot
-overflow_add-spot c =
+pub overflow_add-place : goal.overflow_add-place
+overflow_add-place c =
     let text : List ℕ = c.args.at.now.line.text.now in
     let h = c.lines_stand.ensures.stand c.args.at.now.number (line_of_view c.args.at.now.line) c.requires in
     let row : c.walk_line_spot_at-spot.result.row ≡ h.at.row =

@@ -10,19 +10,23 @@ returns-then-len-before c =
     let part = c.args.part in
     let user = c.args.user.now in
     let lines = c.args.policy.now.walk.lines in
-    let defs = map (alias_definition_in_tables c.lines-lines.result.tables.now) c.as_slice.result.now in
+    let defs = map (alias_definition_in_tables c.args.definitions.now.tables.now) c.args.definitions.now.rows.items in
     let names = c.loop.names in
-    let one : c.add_aliases_of_definitions.new.names ≡ names_with_definitions_of_user part user lines names defs = c.in_ok-add_aliases_of_definitions.ensures in
-    let same : length (names_with_definitions_of_user part user lines names defs) ≡ length names = ap length (sym one) ∙ sym c.len.ensures ∙ c.if-len-before.true ∙ c.len-before.ensures in
-    one ∙ round_ends part user lines defs names same ∙ sym (rounds_end (alias_limit_of_each_kind - c.loop.counter) part user lines defs names same) ∙ c.loop.invariant
+    let one : c.add_marked_aliases.new.names ≡ names_with_definitions_of_user part user lines names defs = c.in_ok-add_marked_aliases.ensures.names in
+    let same : length (names_with_definitions_of_user part user lines names defs) ≡ length names = ap length (sym one) ∙ sym c.len-in-loop.ensures ∙ c.if-len-before.true ∙ c.len-before.ensures in
+    one ∙ round_ends part user lines defs names same ∙ sym (rounds_end (alias_limit_of_each_kind - c.loop.counter) part user lines defs names same) ∙ c.loop.invariant.names
 
 pub loop-preserved : goal.loop-preserved
 loop-preserved c =
     let part = c.args.part in
     let user = c.args.user.now in
     let lines = c.args.policy.now.walk.lines in
-    let defs = map (alias_definition_in_tables c.lines-lines.result.tables.now) c.as_slice.result.now in
+    let defs = map (alias_definition_in_tables c.args.definitions.now.tables.now) c.args.definitions.now.rows.items in
     let names = c.loop.names in
-    let one : c.add_aliases_of_definitions.new.names ≡ names_with_definitions_of_user part user lines names defs = c.in_ok-add_aliases_of_definitions.ensures in
-    ap (names_after_rounds (alias_limit_of_each_kind - (c.loop.counter + 1)) part user lines defs) one
-    ∙ sym (one_round alias_limit_of_each_kind c.loop.counter part user lines defs names c.loop-test.true) ∙ c.loop.invariant
+    let one : c.add_marked_aliases.new.names ≡ names_with_definitions_of_user part user lines names defs = c.in_ok-add_marked_aliases.ensures.names in
+    record {
+      names = ap (names_after_rounds (alias_limit_of_each_kind - (c.loop.counter + 1)) part user lines defs) one
+          ∙ sym (one_round alias_limit_of_each_kind c.loop.counter part user lines defs names c.loop-test.true) ∙ c.loop.invariant.names;
+      each = c.add_marked_aliases.auto.marks ∙ c.loop.invariant.each;
+      settled = c.in_ok-add_marked_aliases.ensures.settled;
+    }

@@ -1,5 +1,5 @@
 use Rattle.sudoers_check.proofs.Common.{WalkLineSpot, ap, arith, get_or_from_slice_get, line_of_view, slice_index_or, sym, ◌∙◌, ◌≡◌}
-use Rattle.sudoers_check.proofs.notes.make_cursor_at_line.Goals as goal
+use Rattle.sudoers_check.proofs.physical_line_cursor.make_cursor_at_line.Goals as goal
 
 pub new-requires : goal.new-requires
 new-requires c =

@@ -2,7 +2,7 @@ use Rattle.std.proofs.Common.{◌≡◌, ◌++◌, drop, map}
 use Rattle.sudoers_line_rows.specs.Tables.{alias_definition_in_tables}
 use Rattle.sudoers_tree.specs.Line.{line_of_row}
 use Rattle.sudoers_plan.specs.User.{user_definitions_of_lines}
-use Rattle.sudoers_plan.proofs.user_aliases.list_user_definitions.Given as goal
+use Rattle.sudoers_plan.proofs.user_definitions.list_user_definitions.Given as goal
 
 abbrev pub invariant-loop-line : goal.invariant-loop-line
 invariant-loop-line l =
