@@ -31,16 +31,18 @@ line_row_of_parts text node bits lfs = record { text = text; node = node; bits =
 abbrev line_of_text_and_node : List ℕ → Node → Line
 line_of_text_and_node text node = record { text = text; node = node }
 
--- A row stands whose line was read into tables, and whose text was kept in them then.
-pub row_of_read_line_is_lasting : TableGrowthIsTransitive → ((t : Tables) → TablesHaveGrown t t) → (t u : Tables) (node : NodeRow) (text : ByteRange) (bits lfs : ℕ) (bytes : List ℕ) → outcome_of_line bytes ≡ Ok (node_in_tables t node)
-    → RowMeaningLasts node_in_tables t node → TablesHaveGrown t u → RowMeansForGood text_in_tables u text bytes → bits ≡ bits_of_alias_names_in (node_in_tables u node) → lfs ≡ lf_count bytes
+-- A row stands whose text was kept in tables, and whose line was read into them then.
+pub row_of_read_line_is_lasting : TableGrowthIsTransitive → (t u : Tables) (node : NodeRow) (text : ByteRange) (bits lfs : ℕ) (bytes : List ℕ) → RowMeansForGood text_in_tables t text bytes → TablesHaveGrown t u → outcome_of_line bytes ≡ Ok (node_in_tables u node)
+    → RowMeaningLasts node_in_tables u node → bits ≡ bits_of_alias_names_in (node_in_tables u node) → lfs ≡ lf_count bytes
     → IsLastingLineRow u (line_row_of_parts text node bits lfs)
-row_of_read_line_is_lasting on self t u node text bits lfs bytes says lasts g keeps are count = record {
-  lasts = λ v h. ap₂ line_of_text_and_node (keeps v h ∙ sym (keeps u (self u))) (lasts v (on t u v g h) ∙ sym (lasts u g));
-  says = ap outcome_of_line (keeps u (self u)) ∙ says ∙ ap (λ (n : Node). Ok n) (sym (lasts u g));
-  bits = are;
-  lfs = count ∙ ap lf_count (sym (keeps u (self u)));
-}
+row_of_read_line_is_lasting on t u node text bits lfs bytes keeps g says lasts are count =
+    let here : text_in_tables u text ≡ bytes = keeps u g in
+    record {
+      lasts = λ v h. ap₂ line_of_text_and_node (keeps v (on t u v g h) ∙ sym here) (lasts v h);
+      says = ap outcome_of_line here ∙ says;
+      bits = are;
+      lfs = count ∙ ap lf_count (sym here);
+    }
 
 -- The row at a place holds the line there.
 pub numbered_row_holds_numbered_line : (t : Tables) (rows : List LineRow) (at : ℕ) (row : LineRow) (lines : List Line) (line : Line) → map (line_of_row t) rows ≡ lines
