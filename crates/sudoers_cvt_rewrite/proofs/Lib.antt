@@ -19,3 +19,4 @@ pub mod Kept
 pub mod GroupsLeft
 pub mod Straights
 pub mod Defined
+pub mod NoAliases

@@ -1,20 +1,28 @@
 //! Lists, their aliases replaced or not, and how they are written.
 
 ghost use Rattle.std.specs.Prelude.{◌≡◌, ◌+◌, true, Some, length, map, IfOk, IfErr, OnOk};
+ghost use Rattle.std.specs.List.{list_any};
 ghost use Rattle.std.specs.Option.{option_map};
 ghost use Rattle.sudoers_line_rows.specs.Tables.{member_in_tables, members_of_range_in_tables, optional_runas_in_tables, runas_in_tables, scope_in_tables};
 ghost use Rattle.sudoers_cvt_rewrite.specs.Count.{runas_member_count_or_inherited, scope_member_count};
 ghost use Rattle.sudoers_grammar.specs.declared.node.Kind.TheVariants.{Runas};
 ghost use Rattle.sudoers_cvt_rewrite.specs.internal.Extended.{AreTablesAlikeButLists, IsTableExtension, RowKeepsMeaning};
-ghost use Rattle.sudoers_cvt_rewrite.specs.internal.Written.{IsTooManyMembersOrNoMemoryFault, list_expanded_if, optional_scope_of_row, runas_spec_expanded_if, scope_expanded_if};
+ghost use Rattle.sudoers_cvt_rewrite.specs.internal.Written.{IsTooManyMembersOrNoMemoryFault, is_alias_row, list_expanded_if, optional_scope_of_row, runas_spec_expanded_if, scope_expanded_if};
 
 use crate::copied_tables::append_member_rows;
 use crate::member_tally::MemberTally;
 use std::alloc::Global;
 use sudoers_cvt_rules::CvtFault;
-use sudoers_line_rows::{MemberRow, RowRange, RunasRow, ScopeRow, Tables, rows_in};
+use sudoers_line_rows::{AtomRow, MemberRow, RowRange, RunasRow, ScopeRow, Tables, rows_in};
 use sudoers_match_list::{ExpansionSource, flatten_member_list};
 use sudoers_tree::Kind;
+
+/// Returns whether one of the members names an alias.
+fn has_alias_member(rows: &[MemberRow]) -> bool
+    ensures { result ≡ list_any is_alias_row rows.now }
+{
+    rows.iter().any(|row| matches!(row.atom, AtomRow::Alias(_)))
+}
 
 /// Returns the list, its aliases replaced if that is wanted.
 pub fn copy_member_rows_expanded_if_wanted(
@@ -28,7 +36,7 @@ pub fn copy_member_rows_expanded_if_wanted(
     ensures fault { IfErr result (IsTooManyMembersOrNoMemoryFault source.now.expand
         (length (list_expanded_if source.now.expand kind source.now.policy.now (map (member_in_tables source.now.lines.tables.now) rows.now)))) }
 {
-    if source.expand {
+    if source.expand && has_alias_member(rows) {
         Ok(flatten_member_list(alloc, source, kind, rows)?)
     } else {
         Ok(Vec::from_slice(alloc, rows)?)

@@ -9,6 +9,8 @@ use Rattle.sudoers_grammar.specs.Node as node
 use Rattle.sudoers_line_rows.specs.declared.rows.Tables.{Tables}
 use Rattle.sudoers_line_rows.specs.declared.rows.ScopeRow.{ScopeRow}
 use Rattle.sudoers_line_rows.specs.declared.rows.CommandRow.{CommandRow}
+use Rattle.sudoers_line_rows.specs.declared.rows.AtomRow.{AtomRow}
+use Rattle.sudoers_line_rows.specs.declared.rows.AtomRow.TheVariants as atom_row
 use Rattle.sudoers_line_rows.specs.declared.rows.MemberRow.{MemberRow}
 use Rattle.sudoers_line_rows.specs.Tables.{command_in_tables, member_in_tables, optional_runas_in_tables, scope_in_tables}
 use Rattle.sudoers_tree.specs.Line.{Line}
@@ -19,6 +21,14 @@ use Rattle.sudoers_cvt_rewrite.specs.Expand.{command_with_runas_and_member}
 use Rattle.sudoers_cvt_rewrite.specs.internal.Extended.{IsTableExtension}
 
 -- ---- lines whose aliases are replaced if `expand`
+
+abbrev pub is_alias_atom_row : AtomRow → Bool
+is_alias_atom_row (atom_row.Alias name) = true
+is_alias_atom_row other = false
+
+-- The member names an alias.
+abbrev pub is_alias_row : MemberRow → Bool
+is_alias_row row = is_alias_atom_row row.atom
 
 abbrev pub list_expanded_if : Bool → Kind → List Line → List Member → List Member
 list_expanded_if true k lines ms = fully_expanded_list k lines ms
