@@ -3,6 +3,7 @@
 ghost use Rattle.std.specs.Prelude.{◌≡◌, ◌++◌, OnErr, OnOk};
 ghost use Rattle.std.specs.Fmt.{decimal};
 
+use itoa::Buffer;
 use std::alloc::{AllocError, Global};
 
 /// Appends `number` in decimal. Where memory runs out, the text stays as it was.
@@ -11,13 +12,13 @@ use std::alloc::{AllocError, Global};
 ///
 /// Memory ran out.
 pub fn append_decimal_number(
-    alloc: Global,
+    _alloc: Global,
     out: &mut Vec<u8>,
     number: usize,
 ) -> Result<(), AllocError>
     ensures appended { OnOk result (out.new.items ≡ out.old.items ++ decimal number) }
     ensures kept { OnErr result (out.new.items ≡ out.old.items) }
 {
-    let digits = number.to_string(alloc)?;
-    out.extend_from_slice(digits.as_bytes())
+    let mut digits = Buffer::new();
+    out.extend_from_slice(digits.format(number).as_bytes())
 }
