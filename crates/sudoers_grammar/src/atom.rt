@@ -15,13 +15,13 @@ use crate::numbers_and_addresses::{
 };
 use crate::owned_atom::copy_atom;
 use crate::pattern::{PatternSpelling, read_pattern_of_text};
-use crate::text::Text;
+use crate::token_text::TokenText;
 use crate::token_with_text::{TokenWithText, begins_with_byte, has_byte};
 use std::alloc::{AllocError, Global};
 use sudoers_text::{TokenKind, is_name, is_own_value, is_reserved, value};
 
 /// Returns the text, if it has any bytes.
-fn take_if_not_empty<'a>(text: Text<'a>) -> Option<Text<'a>>
+fn take_if_not_empty<'a>(text: TokenText<'a>) -> Option<TokenText<'a>>
     ensures { result ≡ some_if_not_empty text.entry }
 {
     if text.as_slice().is_empty() {
@@ -36,13 +36,13 @@ fn read_bytes_or_word_value<'a>(
     alloc: Global,
     escaped: bool,
     text: &'a [u8],
-) -> Result<Text<'a>, AllocError>
+) -> Result<TokenText<'a>, AllocError>
     ensures { IfOk result (λ read. read ≡ word_value_or_bytes escaped text.now) }
 {
     if escaped && !is_own_value(text) {
-        Ok(Text::owned(value(alloc, text)?))
+        Ok(TokenText::from_vec(value(alloc, text)?))
     } else {
-        Ok(Text::borrowed(text))
+        Ok(TokenText::from_slice(text))
     }
 }
 
@@ -51,7 +51,7 @@ fn read_nonempty_name<'a>(
     alloc: Global,
     escaped: bool,
     text: &'a [u8],
-) -> Result<Option<Text<'a>>, AllocError>
+) -> Result<Option<TokenText<'a>>, AllocError>
     ensures { IfOk result (λ name. name ≡ some_if_not_empty (word_value_or_bytes escaped text.now)) }
 {
     Ok(take_if_not_empty(read_bytes_or_word_value(alloc, escaped, text)?))
@@ -91,7 +91,7 @@ fn parse_uid_or_name_after_hash<'a>(name: &'a [u8], digits: &[u8]) -> Option<Ato
             None => None,
         }
     } else {
-        Some(Atom::Name(Text::borrowed(name)))
+        Some(Atom::Name(TokenText::from_slice(name)))
     }
 }
 
@@ -120,7 +120,7 @@ fn parse_user_word<'a>(alloc: Global, text: &'a [u8]) -> Result<Option<Atom<'a>>
     if text == b"ALL".as_slice() {
         Ok(Some(Atom::All))
     } else if is_name(text) {
-        Ok(Some(Atom::Alias(Text::borrowed(text))))
+        Ok(Some(Atom::Alias(TokenText::from_slice(text))))
     } else {
         parse_user_by_prefix(alloc, true, text)
     }
@@ -155,8 +155,8 @@ fn parse_user_atom_that_is_id(text: &[u8]) -> Option<Atom<'_>>
         [] => None,
         [b'#', ..] => Some(Atom::Id(number)),
         [_, b'#', ..] => Some(Atom::GroupId(number)),
-        [_, _, name @ ..] => Some(Atom::NonUnix(Text::borrowed(name))),
-        [_] => Some(Atom::NonUnix(Text::borrowed(&[]))),
+        [_, _, name @ ..] => Some(Atom::NonUnix(TokenText::from_slice(name))),
+        [_] => Some(Atom::NonUnix(TokenText::from_slice(&[]))),
     }
 }
 
@@ -197,7 +197,7 @@ fn parse_address_network_or_host(text: &[u8]) -> Option<Atom<'_>>
     } else if is_network_like(text) {
         parse_network_atom(text)
     } else {
-        Some(Atom::Host(Text::borrowed(text)))
+        Some(Atom::Host(TokenText::from_slice(text)))
     }
 }
 
@@ -209,9 +209,9 @@ fn parse_unescaped_host(text: &[u8]) -> Option<Atom<'_>>
     if text == b"ALL".as_slice() {
         Some(Atom::All)
     } else if is_name(text) {
-        Some(Atom::Alias(Text::borrowed(text)))
+        Some(Atom::Alias(TokenText::from_slice(text)))
     } else if begins_with_byte(b'+', text) {
-        take_if_not_empty(Text::borrowed(&text[1..])).map(Atom::Netgroup)
+        take_if_not_empty(TokenText::from_slice(&text[1..])).map(Atom::Netgroup)
     } else {
         parse_address_network_or_host(text)
     }
@@ -251,7 +251,7 @@ fn parse_command_word(text: &[u8]) -> Option<Atom<'_>>
     } else if text == b"sudoedit".as_slice() {
         Some(Atom::Sudoedit { args: Args::Any })
     } else if is_name(text) && !is_reserved(text) {
-        Some(Atom::Alias(Text::borrowed(text)))
+        Some(Atom::Alias(TokenText::from_slice(text)))
     } else {
         None
     }
@@ -333,7 +333,7 @@ pub fn parse_option_value(
 pub fn parse_include_path<'a>(
     alloc: Global,
     part: &TokenWithText<'a>,
-) -> Result<Option<Text<'a>>, AllocError>
+) -> Result<Option<TokenText<'a>>, AllocError>
     ensures { IfOk result (λ path. path ≡ include_path_of_token (model_of_token_part part.now)) }
 {
     if part.is_word() || part.is_quoted() {

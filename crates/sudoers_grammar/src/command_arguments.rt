@@ -9,7 +9,7 @@ ghost use Rattle.sudoers_grammar.specs.Arguments.{args_with_one_more};
 use crate::items::Items;
 use crate::node::Args;
 use crate::pattern::{PatternSpelling, read_pattern_of_text};
-use crate::text::Text;
+use crate::token_text::TokenText;
 use crate::token_with_text::begins_with_byte;
 use std::alloc::{AllocError, Global};
 
@@ -41,7 +41,7 @@ pub fn append_argument_to_args<'a>(
         Args::Any if is_empty_quotes_argument(text, pattern.as_slice()) => Ok(Args::Nothing),
         Args::Any => Ok(Args::Pattern(pattern)),
         Args::Nothing => {
-            let first = Text::borrowed(b"\"\"");
+            let first = TokenText::from_slice(b"\"\"");
             Ok(Args::Pattern(first.join_with_blank(alloc, pattern.as_slice())?))
         }
         Args::Pattern(first) => Ok(Args::Pattern(first.join_with_blank(

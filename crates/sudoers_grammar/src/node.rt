@@ -1,6 +1,6 @@
 //! What one line of a policy says.
 
-use crate::text::Text;
+use crate::token_text::TokenText;
 
 /// The kind of an alias, and of the members of a list (sudoers(5), Aliases).
 #[derive(Clone, Copy, Debug, PartialEq, Eq)]
@@ -65,21 +65,21 @@ pub enum Atom<'a> {
     /// `ALL`
     All,
     /// The name of an alias.
-    Alias(Text<'a>),
+    Alias(TokenText<'a>),
     /// A user, or in the groups of a runas part a group, by name.
-    Name(Text<'a>),
+    Name(TokenText<'a>),
     /// The same by number: `#uid`, `#gid`.
     Id(u32),
     /// The users of a group, or there the group: `%group`.
-    Group(Text<'a>),
+    Group(TokenText<'a>),
     /// The same by the group's number: `%#gid`.
     GroupId(u32),
     /// `%:group`
-    NonUnix(Text<'a>),
+    NonUnix(TokenText<'a>),
     /// `+netgroup`
-    Netgroup(Text<'a>),
+    Netgroup(TokenText<'a>),
     /// A host's name, with wildcards.
-    Host(Text<'a>),
+    Host(TokenText<'a>),
     /// A host by its address.
     Address(Address),
     /// The hosts of a network.
@@ -87,7 +87,7 @@ pub enum Atom<'a> {
     /// The command `list`.
     Listing,
     /// A command or the commands of a directory, with wildcards.
-    Path { path: Text<'a>, args: Args<'a> },
+    Path { path: TokenText<'a>, args: Args<'a> },
     /// The command `sudoedit`.
     Sudoedit { args: Args<'a> },
 }
@@ -114,5 +114,5 @@ pub enum Args<'a> {
     /// `""`: there are none.
     Nothing,
     /// They match this, joined by single spaces.
-    Pattern(Text<'a>),
+    Pattern(TokenText<'a>),
 }

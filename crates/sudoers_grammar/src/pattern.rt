@@ -3,7 +3,7 @@
 ghost use Rattle.std.specs.Prelude.{◌≡◌, ◌≢◌, ◌<◌, ◌≤◌, ◌++◌, ℕ, length, take, drop, slice_get, Some, IfOk, OnOk};
 ghost use Rattle.sudoers_grammar.specs.Pattern.{is_special_in_patterns, pattern_of_literal_byte, is_escaped_for_policy_alone, pattern_of_byte, is_dropped_backslash_before, pattern_of_escaped_pair, pattern_escape_tail_size, pattern_of_escape, pattern_of_remaining_bytes, pattern_of_text};
 
-use crate::text::Text;
+use crate::token_text::TokenText;
 use std::alloc::{AllocError, Global};
 use sudoers_text::{begins_line_end, leading_blanks_len, line_end_len};
 
@@ -161,12 +161,12 @@ pub fn read_pattern_of_text<'a>(
     alloc: Global,
     spelling: PatternSpelling,
     text: &'a [u8],
-) -> Result<Text<'a>, AllocError>
+) -> Result<TokenText<'a>, AllocError>
     ensures { IfOk result (λ pattern. pattern ≡ pattern_of_text spelling text.now) }
 {
     let mut at = verbatim_prefix_len(spelling, text);
     if at == text.len() {
-        return Ok(Text::borrowed(text));
+        return Ok(TokenText::from_slice(text));
     }
     let mut pattern = Vec::with_capacity(alloc, text.len())?;
     pattern.extend_from_slice(&text[..at])?;
@@ -180,5 +180,5 @@ pub fn read_pattern_of_text<'a>(
             push_pattern_of_byte(&mut pattern, spelling, byte)?;
         }
     }
-    Ok(Text::owned(pattern))
+    Ok(TokenText::from_vec(pattern))
 }

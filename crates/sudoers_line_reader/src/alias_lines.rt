@@ -40,7 +40,7 @@ impl RowReader for AliasDefinitionReader {
         let part = cursor.expect_alias_name()?;
         cursor.expect_mark(b'=')?;
         let start = convert_offset_to_u32(part.start)?;
-        let end = cursor.end_in_bytes(part.stop);
+        let end = cursor.find_end_in_bytes(part.stop);
         let name = store_token_text(tables, end, part.text)?;
         let members = read_alias_member_list(alloc, cursor, tables, self.kind)?;
         Ok(AliasDefinitionRow {

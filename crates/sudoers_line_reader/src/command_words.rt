@@ -75,7 +75,7 @@ pub fn read_command_word(
         return Err(HaltCause::Fault);
     };
     let stop = convert_offset_to_u32(part.stop)?;
-    let end = cursor.end_in_bytes(part.stop);
+    let end = cursor.find_end_in_bytes(part.stop);
     let Some(atom) = store_command_without_args(alloc, tables, &part, end)? else {
         return Err(HaltCause::Fault);
     };

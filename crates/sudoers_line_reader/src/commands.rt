@@ -68,7 +68,7 @@ fn read_arguments_into_member(
 {
     let first = cursor.expect_argument_that_is_no_regex()?;
     let (args, stop) = add_further_arguments_to_first(alloc, cursor, &first)?;
-    let end = cursor.end_in_bytes(stop);
+    let end = cursor.find_end_in_bytes(stop);
     let args = store_command_args(tables, end, &args)?;
     let stop = convert_offset_to_u32(stop)?;
     Ok(MemberRow {

@@ -94,7 +94,7 @@ impl<'a> Model for TokenCursor<'a> {
 
 impl<'a> TokenCursor<'a> {
     /// Returns a cursor before all tokens of `source`, whose line stands at `place` of the table of bytes, if it does.
-    fn at_source(source: TokenSource<'a>, place: usize) -> Self
+    fn from_source(source: TokenSource<'a>, place: usize) -> Self
         ensures { result ≡ tokens_of_source source.entry }
     {
         let mut behind = source;
@@ -107,18 +107,18 @@ impl<'a> TokenCursor<'a> {
     }
 
     /// Returns a cursor before all tokens of `line`, which stands at `place` of the table of bytes, if it does.
-    pub fn of_line(line: &'a [u8], place: usize) -> Self
+    pub fn from_line(line: &'a [u8], place: usize) -> Self
         ensures { result ≡ tokens_with_bytes line.now (tokens_of_line (line_mode line.now) line.now) }
     {
-        let tokens = LineTokens::of_line(line, choose_line_mode(line));
-        Self::at_source(TokenSource::Line(tokens), place)
+        let tokens = LineTokens::from_line(line, choose_line_mode(line));
+        Self::from_source(TokenSource::Line(tokens), place)
     }
 
     /// Returns a cursor before all these tokens.
     pub fn new(left: &'a [TokenWithText<'a>]) -> Self
         ensures { result ≡ map model_of_token_part left.now }
     {
-        Self::at_source(TokenSource::List(left), 0)
+        Self::from_source(TokenSource::List(left), 0)
     }
 
     /// Returns the next token.
@@ -129,7 +129,7 @@ impl<'a> TokenCursor<'a> {
     }
 
     /// Returns where the byte `stop` of the line stands in the table of bytes, if the line stands there.
-    pub fn end_in_bytes(&self, stop: usize) -> usize {
+    pub fn find_end_in_bytes(&self, stop: usize) -> usize {
         self.place.saturating_add(stop)
     }
 

@@ -43,7 +43,7 @@ fn read_single_token_member(
         return Err(HaltCause::Fault);
     };
     let stop = convert_offset_to_u32(part.stop)?;
-    let end = cursor.end_in_bytes(part.stop);
+    let end = cursor.find_end_in_bytes(part.stop);
     let Some(atom) = store_atom_of_member_token(alloc, tables, kind, &part, end)? else {
         return Err(HaltCause::Fault);
     };

@@ -190,7 +190,7 @@ pub fn read_line(
     ensures refused { OnErr result (TablesHaveGrown tables.new tables.old) }
 {
     let counts = tables.row_counts();
-    let mut cursor = TokenCursor::of_line(line, place);
+    let mut cursor = TokenCursor::from_line(line, place);
     match read_whole(alloc, &mut cursor, tables) {
         Ok(row) => Ok(row),
         Err(halted) => {

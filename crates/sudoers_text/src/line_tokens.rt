@@ -35,7 +35,7 @@ impl<'a> Model for LineTokens<'a> {
 
 impl<'a> LineTokens<'a> {
     /// Returns all tokens of the line `line`, which is read in the mode `mode`.
-    pub fn of_line(line: &'a [u8], mode: Mode) -> Self
+    pub fn from_line(line: &'a [u8], mode: Mode) -> Self
         ensures { result ≡ record { line = line.now; tokens = tokens_of_line mode line.now } }
     {
         LineTokens {
@@ -97,7 +97,7 @@ pub fn tokens(alloc: Global, line: &[u8], mode: Mode) -> Result<Vec<Token>, Text
     ensures only_memory { IfErr result (λ fault. fault ≡ TextFault.NoMemory) }
 {
     let mut tokens = Vec::with_capacity(alloc, line.len() / 4)?;
-    let mut left = LineTokens::of_line(line, mode);
+    let mut left = LineTokens::from_line(line, mode);
     while let Some(token) = left.take_next_token() {
         tokens.push(token)?;
     }

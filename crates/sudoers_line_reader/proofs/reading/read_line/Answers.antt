@@ -31,4 +31,4 @@ unfolding outcome_of_line
 returns-in-Ok-clause-gives c =
     let line : List ℕ = c.args.line.now in
     let tokens : List TokenWithBytes = tokens_with_bytes line (tokens_of_line (line_mode line) line) in
-    (ap (line_outcome_of_reading (line_stop_before_line_end line) tokens) (ap reading (sym c.of_line-cursor.ensures) ∙ c.in-Ok.ensures.reads.0), c.in-Ok.ensures.reads.1)
+    (ap (line_outcome_of_reading (line_stop_before_line_end line) tokens) (ap reading (sym c.from_line-cursor.ensures) ∙ c.in-Ok.ensures.reads.0), c.in-Ok.ensures.reads.1)

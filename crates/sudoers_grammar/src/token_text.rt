@@ -8,11 +8,11 @@ use std::marker::Model;
 
 /// Bytes that stand in a line, or that are made of what stands there. Contracts see the bytes.
 #[derive(Drop)]
-pub struct Text<'a> {
+pub struct TokenText<'a> {
     bytes: CowSlice<'a, u8>,
 }
 
-impl<'a> Model for Text<'a> {
+impl<'a> Model for TokenText<'a> {
     ghost use Rattle.std.specs.Prelude.{ℕ, List};
     ghost use Rattle.std.specs.Cow.{cow_slice_items};
 
@@ -21,21 +21,21 @@ impl<'a> Model for Text<'a> {
     ghost view = { λ text. cow_slice_items text.bytes };
 }
 
-impl<'a> Text<'a> {
+impl<'a> TokenText<'a> {
     /// Returns `bytes` where they stand, without taking memory.
-    pub fn borrowed(bytes: &'a [u8]) -> Self
+    pub fn from_slice(bytes: &'a [u8]) -> Self
         ensures { result ≡ bytes.now }
     {
-        Text {
+        TokenText {
             bytes: CowSlice::Borrowed(bytes),
         }
     }
 
     /// Returns `bytes` as a text.
-    pub fn owned(bytes: Vec<u8>) -> Self
+    pub fn from_vec(bytes: Vec<u8>) -> Self
         ensures { result ≡ bytes.items }
     {
-        Text {
+        TokenText {
             bytes: CowSlice::Owned(bytes),
         }
     }
@@ -52,10 +52,10 @@ impl<'a> Text<'a> {
     /// # Errors
     ///
     /// Memory ran out.
-    pub fn to_owned_text<'b>(&self, alloc: Global) -> Result<Text<'b>, AllocError>
+    pub fn to_owned_text<'b>(&self, alloc: Global) -> Result<TokenText<'b>, AllocError>
         ensures { IfOk result (λ text. text ≡ self.now) }
     {
-        Ok(Text::owned(Vec::from_slice(alloc, self.as_slice())?))
+        Ok(TokenText::from_vec(Vec::from_slice(alloc, self.as_slice())?))
     }
 
     /// Returns the text with a blank and the bytes `more` behind it.
@@ -72,6 +72,6 @@ impl<'a> Text<'a> {
         };
         bytes.push(b' ')?;
         bytes.extend_from_slice(more)?;
-        Ok(Text::owned(bytes))
+        Ok(TokenText::from_vec(bytes))
     }
 }
