@@ -74,14 +74,15 @@ def values(count):
 
 
 def printing(ground):
-    """The two commands that print much of little: each command of the policy inherits all."""
-    policy = inherited_runas(RUNAS_USERS, COMMANDS)
-    path, size = ground.file(policy), len(policy)
-    what = "16,001 runas users at 11,001 commands"
+    """The commands that print much of little: each command of the policy inherits all."""
     words = ("list", *ground.people(), *ASKED)
     rules = ground.file(policies.rules(ORDINARY).replace(b"user ", b"u "))
-    asked, ordinary = Asked((*words, path), size), Asked((*words, rules), ORDINARY)
-    yield Hostile(f"`list`, {what}", asked, ordinary, beside="that of rules alone", printed=True)
+    for users, commands_of_all in ((4_000, 4_000), (RUNAS_USERS, COMMANDS)):
+        policy = inherited_runas(users, commands_of_all)
+        path, size = ground.file(policy), len(policy)
+        what = f"{users + 1:,} runas users at {commands_of_all + 1:,} commands"
+        asked, ordinary = Asked((*words, path), size), Asked((*words, rules), ORDINARY)
+        yield Hostile(f"`list`, {what}", asked, ordinary, beside="that of rules alone", printed=True)
     words = ("convert", "-f", "json")
     asked, ordinary = Asked((*words, path), size), Asked((*words, ground.plain(ORDINARY)), ORDINARY)
     beside = "that of an ordinary policy"
@@ -98,11 +99,9 @@ def filters(ground):
 
 def commands(ground):
     """The hostile commands."""
-    chain, short = long_chain(), inherited_runas(4_000, 4_000)
     command = ("/b",)
-    yield ground.converting("`convert -e`, a chain of 4,096 and 65,400 mentions", chain, ("-e",), ("-e",))
+    yield ground.converting("`convert -e`, a chain of 4,096 and 65,400 mentions", long_chain(), ("-e",), ("-e",))
     yield from filters(ground)
-    yield ground.listing("`list`, 4,001 runas users at 4,001 commands", short)
     yield from printing(ground)
     yield ground.listing("`list COMMAND`, lists of 16,351 runas users", long_runas(), ("-u", "t"), ("/c",), status=1)
     groups, what = many_groups(b"t"), "`list COMMAND`, 60,000 groups and 349,000 commands"
