@@ -102,7 +102,7 @@ fn parsed_line_count_of(alloc: Global, lines: &Lines<'_>) -> usize
     let mut tables = Tables::new(alloc);
     for i in 0..lines.len() {
         if let Some(line) = lines.get(i) {
-            if read_line(alloc, &mut tables, line).is_ok() {
+            if read_line(alloc, &mut tables, line, 0).is_ok() {
                 count += 1;
             }
         }
