@@ -1,5 +1,5 @@
 -- A list that names no alias stays as it is.
-use Rattle.std.proofs.Common.{◌≡◌, ℕ, zero, suc, Bool, true, false, ◌||◌, List, [], ◌∷◌, ◌++◌, map, length, Option, None, refl, ap, sym, ◌∙◌}
+use Rattle.std.proofs.Common.{◌≡◌, ℕ, zero, suc, Bool, true, false, ◌||◌, List, [], ◌∷◌, ◌++◌, map, length, Option, None, refl, ap, ◌∙◌}
 use Rattle.std.specs.List.{list_any}
 use Rattle.sudoers_grammar.specs.declared.node.Kind.{Kind}
 use Rattle.sudoers_grammar.specs.Node.{Member}
@@ -11,7 +11,7 @@ use Rattle.sudoers_line_rows.specs.Tables.{atom_in_tables, member_in_tables}
 use Rattle.sudoers_tree.specs.Line.{Line}
 use Rattle.sudoers_tree.specs.Definition.{definitions_of_lines}
 use Rattle.sudoers_match_list.specs.Flat.{alias_members_of_atom}
-use Rattle.sudoers_match_list.specs.Flattened.{fully_expanded_list, list_expanded_n_times, list_with_aliases_expanded_once, member_or_alias_members}
+use Rattle.sudoers_match_list.specs.Flattened.{list_expanded_n_times, list_with_aliases_expanded_once, member_or_alias_members}
 use Rattle.sudoers_cvt_rewrite.specs.internal.Written.{is_alias_atom_row, is_alias_row, list_expanded_if}
 
 other_atom_has_no_members : (t : Tables) (k : Kind) (lines : List Line) (atom : AtomRow) → is_alias_atom_row atom ≡ false → alias_members_of_atom k lines (atom_in_tables t atom) ≡ None

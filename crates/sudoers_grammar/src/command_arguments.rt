@@ -1,6 +1,6 @@
 //! Commands with arguments.
 
-ghost use Rattle.std.specs.Prelude.{◌≡◌, ◌++◌, ◌∷◌, IfOk};
+ghost use Rattle.std.specs.Prelude.{◌≡◌, IfOk};
 ghost use Rattle.sudoers_grammar.specs.declared.pattern.PatternSpelling.TheVariants as Spelling;
 ghost use Rattle.sudoers_grammar.specs.Pattern.{pattern_of_text};
 ghost use Rattle.sudoers_grammar.specs.Atom.{is_argument_of_empty_quotes};

@@ -1,6 +1,6 @@
 //! Texts that are part of a line, or made of one.
 
-ghost use Rattle.std.specs.Prelude.{◌≡◌, [], ◌∷◌, ◌++◌, IfOk};
+ghost use Rattle.std.specs.Prelude.{◌≡◌, ◌∷◌, ◌++◌, IfOk};
 
 use std::alloc::{AllocError, Global};
 use std::borrow::CowSlice;

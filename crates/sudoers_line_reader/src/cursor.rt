@@ -1,6 +1,6 @@
 //! A cursor over the tokens of a line.
 
-ghost use Rattle.std.specs.Prelude.{◌≡◌, Bool, Option, drop, length, map, not, option_and_then, option_map};
+ghost use Rattle.std.specs.Prelude.{◌≡◌, Bool, Option, drop, map, not, option_and_then, option_map};
 ghost use Rattle.sudoers_grammar.specs.Seen.{model_of_token_part};
 ghost use Rattle.sudoers_text.specs.LineMode.{line_mode};
 ghost use Rattle.sudoers_text.specs.Found.{tokens_of_line};

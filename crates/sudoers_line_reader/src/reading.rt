@@ -7,13 +7,13 @@ ghost use Rattle.sudoers_text.specs.Found.{tokens_of_line};
 ghost use Rattle.sudoers_grammar.specs.Fault.{syntax_fault_cause, sample_name_word, sample_time_stamp, sample_path_token};
 ghost use Rattle.sudoers_grammar.specs.declared.fault.Why.{Why as WhyOf};
 ghost use Rattle.sudoers_grammar.specs.Node.{Node as NodeOf};
-ghost use Rattle.sudoers_grammar.specs.Line.{LineReadsAsNode, IsLineSyntaxFault, IsFaultOfLine, ReturnsNodeOrNoMemory, ReturnsFaultOrNoMemory, line_end_size_at_end, line_stop_before_line_end};
+ghost use Rattle.sudoers_grammar.specs.Line.{LineReadsAsNode, IsLineSyntaxFault, IsFaultOfLine, ReturnsNodeOrNoMemory, ReturnsFaultOrNoMemory, line_end_size_at_end};
 ghost use Rattle.sudoers_line_rows.specs.View.{node_of_view};
 ghost use Rattle.sudoers_grammar.specs.Piece.{tokens_with_bytes};
 ghost use Rattle.sudoers_grammar.specs.Seen.{model_of_token_part};
 ghost use Rattle.sudoers_line_reader.specs.Descent.{expected_tokens_after, whole_line_reader as reading, is_token_allowed_after};
 ghost use Rattle.sudoers_line_reader.specs.Reader.{Halt};
-ghost use Rattle.sudoers_line_reader.specs.Outcome.{RowShowsOutcomeOrNoMemory, IsLineOutcomeOrNoMemory, fault_after_tokens, line_outcome_of_reading, outcome_of_line};
+ghost use Rattle.sudoers_line_reader.specs.Outcome.{RowShowsOutcomeOrNoMemory, IsLineOutcomeOrNoMemory, fault_after_tokens, outcome_of_line};
 ghost use Rattle.sudoers_line_rows.specs.Tables.{TablesHaveGrown};
 
 use crate::cursor::{HaltCause, TokenCursor};

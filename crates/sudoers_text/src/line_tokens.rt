@@ -1,6 +1,6 @@
 //! The tokens of a line, found one after another.
 
-ghost use Rattle.std.specs.Prelude.{◌≡◌, ◌++◌, ◌≤◌, length, drop, slice_get, IfOk, IfErr, IfSome, All};
+ghost use Rattle.std.specs.Prelude.{◌≡◌, length, drop, slice_get, IfOk, IfErr, IfSome, All};
 ghost use Rattle.sudoers_text.specs.Token.{HasTokens, IsTokenWithinLine};
 ghost use Rattle.sudoers_text.specs.Found.{tokens_of_line};
 

@@ -1,6 +1,6 @@
 //! Where the next token of a line begins, and what stands left of it.
 
-ghost use Rattle.std.specs.Prelude.{◌≡◌, ◌≤◌, ◌<◌, ◌+◌, ◌∷◌, ◌-◌, ◌==◌, ◌||◌, not, ℕ, List, [], length, drop, take, slice_range, true, false, IfOk, IfErr, IfSome, IfNone, All};
+ghost use Rattle.std.specs.Prelude.{◌≡◌, ◌≤◌, ◌<◌, ◌+◌, ◌∷◌, ◌-◌, ◌==◌, ◌||◌, not, ℕ, List, [], length, drop, take, slice_range, true, false, IfSome, IfNone};
 ghost use Rattle.sudoers_text.specs.Unit.{LineUnit, line_end_size};
 ghost use Rattle.sudoers_text.specs.internal.Left.{LeftDescribesUnits, model_of_unit, ends_without_backslash_or_cr};
 ghost use Rattle.sudoers_text.specs.internal.Reached.{DescribesLeftAtOffset};

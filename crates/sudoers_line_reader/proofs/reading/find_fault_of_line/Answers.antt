@@ -2,7 +2,7 @@ use Rattle.std.proofs.Common.{◌≡◌, ◌-◌, ℕ, List, map, sym, ap, subst
 use Rattle.std.proofs.lemmas.List.{length-map}
 use Rattle.sudoers_text.specs.LineMode.{line_mode}
 use Rattle.sudoers_text.specs.Found.{tokens_of_line}
-use Rattle.sudoers_grammar.specs.Piece.{TokenWithBytes, tokens_with_bytes}
+use Rattle.sudoers_grammar.specs.Piece.{tokens_with_bytes}
 use Rattle.sudoers_grammar.specs.Line.{line_stop_before_line_end}
 use Rattle.sudoers_grammar.specs.Seen.{model_of_token_part}
 use Rattle.sudoers_line_reader.proofs.FaultOfLine.{fault_after_counted_tokens_is_outcome}

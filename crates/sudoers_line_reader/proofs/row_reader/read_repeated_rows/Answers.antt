@@ -1,7 +1,7 @@
-use Rattle.std.proofs.Common.{◌≡◌, [], ◌∷◌, true, false, refl, rules, arith, sym, subst}
+use Rattle.std.proofs.Common.{◌≡◌, [], true, false, refl, rules, arith, sym, subst}
 use Rattle.std.proofs.lemmas.Grind.{common_steps}
 use Rattle.sudoers_line_rows.specs.Tables.{values_of_row_range}
-use Rattle.sudoers_line_reader.specs.Reader.{ReadOutcome, is_next_token, snoc}
+use Rattle.sudoers_line_reader.specs.Reader.{is_next_token, snoc}
 use Rattle.sudoers_line_reader.specs.internal.Answer.{RowReadsAsOutcome}
 use Rattle.sudoers_line_reader.proofs.Repeats.{next_read, next_none}
 use Rattle.sudoers_line_reader.proofs.SoFar.{first_row_halts}
