@@ -3,7 +3,7 @@
 ghost use Rattle.std.specs.Prelude.{◌≡◌, [], IfOk, IfSome};
 ghost use Rattle.std.specs.Str.{str_to_ascii_lowercase};
 ghost use Rattle.sudoers_match_member.specs.Hits.{is_name_among_groups, is_number_among_groups};
-ghost use Rattle.sudoers_match_member.specs.internal.LookedUp.{AreLowerNamesOf, AreNumbersOf};
+ghost use Rattle.sudoers_match_member.specs.internal.LookedUp.{AreLookupsOfGroups, AreLowerNamesOf, AreNumbersOf};
 
 use crate::atom_matches::is_same_name_ignoring_case;
 use crate::numbers::NumberSet;
@@ -12,16 +12,23 @@ use std::alloc::{AllocError, Global};
 use std::marker::Model;
 use sudoers_names::NameSet;
 
-/// The names of so many groups are compared one by one.
+/// So many groups are compared one by one.
 const FEW_GROUPS: usize = 8;
+
+/// The names and the numbers of groups, in which they are looked up.
+#[derive(Drop)]
+struct GroupLookups {
+    /// The names in lower case.
+    names: NameSet,
+    numbers: NumberSet,
+}
 
 /// The groups of a user, in which names and numbers are looked up.
 #[derive(Drop)]
 pub struct Groups {
     list: Vec<Group>,
-    /// The names in lower case.
-    names: NameSet,
-    numbers: NumberSet,
+    /// What many groups are looked up in: one, or none of few groups.
+    lookups: Vec<GroupLookups>,
     alloc: Global,
 }
 
@@ -31,11 +38,11 @@ impl Model for Groups {
 
     ghost Value = { List Group };
 
-    ghost use Rattle.sudoers_match_member.specs.internal.LookedUp.{AreLowerNamesOf, AreNumbersOf};
+    ghost use Rattle.sudoers_match_member.specs.internal.LookedUp.{AreLookupsOfGroups};
 
     ghost view = { λ groups. groups.list.items };
 
-    ghost invariant = { λ groups. AreLowerNamesOf groups.list.items groups.names × AreNumbersOf groups.list.items groups.numbers };
+    ghost invariant = { λ groups. AreLookupsOfGroups groups.list.items groups.lookups.items };
 }
 
 /// Returns the names of `groups` in lower case.
@@ -61,6 +68,19 @@ fn collect_numbers(alloc: Global, groups: &[Group]) -> Result<NumberSet, AllocEr
     Ok(numbers)
 }
 
+/// Returns what `groups` are looked up in, if they are many.
+fn collect_lookups(alloc: Global, groups: &[Group]) -> Result<Vec<GroupLookups>, AllocError>
+    ensures { IfOk result (λ lookups. AreLookupsOfGroups groups.now lookups.items) }
+{
+    let mut lookups = Vec::new(alloc);
+    if groups.len() > FEW_GROUPS {
+        let names = collect_lower_names(alloc, groups)?;
+        let numbers = collect_numbers(alloc, groups)?;
+        lookups.push(GroupLookups { names, numbers })?;
+    }
+    Ok(lookups)
+}
+
 impl Groups {
     /// Returns no groups.
     pub fn new(alloc: Global) -> Groups
@@ -68,8 +88,7 @@ impl Groups {
     {
         Groups {
             list: Vec::new(alloc),
-            names: NameSet::new(alloc),
-            numbers: NumberSet::new(alloc),
+            lookups: Vec::new(alloc),
             alloc,
         }
     }
@@ -82,12 +101,10 @@ impl Groups {
     pub fn from_vec(alloc: Global, list: Vec<Group>) -> Result<Groups, AllocError>
         ensures { IfOk result (λ groups. groups ≡ list.items) }
     {
-        let names = collect_lower_names(alloc, list.as_slice())?;
-        let numbers = collect_numbers(alloc, list.as_slice())?;
+        let lookups = collect_lookups(alloc, list.as_slice())?;
         Ok(Groups {
             list,
-            names,
-            numbers,
+            lookups,
             alloc,
         })
     }
@@ -99,15 +116,13 @@ impl Groups {
         self.list.as_slice()
     }
 
-    /// Returns `name` in lower case, to look it up. There is none without memory, nor where few names are sooner compared.
-    fn fold_to_look_up(&self, name: &[u8]) -> Option<Vec<u8>>
-        ensures { IfSome result (λ folded. folded.items ≡ str_to_ascii_lowercase name.now) }
+    /// Returns whether one of many groups has the name `name`, letter case ignored, if there is memory to look it up.
+    fn look_up_name(&self, name: &[u8]) -> Option<bool>
+        ensures { IfSome result (λ has. has ≡ is_name_among_groups self.now name.now) }
     {
-        if self.list.len() <= FEW_GROUPS {
-            return None;
-        }
+        let lookups = self.lookups.as_slice().first()?;
         match name.to_ascii_lowercase(self.alloc) {
-            Ok(folded) => Some(folded),
+            Ok(folded) => Some(lookups.names.has(folded.as_slice())),
             Err(_) => None,
         }
     }
@@ -116,8 +131,8 @@ impl Groups {
     pub fn has_name(&self, name: &[u8]) -> bool
         ensures { result ≡ is_name_among_groups self.now name.now }
     {
-        match self.fold_to_look_up(name) {
-            Some(folded) => self.names.has(folded.as_slice()),
+        match self.look_up_name(name) {
+            Some(has) => has,
             None => {
                 self.list.iter().any(|group| is_same_name_ignoring_case(
                     name,
@@ -131,6 +146,9 @@ impl Groups {
     pub fn has_number(&self, number: u32) -> bool
         ensures { result ≡ is_number_among_groups self.now number }
     {
-        self.numbers.has(number)
+        match self.lookups.as_slice().first() {
+            Some(lookups) => lookups.numbers.has(number),
+            None => self.list.iter().any(|group| number == group.gid),
+        }
     }
 }

@@ -1,8 +1,8 @@
 //! Addresses, masks and networks.
 
-ghost use Rattle.std.specs.Prelude.{◌≡◌, [], IfOk};
+ghost use Rattle.std.specs.Prelude.{◌≡◌, [], None, IfOk};
 ghost use Rattle.sudoers_match_member.specs.Network.{mask_as_number, network_under_mask, is_any_interface_hit};
-ghost use Rattle.sudoers_match_member.specs.internal.LookedUp.{AreNumbersHitWithoutMask};
+ghost use Rattle.sudoers_match_member.specs.internal.LookedUp.{AreHitsOfInterfaces, AreNumbersHitWithoutMask};
 
 use crate::numbers::NumberSet;
 use std::alloc::{AllocError, Global};
@@ -36,12 +36,15 @@ fn masked_network_of(mask: Mask, address: Address) -> u32
     address.number & number_of_mask(mask)
 }
 
+/// So many interfaces are compared one by one.
+const FEW_INTERFACES: usize = 8;
+
 /// The network interfaces of a host, among which addresses are looked up.
 #[derive(Drop)]
 pub struct Interfaces {
     list: Vec<Interface>,
-    /// What hits one of them without a mask: their addresses and their networks.
-    hit: NumberSet,
+    /// What hits one of many interfaces without a mask, their addresses and their networks: one set, or none for few interfaces.
+    hits: Vec<NumberSet>,
 }
 
 impl Model for Interfaces {
@@ -50,11 +53,11 @@ impl Model for Interfaces {
 
     ghost Value = { List Interface };
 
-    ghost use Rattle.sudoers_match_member.specs.internal.LookedUp.{AreNumbersHitWithoutMask};
+    ghost use Rattle.sudoers_match_member.specs.internal.LookedUp.{AreHitsOfInterfaces};
 
     ghost view = { λ interfaces. interfaces.list.items };
 
-    ghost invariant = { λ interfaces. AreNumbersHitWithoutMask interfaces.list.items interfaces.hit };
+    ghost invariant = { λ interfaces. AreHitsOfInterfaces interfaces.list.items interfaces.hits.items };
 }
 
 /// Returns what hits one of `interfaces` without a mask.
@@ -72,6 +75,17 @@ fn collect_numbers_hit_without_mask(
     Ok(numbers)
 }
 
+/// Returns what hits one of `interfaces` without a mask, if they are many.
+fn collect_hits(alloc: Global, interfaces: &[Interface]) -> Result<Vec<NumberSet>, AllocError>
+    ensures { IfOk result (λ hits. AreHitsOfInterfaces interfaces.now hits.items) }
+{
+    let mut hits = Vec::new(alloc);
+    if interfaces.len() > FEW_INTERFACES {
+        hits.push(collect_numbers_hit_without_mask(alloc, interfaces)?)?;
+    }
+    Ok(hits)
+}
+
 impl Interfaces {
     /// Returns no interfaces.
     pub fn new(alloc: Global) -> Interfaces
@@ -79,7 +93,7 @@ impl Interfaces {
     {
         Interfaces {
             list: Vec::new(alloc),
-            hit: NumberSet::new(alloc),
+            hits: Vec::new(alloc),
         }
     }
 
@@ -91,8 +105,8 @@ impl Interfaces {
     pub fn from_vec(alloc: Global, list: Vec<Interface>) -> Result<Interfaces, AllocError>
         ensures { IfOk result (λ interfaces. interfaces ≡ list.items) }
     {
-        let hit = collect_numbers_hit_without_mask(alloc, list.as_slice())?;
-        Ok(Interfaces { list, hit })
+        let hits = collect_hits(alloc, list.as_slice())?;
+        Ok(Interfaces { list, hits })
     }
 
     /// Returns the interfaces, in their order.
@@ -101,6 +115,19 @@ impl Interfaces {
     {
         self.list.as_slice()
     }
+
+    /// Returns whether `address` is that of an interface, or of its network.
+    fn has_address(&self, address: Address) -> bool
+        ensures { result ≡ is_any_interface_hit address None self.now }
+    {
+        match self.hits.as_slice().first() {
+            Some(numbers) => numbers.has(address.number),
+            None => {
+                self.list.iter().any(|interface| address.number == interface.address.number
+                    || address.number == masked_network_of(interface.mask, interface.address))
+            }
+        }
+    }
 }
 
 /// Returns whether `address`, or the network under `mask`, hits one of the interfaces (sudoers(5), Host_List).
@@ -108,7 +135,7 @@ pub fn network_hits(address: Address, mask: Option<Mask>, interfaces: &Interface
     ensures { result ≡ is_any_interface_hit address mask interfaces.now }
 {
     match mask {
-        None => interfaces.hit.has(address.number),
+        None => interfaces.has_address(address),
         Some(mask) => {
             let network = masked_network_of(mask, address);
             interfaces.list.iter().any(|interface| network
