@@ -23,6 +23,8 @@ RULE = {"main": "bob ALL = /bin/a\n"}
 CIRCLE = {"main": "User_Alias A = B\nUser_Alias B = A\nA ALL = ALL\n"}
 ONE = {"passwd": "bob:x:1:1:::\nroot:x:0:0:::\n"}
 NONE = {"passwd": "# nobody\n\n"}
+NINE_GROUPS = {"group": "".join(f"g{number}:x:{100 + number}:bob\n" for number in range(9))}
+NINE_INTERFACES = ",".join(f"10.0.{number}.1/24" for number in range(9))
 
 POLICIES = (
     (
@@ -93,6 +95,15 @@ WHO = (
         {**ONE, "main": "@include a\nbob ALL = A\n", "a": "Cmnd_Alias A = /bin/a\n"},
         f"who {M} /bin/a",
         "bob: main:2:11: allowed by: (root) A\nbob: a:1:16: in Cmnd_Alias A: /bin/a\n",
+        0,
+    ),
+    ("who_by_one_of_nine_group_names", {**ONE, **NINE_GROUPS, "main": "%G8 ALL = /bin/a\n%g9 ALL = ALL\n"}, f"who {M} /bin/a", "bob: main:1:11: allowed by: (root) /bin/a\n", 0),
+    ("who_by_one_of_nine_group_numbers", {**ONE, **NINE_GROUPS, "main": "%#108 ALL = /bin/a\n%#109 ALL = ALL\n"}, f"who {M} /bin/a", "bob: main:1:13: allowed by: (root) /bin/a\n", 0),
+    (
+        "who_on_a_host_with_nine_interfaces",
+        {**ONE, "main": "bob 10.0.8.1 = /bin/a\nroot 10.0.7.0 = /bin/a\nALL 10.0.8.2, 10.0.9.0 = ALL\n"},
+        f"who {M} --interfaces {NINE_INTERFACES} /bin/a",
+        "bob: main:1:16: allowed by: (root) /bin/a\nroot: main:2:17: allowed by: (root) /bin/a\n",
         0,
     ),
     ("who_of_an_empty_passwd", {**RULE, **NONE}, f"who {M} --denied /bin/a", "no user may run it\n", 1),
