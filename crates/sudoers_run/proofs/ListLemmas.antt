@@ -3,6 +3,7 @@ use Rattle.std.proofs.Common.{◌≡◌, ◌⊎◌, inl, inr, ◌∙◌, ◌<◌
 use Rattle.std.proofs.lemmas.Bool.{lt-ltb, false≢true}
 use Rattle.std.specs.Borrow.{Bor}
 use Rattle.std.specs.Option.{is_some, option_or, unwrap_or}
+use Rattle.std.specs.Result.{IsErrAnd}
 use Rattle.sudoers_text.specs.Fault.{text_limit}
 use Rattle.sudoers_tree.specs.declared.named_files.NamedFile.{NamedFile}
 use Rattle.sudoers_tree.specs.declared.load_fault.LoadFault.{LoadFault}
@@ -116,6 +117,11 @@ pub gather_fault_is_list_fault_of_files : (w : ListWords) (root : List ℕ) (kno
     → IsStatedOrOutsideListFault w root known (tool.Layer fault) u g
 gather_fault_is_list_fault_of_files w root known fault (inl outside) u g = inl outside
 gather_fault_is_list_fault_of_files w root known fault (inr why) u g = inr (subst (λ r. IsListOutcomeForGathered w (people_read_result u g) r (Err fault)) (sym why.2) (ap (λ f. Err f) why.1))
+
+-- An error that can only be this fault is this fault.
+pub error_is_fault : {X : Type 0} (result : Result X LayerFault) (fault : LayerFault) → IsErrAnd result (λ (e : LayerFault). e ≡ fault) → result ≡ Err fault
+error_is_fault (Ok x) fault is = absurd is
+error_is_fault (Err e) fault is = ap (λ (f : LayerFault). Err f) is
 
 -- ---- words
 
