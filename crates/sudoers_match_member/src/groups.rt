@@ -1,7 +1,6 @@
 //! The groups of a user.
 
 ghost use Rattle.std.specs.Prelude.{◌≡◌, [], IfOk, IfSome};
-ghost use Rattle.std.specs.Str.{str_to_ascii_lowercase};
 ghost use Rattle.sudoers_match_member.specs.Hits.{is_name_among_groups, is_number_among_groups};
 ghost use Rattle.sudoers_match_member.specs.internal.LookedUp.{AreLookupsOfGroups, AreLowerNamesOf, AreNumbersOf};
 
