@@ -11,7 +11,7 @@ use std::alloc::{AllocError, Global};
 use std::marker::Model;
 use sudoers_names::NameSet;
 
-/// So many groups are compared one by one.
+/// The most groups that are compared one by one.
 const FEW_GROUPS: usize = 8;
 
 /// The names and the numbers of groups, in which they are looked up.
@@ -26,7 +26,7 @@ struct GroupLookups {
 #[derive(Drop)]
 pub struct Groups {
     list: Vec<Group>,
-    /// What many groups are looked up in: one, or none of few groups.
+    /// The tables of many groups. There is one element, or none for few groups.
     lookups: Vec<GroupLookups>,
     alloc: Global,
 }

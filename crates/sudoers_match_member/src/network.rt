@@ -36,14 +36,14 @@ fn masked_network_of(mask: Mask, address: Address) -> u32
     address.number & number_of_mask(mask)
 }
 
-/// So many interfaces are compared one by one.
+/// The most interfaces that are compared one by one.
 const FEW_INTERFACES: usize = 8;
 
 /// The network interfaces of a host, among which addresses are looked up.
 #[derive(Drop)]
 pub struct Interfaces {
     list: Vec<Interface>,
-    /// What hits one of many interfaces without a mask, their addresses and their networks: one set, or none for few interfaces.
+    /// The addresses of many interfaces and their networks, which hit without a mask. There is one set, or none for few interfaces.
     hits: Vec<NumberSet>,
 }
 
