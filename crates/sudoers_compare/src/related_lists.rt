@@ -72,8 +72,8 @@ fn are_lists_related(
         && is_list_related(alloc, relation, &old.hosts, &new.hosts)
 }
 
-/// Returns whether the users and the hosts of `old` are related to those of `new`, and notes it in `known` if it is known where they stand.
-/// That has what was asked last.
+/// Returns whether the users and the hosts of `old` are related to those of `new`. `known` keeps the last answer for each relation. If the
+/// numbers of the lists are known, it gives the answer or takes it.
 pub fn are_lists_related_or_known(
     alloc: Global,
     relation: ListRelation,

@@ -45,8 +45,8 @@ pub fn find_aliases_of_user(
     Ok(names)
 }
 
-/// Adds the aliases that are the user's, each asked with those before it. Definitions without a mark are not asked: their aliases are there,
-/// or not the user's. Marks those that have to be asked again.
+/// Adds the aliases that are the user's. Looks at the marked definitions alone, in their order, and uses what it has added so far. The aliases
+/// of the others are there already, or are not the user's. Marks the definitions that have to be looked at again.
 fn add_marked_aliases(
     policy: &Policy,
     definitions: &UserDefinitions<'_>,
