@@ -16,7 +16,7 @@ use std::marker::Model;
 use sudoers_grammar::{
     DigestKind, Kind, Operator, OptionName, Tag, TokenWithText, add_text_to_token, begins_with_byte,
 };
-use sudoers_text::{LineTokens, choose_line_mode};
+use sudoers_text::{LineTokens, TokenKind, choose_line_mode};
 
 /// Why a reader halts.
 #[derive(Clone, Copy)]
@@ -50,33 +50,12 @@ enum TokenSource<'a> {
     List(&'a [TokenWithText<'a>]),
 }
 
-impl<'a> TokenSource<'a> {
-    /// Takes the next token, if there is one.
-    fn take_next(&mut self) -> Option<TokenWithText<'a>>
-        ensures next { option_map model_of_token_part result ≡ first_token_option (tokens_of_source self.old) }
-        ensures left { tokens_of_source self.new ≡ drop 1 (tokens_of_source self.old) }
-    {
-        match self {
-            TokenSource::Line(left) => {
-                let line = left.line();
-                let token = left.take_next_token()?;
-                Some(add_text_to_token(line, &token))
-            }
-            TokenSource::List(tokens) => {
-                let [token, left @ ..] = *tokens else {
-                    return None;
-                };
-                *tokens = left;
-                Some(*token)
-            }
-        }
-    }
-}
-
 /// The tokens that are left of a line.
 #[derive(Drop)]
 pub struct TokenCursor<'a> {
-    next: Option<TokenWithText<'a>>,
+    /// The next token, if one is left.
+    next: TokenWithText<'a>,
+    is_one_left: bool,
     behind: TokenSource<'a>,
     /// Where the line stands in the table of bytes, if it does.
     place: usize,
@@ -89,21 +68,31 @@ impl<'a> Model for TokenCursor<'a> {
 
     ghost Value = { List TokenWithBytes };
 
-    ghost view = { λ c. tokens_from_next c.next (tokens_of_source c.behind) };
+    ghost view = { λ c. tokens_from_next c.is_one_left c.next (tokens_of_source c.behind) };
 }
+
+/// A token that stands before all others, and is passed at once.
+const BEFORE_ALL: TokenWithText<'static> = TokenWithText {
+    kind: TokenKind::Bad,
+    text: b"",
+    start: 0,
+    stop: 0,
+    last: false,
+};
 
 impl<'a> TokenCursor<'a> {
     /// Returns a cursor before all tokens of `source`, whose line stands at `place` of the table of bytes, if it does.
     fn from_source(source: TokenSource<'a>, place: usize) -> Self
         ensures { result ≡ tokens_of_source source.entry }
     {
-        let mut behind = source;
-        let next = behind.take_next();
-        TokenCursor {
-            next,
-            behind,
+        let mut cursor = TokenCursor {
+            next: BEFORE_ALL,
+            is_one_left: true,
+            behind: source,
             place,
-        }
+        };
+        cursor.pass_next_token();
+        cursor
     }
 
     /// Returns a cursor before all tokens of `line`, which stands at `place` of the table of bytes, if it does.
@@ -125,7 +114,11 @@ impl<'a> TokenCursor<'a> {
     pub fn peek(&self) -> Option<TokenWithText<'a>>
         ensures { option_map model_of_token_part result ≡ first_token_option self.now }
     {
-        self.next
+        if self.is_one_left {
+            Some(self.next)
+        } else {
+            None
+        }
     }
 
     /// Returns where the byte `stop` of the line stands in the table of bytes, if the line stands there.
@@ -134,11 +127,41 @@ impl<'a> TokenCursor<'a> {
     }
 
     /// Passes the next token.
+    #[inline(never)]
     pub fn pass_next_token(&mut self)
         ensures { self.new ≡ drop 1 self.old }
     {
-        if self.next.is_some() {
-            self.next = self.behind.take_next();
+        if !self.is_one_left {
+            return;
+        }
+        match &mut self.behind {
+            TokenSource::Line(left) => {
+                let line = left.line();
+                match left.take_next_token() {
+                    Some(token) => {
+                        let part = add_text_to_token(line, &token);
+                        self.next.kind = part.kind;
+                        self.next.text = part.text;
+                        self.next.start = part.start;
+                        self.next.stop = part.stop;
+                        self.next.last = part.last;
+                    }
+                    None => {
+                        self.is_one_left = false;
+                    }
+                }
+            }
+            TokenSource::List(tokens) => {
+                match *tokens {
+                    [token, left @ ..] => {
+                        *tokens = left;
+                        self.next = *token;
+                    }
+                    [] => {
+                        self.is_one_left = false;
+                    }
+                }
+            }
         }
     }
 

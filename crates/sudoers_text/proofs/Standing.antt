@@ -13,6 +13,8 @@ use Rattle.sudoers_text.specs.Context.{token_forms_in_context, context_after_tok
 use Rattle.sudoers_text.specs.Token.{units_left_of_place, next_token_start, is_line_end_or_empty, AreTokensFrom, HasTokens}
 use Rattle.sudoers_text.specs.Found.{kind_and_size_of_token, kind_and_size_after_units, tokens_from_offset, tokens_of_line}
 use Rattle.sudoers_text.specs.LeftTokens.{LeftTokens}
+use Rattle.sudoers_text.specs.declared.plain_tokens.TokenAndContextBehind.{TokenAndContextBehind}
+use Rattle.sudoers_text.specs.internal.Plain.{IsTokenOfLineAt}
 use Rattle.sudoers_text.proofs.Reach.{leading_run_size_is_within_bytes, slice_from_count_to_end_is_drop}
 use Rattle.sudoers_text.proofs.TokenLists.{found_token_has_positive_size, found_token_before_tokens_is_token_list, tokens_from_offset_are_tokens_of_line, tokens_from_place_are_unique, computed_tokens_are_tokens_of_line}
 
@@ -37,30 +39,20 @@ pub record IsNextTokenOfLine (line : List ℕ) (start size : ℕ) (token : Token
 pub next_token_start_is_within_line : (line : List ℕ) (at start : ℕ) → at ≤ length line → IsNextTokenStartAt line at start → start ≤ length line
 next_token_start_is_within_line line at start inside next = omega (arith, next.is, leading_run_size_is_within_bytes rule.Gap (drop at line), length-drop at line)
 
-pub token_found_at_start_is_next : (line : List ℕ) (here then : TokenContext) (known : LeftContext) (at start size : ℕ) (k : TokenKind) → at ≤ length line → IsNextTokenStartAt line at start
-    → ((fs : List TokenForm) → kind_and_size_of_token fs known.item (known.begun == 0) (drop start line) ≡ kind_and_size_after_units fs (units_left_of_place line start) (drop start line))
-    → (k, size) ≡ kind_and_size_of_token (token_forms_in_context here) known.item (known.begun == 0) (take (length line - start) (drop start line)) → size ≤ length (take (length line - start) (drop start line))
-    → then ≡ context_after_token here k (slice_range line start (start + size)) (take (length line - (start + size)) (drop (start + size) line))
-    → IsNextTokenOfLine line start size (record { kind = k; start = start; stop = start + size }) (left_tokens here line at) (left_tokens then line (start + size))
-token_found_at_start_is_next line here then known at start size k inside_at next same is fits leads =
+pub token_of_line_is_next : (line : List ℕ) (here : TokenContext) (at start : ℕ) (found : TokenAndContextBehind) → at ≤ length line → IsNextTokenStartAt line at start → IsTokenOfLineAt line here start found
+    → IsNextTokenOfLine line start found.len (record { kind = found.kind; start = start; stop = start + found.len }) (left_tokens here line at) (left_tokens found.behind line (start + found.len))
+token_of_line_is_next line here at start found inside_at next is =
     let body = drop start line in
     let units = units_left_of_place line start in
-    let size_is : start + size - start ≡ size = omega arith in
-    let found_is : (k, size) ≡ kind_and_size_after_units (token_forms_in_context here) units body = is ∙ ap (kind_and_size_of_token (token_forms_in_context here) known.item (known.begun == 0)) (slice_from_count_to_end_is_drop start line) ∙ same (token_forms_in_context here) in
-    let some : 0 < size = subst (λ (p : TokenKind × ℕ). 0 < p.1) (sym found_is) (found_token_has_positive_size (token_forms_in_context here) units body next.more) in
-    let text : slice_range line start (start + size) ≡ take size body = ap (λ (n : ℕ). take n body) size_is in
-    let rest : take (length line - (start + size)) (drop (start + size) line) ≡ drop size body = slice_from_count_to_end_is_drop (start + size) line ∙ sym (drop-drop size start line) in
-    let inside : start + size ≤ length line = omega (arith, fits, next_token_start_is_within_line line at start inside_at next, ap length (slice_from_count_to_end_is_drop start line), length-drop start line) in
-    let then_is : then ≡ context_after_token here k (take size body) (drop size body) =
-    leads ∙ ap (λ (t : List ℕ). context_after_token here k t (take (length line - (start + size)) (drop (start + size) line))) text
-    ∙ ap (λ (t : List ℕ). context_after_token here k (take size body) t) rest in
-    let token : Token = record { kind = k; start = start; stop = start + size } in
-    let later = left_tokens then line (start + size) in
-    let there : AreTokensFrom (context_after_token here k (take size body) (drop size body)) line (start + size) later = subst (λ (c : TokenContext). AreTokensFrom c line (start + size) later) then_is (left_tokens_stand then line (start + size)) in
+    let some : 0 < found.len = subst (λ (p : TokenKind × ℕ). 0 < p.1) (sym is.found) (found_token_has_positive_size (token_forms_in_context here) units body next.more) in
+    let token : Token = record { kind = found.kind; start = start; stop = start + found.len } in
+    let later = left_tokens found.behind line (start + found.len) in
+    let there : AreTokensFrom (context_after_token here found.kind (take found.len body) (drop found.len body)) line (start + found.len) later =
+    subst (λ (c : TokenContext). AreTokensFrom c line (start + found.len) later) is.behind (left_tokens_stand found.behind line (start + found.len)) in
     record {
       some = some;
-      inside = inside;
-      first = tokens_from_place_are_unique (left_tokens here line at) (token ∷ later) here line at (left_tokens_stand here line at) (found_token_before_tokens_is_token_list here line at start k size later next.is next.more found_is there);
+      inside = is.within;
+      first = tokens_from_place_are_unique (left_tokens here line at) (token ∷ later) here line at (left_tokens_stand here line at) (found_token_before_tokens_is_token_list here line at start found.kind found.len later next.is next.more is.found there);
     }
 
 -- What `old` is, and what is left of it behind its first token.

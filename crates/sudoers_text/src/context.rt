@@ -94,6 +94,7 @@ fn find_context_after_command_word(text: &[u8]) -> TokenContext
 }
 
 /// Returns what may stand after a token in the place of a command.
+#[inline(always)]
 fn find_context_after_command_token(
     colon: TokenContext,
     equals: TokenContext,
@@ -125,6 +126,7 @@ fn find_context_after_option_value(kind: TokenKind, text: &[u8]) -> TokenContext
 }
 
 /// Returns what may stand after a token among arguments.
+#[inline(always)]
 fn find_context_after_argument(kind: TokenKind, text: &[u8]) -> TokenContext
     ensures { result ≡ context_after_argument kind text.now }
 {

@@ -12,6 +12,7 @@ mod line_tokens;
 mod numbers;
 mod part;
 mod plain_runs;
+mod plain_tokens;
 mod single_logical_line;
 mod text_units;
 mod token;

@@ -6,6 +6,7 @@ ghost use Rattle.sudoers_text.specs.Found.{tokens_of_line};
 
 use crate::context::TokenContext;
 use crate::fault::TextFault;
+use crate::plain_tokens::find_token_at;
 use crate::token::{Mode, Token};
 use crate::tokenizing::{LeftContextAtOffset, find_next_token_start};
 use std::alloc::Global;
@@ -63,15 +64,12 @@ impl<'a> LineTokens<'a> {
         let Some(start) = find_next_token_start(self.line, self.at) else {
             return None;
         };
-        let left = self.reached.advance_to_token(self.line, start);
-        let piece = self.here.find_token_in_context(left, &self.line[start..]);
-        let stop = start + piece.len;
-        self.here = self
-            .here
-            .find_context_after_token(piece.kind, &self.line[start..stop], &self.line[stop..]);
+        let found = find_token_at(self.here, &mut self.reached, self.line, start);
+        let stop = start + found.len;
+        self.here = found.behind;
         self.at = stop;
         Some(Token {
-            kind: piece.kind,
+            kind: found.kind,
             start,
             stop,
         })

@@ -1,7 +1,8 @@
 //! What pieces of a line are made of.
 
-ghost use Rattle.std.specs.Prelude.{◌≡◌, ◌≤◌, length};
+ghost use Rattle.std.specs.Prelude.{◌≡◌, ◌≤◌, ◌∷◌, ℕ, List, length, true};
 ghost use Rattle.sudoers_text.specs.declared.part.ByteRunKind.TheVariants as rules;
+ghost use Rattle.sudoers_text.specs.Unit.{unit_after_backslash};
 ghost use Rattle.sudoers_text.specs.Part.{is_punct, is_byte_of_include_path, is_word_byte, is_path_byte, is_value_byte, is_quoted_byte, is_quoted_byte_but_separator, is_upper, is_alphanumeric, is_byte_of_parameter_name, is_digest_byte, pair_size_of_unit, continuation_size_of_unit, pair_or_continuation_size_of_unit, backslash_unit_size_by, unclosed_quote_unit_size, run_unit_size, reach_of_units, leading_run_size, has_given_first_byte, quotes_and_run_between_size, argument_unit_size, argument_units_size, is_whole_argument, quoted_front_to_inner_separator_size};
 
 use crate::text_units::{
@@ -132,15 +133,24 @@ fn is_digest_byte(byte: u8) -> bool
     is_alphanumeric(byte) || byte == b'+' || byte == b'/' || byte == b'='
 }
 
+/// Returns how many bytes the pair has that a backslash before the bytes begins, or none.
+#[inline(never)]
+fn pair_len_after_backslash(rest: &[u8]) -> usize
+    ensures { result ≡ pair_size_of_unit (unit_after_backslash rest.now) }
+{
+    match unit_of_backslash(rest) {
+        TextUnit::Pair(byte) if byte != b'\r' => 2,
+        _ => 0,
+    }
+}
+
 /// Returns how many bytes the pair has that begins the bytes, or none.
+#[inline(always)]
 fn backslash_pair_len(bytes: &[u8]) -> usize
     ensures { result ≡ backslash_unit_size_by pair_size_of_unit bytes.now }
 {
     match bytes {
-        [b'\\', rest @ ..] => match unit_of_backslash(rest) {
-            TextUnit::Pair(byte) if byte != b'\r' => 2,
-            _ => 0,
-        },
+        [b'\\', rest @ ..] => pair_len_after_backslash(rest),
         _ => 0,
     }
 }
@@ -216,7 +226,26 @@ fn run_unit_len(rule: ByteRunKind, bytes: &[u8]) -> usize
     }
 }
 
-/// Returns how many bytes the units have that begin the bytes, one after another.
+/// Returns whether `byte` is a unit of its own in runs of this kind.
+#[inline(always)]
+fn is_unit_of_run(rule: ByteRunKind, byte: u8) -> bool
+    ensures { result ≡ true → (rest : List ℕ) → run_unit_size rule (byte ∷ rest) ≡ 1 }
+{
+    match rule {
+        ByteRunKind::Gap => is_blank(byte),
+        ByteRunKind::Digits => byte.is_ascii_digit(),
+        ByteRunKind::Name => is_parameter_name_byte(byte),
+        ByteRunKind::Digest => is_digest_byte(byte),
+        ByteRunKind::Word => is_word_byte(byte),
+        ByteRunKind::IncludePath => is_include_path_byte(byte),
+        ByteRunKind::Path => is_path_byte(byte),
+        ByteRunKind::Value => is_value_byte(byte),
+        ByteRunKind::Quote => is_quoted_byte(byte),
+        ByteRunKind::Clean => is_quoted_non_separator_byte(byte),
+    }
+}
+
+/// Returns how many bytes the units have that begin the bytes, one after another. Most units are one byte.
 #[tactic(auto, unfolding(crate::specs::Part::leading_run_size))]
 #[inline(always)]
 pub fn leading_run_len(rule: ByteRunKind, bytes: &[u8]) -> usize
@@ -224,13 +253,18 @@ pub fn leading_run_len(rule: ByteRunKind, bytes: &[u8]) -> usize
     ensures within { result ≤ length bytes.now }
 {
     let mut len = 0;
-    loop {
-        let unit = run_unit_len(rule, &bytes[len..]);
-        if unit == 0 {
-            return len;
+    while len < bytes.len() {
+        if is_unit_of_run(rule, bytes[len]) {
+            len += 1;
+        } else {
+            let unit = run_unit_len(rule, &bytes[len..]);
+            if unit == 0 {
+                return len;
+            }
+            len += unit;
         }
-        len += unit;
     }
+    len
 }
 
 /// Returns how many bytes a line has behind a `"` that is never closed, without its line end.
@@ -305,13 +339,18 @@ pub fn argument_units_len(bytes: &[u8]) -> usize
     ensures within { result ≤ length bytes.now }
 {
     let mut len = 0;
-    loop {
-        let unit = argument_unit_len(&bytes[len..]);
-        if unit == 0 {
-            return len;
+    while len < bytes.len() {
+        if is_path_byte(bytes[len]) {
+            len += 1;
+        } else {
+            let unit = argument_unit_len(&bytes[len..]);
+            if unit == 0 {
+                return len;
+            }
+            len += unit;
         }
-        len += unit;
     }
+    len
 }
 
 /// Returns whether an argument is whole, and no part of a quoted argument that a `,`, `:` or `=` breaks off.

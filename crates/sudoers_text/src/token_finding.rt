@@ -12,12 +12,12 @@ ghost use Rattle.sudoers_text.specs.Found.{kind_and_size_of_token};
 
 use crate::context::{ScopeNamesOrCommands, TokenContext};
 use crate::part::{ByteRunKind, closed_quote_len, is_punct, leading_run_len};
-use crate::text_units::{LeftContext, begins_hash_or_percent, is_comma_colon_or_equals};
+use crate::text_units::{LeftContext, begins_hash_or_percent};
 use crate::token::{Mode, TokenKind};
 use crate::token_lengths::{
-    argument_len, bad_token_len, command_path_len, comment_len, defaults_or_at_include_word_len,
-    hash_include_word_len, non_unix_group_len, numeric_id_len, plus_or_minus_equals_len,
-    quoted_argument_rest_len,
+    argument_len, bad_token_len, begins_comma_colon_or_equals, command_path_len, comment_len,
+    defaults_or_at_include_word_len, hash_include_word_len, non_unix_group_len, numeric_id_len,
+    plus_or_minus_equals_len, quoted_argument_rest_len,
 };
 
 /// The kind of a token, and how many bytes it has.
@@ -40,7 +40,7 @@ fn make_bad_token(bytes: &[u8]) -> TokenKindAndLen
 }
 
 /// Finds a token where only a comment may stand.
-fn find_comment_or_bad_token(left: LeftContext, bytes: &[u8]) -> TokenKindAndLen
+pub fn find_comment_or_bad_token(left: LeftContext, bytes: &[u8]) -> TokenKindAndLen
     ensures found { (result.kind, result.len) ≡ kind_and_size_of_token (CommentPart ∷ []) left.item (left.begun == 0) bytes.now }
     ensures within { result.len ≤ length bytes.now }
 {
@@ -57,7 +57,11 @@ fn find_comment_or_bad_token(left: LeftContext, bytes: &[u8]) -> TokenKindAndLen
 
 /// Finds a quoted part, or what else may stand there.
 #[inline(never)]
-fn find_quoted_or_comment_token(left: LeftContext, kind: TokenKind, bytes: &[u8]) -> TokenKindAndLen
+pub fn find_quoted_or_comment_token(
+    left: LeftContext,
+    kind: TokenKind,
+    bytes: &[u8],
+) -> TokenKindAndLen
     ensures found { (result.kind, result.len) ≡ kind_and_size_of_token (QuotedPart kind ∷ CommentPart ∷ []) left.item (left.begun == 0) bytes.now }
     ensures within { result.len ≤ length bytes.now }
 {
@@ -131,7 +135,7 @@ fn find_token_among_words(left: LeftContext, bytes: &[u8]) -> TokenKindAndLen
 
 /// Returns whether one of `!`, `=`, `:`, `,`, `(` and `)` begins the bytes.
 #[inline(always)]
-fn begins_punct(bytes: &[u8]) -> bool
+pub fn begins_punct(bytes: &[u8]) -> bool
     ensures value { result ≡ nat_lt 0 (size_of_one_matching_byte is_punct bytes.now) }
     ensures some { IsTrue result → 0 < length bytes.now }
 {
@@ -266,17 +270,6 @@ fn find_digest_or_command_token(left: LeftContext, bytes: &[u8]) -> TokenKindAnd
         }
     } else {
         find_token_among_commands(left, bytes)
-    }
-}
-
-/// Returns whether `,`, `:` or `=` begins the bytes.
-fn begins_comma_colon_or_equals(bytes: &[u8]) -> bool
-    ensures value { result ≡ nat_lt 0 (size_of_one_matching_byte is_comma_colon_or_equals bytes.now) }
-    ensures some { IsTrue result → 0 < length bytes.now }
-{
-    match bytes {
-        [byte, ..] => is_comma_colon_or_equals(*byte),
-        [] => false,
     }
 }
 

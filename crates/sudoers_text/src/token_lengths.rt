@@ -1,6 +1,8 @@
 //! The pieces of a line: how many bytes the longest has that begins the bytes.
 
-ghost use Rattle.std.specs.Prelude.{◌≡◌, ◌==◌, ◌+◌, ◌<◌, ◌≤◌, ◌^◌, length, true};
+ghost use Rattle.std.specs.Prelude.{◌≡◌, ◌==◌, ◌+◌, ◌<◌, ◌≤◌, ◌^◌, length, nat_lt, true, IsTrue};
+ghost use Rattle.sudoers_text.specs.Unit.{is_comma_colon_or_equals};
+ghost use Rattle.sudoers_text.specs.Part.{size_of_one_matching_byte};
 ghost use Rattle.sudoers_text.specs.Piece.{plus_or_minus_equals_size, has_host_or_runas_sign, begins_defaults, defaults_or_at_include_word_size, quoted_argument_rest_size};
 ghost use Rattle.sudoers_text.specs.Token.{bad_token_size};
 ghost use Rattle.sudoers_text.specs.Found.{size_with_prefix, hash_id_size, optional_colon_id_size, numeric_id_size, colon_and_word_size, non_unix_group_size, command_path_size, argument_size, comment_size_at, hash_include_size_at};
@@ -9,7 +11,9 @@ use crate::part::{
     ByteRunKind, argument_units_len, begins_with_given_byte, closed_quote_len, leading_run_len,
     quoted_front_to_inner_separator_len, unclosed_quote_len,
 };
-use crate::text_units::{LeftContext, begins_digit, is_hash_include_tail, take_up_to_line_end};
+use crate::text_units::{
+    LeftContext, begins_digit, is_comma_colon_or_equals, is_hash_include_tail, take_up_to_line_end,
+};
 use crate::word::is_at_sign_include_word;
 
 /// Returns the length with that of a prefix, if there is any length.
@@ -178,6 +182,18 @@ pub fn defaults_or_at_include_word_len(bytes: &[u8]) -> usize
         word
     } else {
         0
+    }
+}
+
+/// Returns whether `,`, `:` or `=` begins the bytes.
+#[inline(always)]
+pub fn begins_comma_colon_or_equals(bytes: &[u8]) -> bool
+    ensures value { result ≡ nat_lt 0 (size_of_one_matching_byte is_comma_colon_or_equals bytes.now) }
+    ensures some { IsTrue result → 0 < length bytes.now }
+{
+    match bytes {
+        [byte, ..] => is_comma_colon_or_equals(*byte),
+        [] => false,
     }
 }
 

@@ -1,5 +1,5 @@
 -- The tokens that a cursor shows, by where they come from.
-use Rattle.std.specs.Prelude.{List, [], ◌∷◌, map, Option, Some, None}
+use Rattle.std.specs.Prelude.{List, [], ◌∷◌, map, Bool, true, false}
 use Rattle.sudoers_grammar.specs.declared.token_with_text.TokenWithText.{TokenWithText}
 use Rattle.sudoers_grammar.specs.Piece.{TokenWithBytes, tokens_with_bytes}
 use Rattle.sudoers_grammar.specs.Seen.{model_of_token_part}
@@ -11,7 +11,7 @@ abbrev pub tokens_of_source : TokenSource → List TokenWithBytes
 tokens_of_source (source.Line left) = tokens_with_bytes left.line left.tokens
 tokens_of_source (source.List tokens) = map model_of_token_part tokens.now
 
--- the next token, and those behind it; none if there is no next one
-abbrev pub tokens_from_next : Option TokenWithText → List TokenWithBytes → List TokenWithBytes
-tokens_from_next None behind = []
-tokens_from_next (Some token) behind = model_of_token_part token ∷ behind
+-- the next token, if one is left, and those behind it
+abbrev pub tokens_from_next : Bool → TokenWithText → List TokenWithBytes → List TokenWithBytes
+tokens_from_next false token behind = []
+tokens_from_next true token behind = model_of_token_part token ∷ behind

@@ -1,6 +1,6 @@
 use Rattle.std.proofs.Common.{◌≡◌, ◌+◌, ◌≤◌, ℕ, List, length, ap, subst, arith}
 use Rattle.sudoers_text.specs.LeftTokens.{LeftTokens}
-use Rattle.sudoers_text.proofs.Standing.{token_found_at_start_is_next, next_token_is_taken_from_line, no_tokens_are_left_at_line_end}
+use Rattle.sudoers_text.proofs.Standing.{token_of_line_is_next, next_token_is_taken_from_line, no_tokens_are_left_at_line_end}
 use Rattle.sudoers_text.proofs.line_tokens.LineTokens.take_next_token.Goals as goal
 
 pub returns-in_default-clause-next : goal.returns-in_default-clause-next
@@ -17,13 +17,12 @@ pub returns : goal.returns
 returns c =
     let line : c.self.inside.line.now ≡ c.args.self.now.line = ap (λ (left : LeftTokens). left.line) c.self.view_is in
     let more =
-    token_found_at_start_is_next c.self.inside.line.now c.self.inside.here c.find_context_after_token-self-inside.result c.advance_to_token-left.result
-    c.self.inside.at c.in-Some.start c.find_token_in_context-piece.result.len c.find_token_in_context-piece.result.kind c.self.invariant.inside
+    token_of_line_is_next c.self.inside.line.now c.self.inside.here c.self.inside.at c.in-Some.start c.find_token_at-found.result c.self.invariant.inside
     (record { is = c.in-Some.ensures.some.0; more = c.in-Some.ensures.some.1 })
-    c.advance_to_token-left.ensures.found c.find_token_in_context-piece.ensures.found c.find_token_in_context-piece.ensures.within c.find_context_after_token-self-inside.ensures in
+    c.find_token_at-found.ensures.found in
     let taken = next_token_is_taken_from_line c.args.self.now _ _ _ more.first (ap (λ (left : LeftTokens). left.tokens) c.self.view_is) in
     record {
       next = taken.next;
       left = taken.line_left c.self.inside.line.now line;
-      within = (omega (arith, more.some), subst (λ (bytes : List ℕ). c.in-Some.start + c.find_token_in_context-piece.result.len ≤ length bytes) line more.inside);
+      within = (omega (arith, more.some), subst (λ (bytes : List ℕ). c.in-Some.start + c.find_token_at-found.result.len ≤ length bytes) line more.inside);
     }

@@ -1,0 +1,226 @@
+//! The token with which bytes begin, where neither `#` nor `%` does: it does not ask for what stands left of it.
+
+ghost use Rattle.std.specs.Prelude.{◌≡◌, ◌≤◌, ◌∷◌, [], take, drop, false, length};
+ghost use Rattle.sudoers_text.specs.declared.part.ByteRunKind.TheVariants as rules;
+ghost use Rattle.sudoers_text.specs.declared.token.TokenKind.TheVariants as kinds;
+ghost use Rattle.sudoers_text.specs.Piece.{Run, QuotedPart, CommentPart};
+ghost use Rattle.sudoers_text.specs.declared.context.TokenContext.TheVariants as context;
+ghost use Rattle.sudoers_text.specs.internal.Left.{has_leading_hash_or_percent};
+ghost use Rattle.sudoers_text.specs.internal.Reached.{DescribesLeftAtOffset};
+ghost use Rattle.sudoers_text.specs.internal.Plain.{IsTokenWithContextBehind, IsTokenOfLineAt};
+ghost use Rattle.sudoers_text.specs.Context.{token_forms_in_word_lists, token_forms_in_command_lists, token_forms_in_context, context_after_token};
+ghost use Rattle.sudoers_text.specs.Found.{kind_and_size_of_token};
+
+use crate::context::TokenContext;
+use crate::part::{ByteRunKind, leading_run_len};
+use crate::text_units::{LeftContext, begins_hash_or_percent};
+use crate::token::TokenKind;
+use crate::token_finding::{
+    TokenKindAndLen, begins_punct, find_comment_or_bad_token, find_quoted_or_comment_token,
+};
+use crate::token_lengths::{argument_len, begins_comma_colon_or_equals, command_path_len};
+use crate::tokenizing::LeftContextAtOffset;
+
+/// What stands left of a token that does not ask for it: any answer would do.
+const UNASKED: LeftContext = LeftContext {
+    item: false,
+    continues: false,
+    begun: 1,
+};
+
+/// Finds a word, or what else may stand there.
+#[inline(always)]
+fn find_plain_word_or_quoted_token(bytes: &[u8]) -> TokenKindAndLen
+    ensures found { (result.kind, result.len) ≡ kind_and_size_of_token (Run kinds.Word rules.Word ∷ QuotedPart kinds.Quoted ∷ CommentPart ∷ []) false false bytes.now }
+    ensures within { result.len ≤ length bytes.now }
+{
+    let len = leading_run_len(ByteRunKind::Word, bytes);
+    if len > 0 {
+        TokenKindAndLen {
+            kind: TokenKind::Word,
+            len,
+        }
+    } else {
+        find_quoted_or_comment_token(UNASKED, TokenKind::Quoted, bytes)
+    }
+}
+
+/// Finds the token that begins the bytes among words.
+#[inline(always)]
+fn find_plain_token_among_words(bytes: &[u8]) -> TokenKindAndLen
+    requires { has_leading_hash_or_percent bytes.now ≡ false }
+    ensures found { (result.kind, result.len) ≡ kind_and_size_of_token token_forms_in_word_lists false false bytes.now }
+    ensures within { result.len ≤ length bytes.now }
+{
+    if begins_punct(bytes) {
+        TokenKindAndLen {
+            kind: TokenKind::Punct,
+            len: 1,
+        }
+    } else {
+        find_plain_word_or_quoted_token(bytes)
+    }
+}
+
+/// Finds the token that begins the bytes among commands.
+#[inline(always)]
+fn find_plain_token_among_commands(bytes: &[u8]) -> TokenKindAndLen
+    requires { has_leading_hash_or_percent bytes.now ≡ false }
+    ensures found { (result.kind, result.len) ≡ kind_and_size_of_token token_forms_in_command_lists false false bytes.now }
+    ensures within { result.len ≤ length bytes.now }
+{
+    let len = command_path_len(bytes);
+    if len > 0 {
+        TokenKindAndLen {
+            kind: TokenKind::Path,
+            len,
+        }
+    } else {
+        find_plain_token_among_words(bytes)
+    }
+}
+
+/// Finds the token that begins the bytes among arguments.
+#[inline(always)]
+fn find_plain_token_among_arguments(bytes: &[u8]) -> TokenKindAndLen
+    ensures found { (result.kind, result.len) ≡ kind_and_size_of_token (token_forms_in_context context.Arguments) false false bytes.now }
+    ensures within { result.len ≤ length bytes.now }
+{
+    if begins_comma_colon_or_equals(bytes) {
+        return TokenKindAndLen {
+            kind: TokenKind::Punct,
+            len: 1,
+        };
+    }
+    let len = argument_len(bytes);
+    if len > 0 {
+        TokenKindAndLen {
+            kind: TokenKind::Arg,
+            len,
+        }
+    } else {
+        find_comment_or_bad_token(UNASKED, bytes)
+    }
+}
+
+/// A token, and what may stand behind it.
+#[derive(Clone, Copy)]
+pub struct TokenAndContextBehind {
+    pub kind: TokenKind,
+    pub len: usize,
+    pub behind: TokenContext,
+}
+
+/// Returns the token that begins the bytes with what may stand behind it.
+#[inline(always)]
+fn add_context_behind(
+    here: TokenContext,
+    token: TokenKindAndLen,
+    bytes: &[u8],
+) -> TokenAndContextBehind
+    requires { token.len ≤ length bytes.now }
+    ensures kind { result.kind ≡ token.kind }
+    ensures len { result.len ≡ token.len }
+    ensures behind { result.behind ≡ context_after_token here token.kind (take token.len bytes.now) (drop token.len bytes.now) }
+{
+    let (text, rest) = bytes.split_at(token.len);
+    TokenAndContextBehind {
+        kind: token.kind,
+        len: token.len,
+        behind: here.find_context_after_token(token.kind, text, rest),
+    }
+}
+
+/// Finds the token that begins the bytes, wherever they stand.
+#[inline(never)]
+fn find_other_plain_token(here: TokenContext, bytes: &[u8]) -> TokenAndContextBehind
+    ensures found { IsTokenWithContextBehind here result false false bytes.now }
+{
+    add_context_behind(here, here.find_token_in_context(UNASKED, bytes), bytes)
+}
+
+/// Finds the token with which the bytes begin, where this may stand there. Lists of words and commands come first, as most tokens stand
+/// in these.
+#[inline(always)]
+fn find_plain_token(here: TokenContext, bytes: &[u8]) -> TokenAndContextBehind
+    requires { has_leading_hash_or_percent bytes.now ≡ false }
+    ensures found { IsTokenWithContextBehind here result false false bytes.now }
+{
+    match here {
+        TokenContext::Words => add_context_behind(
+            TokenContext::Words,
+            find_plain_token_among_words(bytes),
+            bytes,
+        ),
+        TokenContext::Hosts => add_context_behind(
+            TokenContext::Hosts,
+            find_plain_token_among_words(bytes),
+            bytes,
+        ),
+        TokenContext::Parentheses => add_context_behind(
+            TokenContext::Parentheses,
+            find_plain_token_among_words(bytes),
+            bytes,
+        ),
+        TokenContext::Commands => add_context_behind(
+            TokenContext::Commands,
+            find_plain_token_among_commands(bytes),
+            bytes,
+        ),
+        TokenContext::BehindTag => add_context_behind(
+            TokenContext::BehindTag,
+            find_plain_token_among_commands(bytes),
+            bytes,
+        ),
+        TokenContext::Arguments => add_context_behind(
+            TokenContext::Arguments,
+            find_plain_token_among_arguments(bytes),
+            bytes,
+        ),
+        _ => find_other_plain_token(here, bytes),
+    }
+}
+
+/// Finds the token at the place `start` of the line by what stands left of it.
+#[inline(never)]
+fn find_token_by_left(
+    here: TokenContext,
+    reached: &mut LeftContextAtOffset,
+    line: &[u8],
+    start: usize,
+) -> TokenAndContextBehind
+    requires below { reached.old.at ≤ start }
+    requires inside { start ≤ length line.now }
+    requires knows { DescribesLeftAtOffset line.now reached.old }
+    ensures place { reached.new.at ≤ start }
+    ensures knows { DescribesLeftAtOffset line.now reached.new }
+    ensures found { IsTokenOfLineAt line.now here start result }
+{
+    let left = reached.advance_to_token(line, start);
+    let bytes = &line[start..];
+    add_context_behind(here, here.find_token_in_context(left, bytes), bytes)
+}
+
+/// Finds the token at the place `start` of the line. Only a token that begins with `#` or `%` depends on what stands left of it: for
+/// other tokens the scan of that stays where it is.
+#[inline(always)]
+pub fn find_token_at(
+    here: TokenContext,
+    reached: &mut LeftContextAtOffset,
+    line: &[u8],
+    start: usize,
+) -> TokenAndContextBehind
+    requires below { reached.old.at ≤ start }
+    requires inside { start ≤ length line.now }
+    requires knows { DescribesLeftAtOffset line.now reached.old }
+    ensures place { reached.new.at ≤ start }
+    ensures knows { DescribesLeftAtOffset line.now reached.new }
+    ensures found { IsTokenOfLineAt line.now here start result }
+{
+    let bytes = &line[start..];
+    if begins_hash_or_percent(bytes) {
+        find_token_by_left(here, reached, line, start)
+    } else {
+        find_plain_token(here, bytes)
+    }
+}
