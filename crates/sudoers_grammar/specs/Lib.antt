@@ -5,6 +5,7 @@ pub mod Seen
 pub mod Number
 pub mod Pattern
 pub mod Atom
+pub mod Plain
 pub mod Grammar
 pub mod Fault
 pub mod Line

@@ -14,6 +14,7 @@ mod node;
 mod numbers_and_addresses;
 mod owned_atom;
 mod pattern;
+mod plain_atom;
 mod token_text;
 mod token_with_text;
 
@@ -33,5 +34,6 @@ pub use numbers_and_addresses::{
     is_digit_string, is_time_stamp, number_up_to, parse_network_atom as network_of,
 };
 pub use pattern::PatternSpelling;
+pub use plain_atom::{PlainAtom, plain_atom_of_token};
 pub use token_text::TokenText;
 pub use token_with_text::{TokenWithText, add_text_to_token, begins_with_byte, ends_with_byte};

@@ -1,6 +1,7 @@
 //! Patterns without the escapes of the policy (sudoers(5), Wildcards; Other special characters and reserved words).
 
-ghost use Rattle.std.specs.Prelude.{◌≡◌, ◌≢◌, ◌<◌, ◌≤◌, ◌++◌, ℕ, length, take, drop, slice_get, Some, IfOk, OnOk};
+ghost use Rattle.sudoers_grammar.specs.declared.pattern.PatternSpelling.TheVariants as Spelling;
+ghost use Rattle.std.specs.Prelude.{◌≡◌, ◌≢◌, ◌<◌, ◌≤◌, ◌++◌, ℕ, length, take, drop, slice_get, Some, IfOk, OnOk, true};
 ghost use Rattle.sudoers_grammar.specs.Pattern.{is_special_in_patterns, pattern_of_literal_byte, is_escaped_for_policy_alone, pattern_of_byte, is_dropped_backslash_before, pattern_of_escaped_pair, pattern_escape_tail_size, pattern_of_escape, pattern_of_remaining_bytes, pattern_of_text};
 
 use crate::token_text::TokenText;
@@ -149,6 +150,14 @@ fn verbatim_prefix_len(spelling: PatternSpelling, text: &[u8]) -> usize
         PatternSpelling::Command | PatternSpelling::Host => find_first_backslash(text),
         PatternSpelling::QuotedHost => 0,
     }
+}
+
+/// Returns whether a path or an argument has no escapes, so that it is its own pattern.
+#[tactic(auto, unfolding(crate::specs::Pattern::pattern_of_text))]
+pub fn is_own_pattern(text: &[u8]) -> bool
+    ensures { result ≡ true → pattern_of_text Spelling.Command text.now ≡ text.now }
+{
+    verbatim_prefix_len(PatternSpelling::Command, text) == text.len()
 }
 
 /// Returns the pattern that a text is.

@@ -11,32 +11,17 @@ ghost use Rattle.sudoers_line_rows.specs.Tables.{TablesHaveGrown, OptionalRowMea
 ghost use Rattle.sudoers_line_reader.specs.internal.Answer.{RowReadsAsOutcome, ReportsDigestPresence, command_start_of_word_row};
 
 use crate::cursor::{HaltCause, ReadResult, TokenCursor};
-use std::alloc::{AllocError, Global};
-use sudoers_grammar::{TokenWithText, ends_with_byte, parse_command_without_args};
-use sudoers_line_rows::{AtomRow, MemberRow, RowRange, Tables, convert_offset_to_u32, store_atom};
+use std::alloc::Global;
+use sudoers_grammar::{Kind, ends_with_byte};
+use sudoers_line_rows::{
+    AtomRow, MemberRow, RowRange, Tables, convert_offset_to_u32, store_atom_of_member_token,
+};
 
 /// A command by its word; whether the word leaves room for arguments.
 #[derive(Clone, Copy)]
 pub struct CommandStartRow {
     pub member: MemberRow,
     pub has_room: bool,
-}
-
-/// Keeps what the token is as a command without arguments, if it is one. The token ends before the byte `end` of the table of bytes, if
-/// its line stands there.
-fn store_command_without_args(
-    alloc: Global,
-    tables: &mut Tables,
-    part: &TokenWithText<'_>,
-    end: usize,
-) -> Result<Option<AtomRow>, AllocError>
-    ensures keeps { IfOk result (λ row. OptionalRowMeansForGood atom_in_tables tables.new row (command_atom_without_args part.now.kind part.now.text.now)) }
-    ensures grown { TablesHaveGrown tables.old tables.new }
-{
-    match parse_command_without_args(alloc, part)? {
-        Some(atom) => Ok(Some(store_atom(tables, end, &atom)?)),
-        None => Ok(None),
-    }
 }
 
 /// Returns whether digests may stand before the command.
@@ -76,7 +61,7 @@ pub fn read_command_word(
     };
     let stop = convert_offset_to_u32(part.stop)?;
     let end = cursor.find_end_in_bytes(part.stop);
-    let Some(atom) = store_command_without_args(alloc, tables, &part, end)? else {
+    let Some(atom) = store_atom_of_member_token(alloc, tables, Kind::Cmnd, &part, end)? else {
         return Err(HaltCause::Fault);
     };
     if !may_follow_digests(has_digests, atom) {

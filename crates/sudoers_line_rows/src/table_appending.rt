@@ -3,11 +3,15 @@
 ghost use Rattle.std.specs.Prelude.{◌≡◌, ◌≤◌, ◌++◌, length, slice_range, IfOk, IfSome, OnOk};
 ghost use Rattle.sudoers_grammar.specs.Seen.{model_of_token_part};
 ghost use Rattle.sudoers_grammar.specs.Atom.{atom_of_token};
+ghost use Rattle.sudoers_grammar.specs.Plain.{atom_of_plain};
+ghost use Rattle.sudoers_line_rows.specs.declared.rows.Tables.{Tables as TablesOf};
 ghost use Rattle.sudoers_line_rows.specs.Tables.{IsExtendedList, TablesHaveGrown, RowMeansForGood, IsRowRangeFromTo, OptionalRowMeansForGood, text_in_tables, args_in_tables, atom_in_tables};
 
 use crate::rows::{ArgsRow, AtomRow, ByteRange, RowRange, Tables};
 use std::alloc::{AllocError, Global};
-use sudoers_grammar::{Args, Atom, Kind, TokenWithText, parse_single_token_atom};
+use sudoers_grammar::{
+    Args, Atom, Kind, PlainAtom, TokenWithText, parse_single_token_atom, plain_atom_of_token,
+};
 
 impl Tables {
     /// Returns tables without rows.
@@ -142,9 +146,44 @@ pub fn store_atom(tables: &mut Tables, end: usize, atom: &Atom<'_>) -> Result<At
     }
 }
 
-/// Keeps what the token is as a member of a list of this kind, if it is one. The token ends before the byte `end` of the table of bytes,
-/// if its line stands there.
-pub fn store_atom_of_member_token(
+/// Returns the row of a member whose text stands in the table of bytes.
+#[inline(always)]
+fn make_plain_atom_row(plain: PlainAtom, text: ByteRange) -> AtomRow
+    ensures { (t : TablesOf) → atom_in_tables t result ≡ atom_of_plain plain (text_in_tables t text) }
+{
+    match plain {
+        PlainAtom::All => AtomRow::All,
+        PlainAtom::Alias => AtomRow::Alias(text),
+        PlainAtom::Name => AtomRow::Name(text),
+        PlainAtom::Host => AtomRow::Host(text),
+        PlainAtom::Path => AtomRow::Path {
+            path: text,
+            args: ArgsRow::Any,
+        },
+    }
+}
+
+/// Keeps a member whose token is its text. The token ends before the byte `end` of the table of bytes, if its line stands there.
+#[inline(always)]
+fn store_plain_atom(
+    tables: &mut Tables,
+    end: usize,
+    plain: PlainAtom,
+    text: &[u8],
+) -> Result<AtomRow, AllocError>
+    ensures keeps { IfOk result (λ r. RowMeansForGood atom_in_tables tables.new r (atom_of_plain plain text.now)) }
+    ensures grown { TablesHaveGrown tables.old tables.new }
+{
+    if matches!(plain, PlainAtom::All) {
+        return Ok(AtomRow::All);
+    }
+    let text = store_token_text(tables, end, text)?;
+    Ok(make_plain_atom_row(plain, text))
+}
+
+/// Keeps what the token is as a member of a list of this kind, if it is one. It is read first, whatever it is.
+#[inline(never)]
+fn store_parsed_atom(
     alloc: Global,
     tables: &mut Tables,
     kind: Kind,
@@ -157,6 +196,24 @@ pub fn store_atom_of_member_token(
     match parse_single_token_atom(alloc, kind, part)? {
         Some(atom) => Ok(Some(store_atom(tables, end, &atom)?)),
         None => Ok(None),
+    }
+}
+
+/// Keeps what the token is as a member of a list of this kind, if it is one. The token ends before the byte `end` of the table of bytes,
+/// if its line stands there.
+pub fn store_atom_of_member_token(
+    alloc: Global,
+    tables: &mut Tables,
+    kind: Kind,
+    part: &TokenWithText<'_>,
+    end: usize,
+) -> Result<Option<AtomRow>, AllocError>
+    ensures keeps { IfOk result (λ row. OptionalRowMeansForGood atom_in_tables tables.new row (atom_of_token kind (model_of_token_part part.now))) }
+    ensures grown { TablesHaveGrown tables.old tables.new }
+{
+    match plain_atom_of_token(kind, part) {
+        Some(plain) => Ok(Some(store_plain_atom(tables, end, plain, part.text)?)),
+        None => store_parsed_atom(alloc, tables, kind, part, end),
     }
 }
 
