@@ -1,11 +1,12 @@
 -- A line without a backslash before its first LF ends with that LF.
-use Rattle.std.proofs.Common.{◌≡◌, ℕ, zero, suc, ◌+◌, ◌-◌, ◌<◌, true, false, cond, ◌&&◌, ◌||◌, List, [], ◌∷◌, ◌++◌, length, take, drop, get_or, refl, sym, ap, subst, ◌∙◌, arith, Some}
+use Rattle.std.proofs.Common.{◌≡◌, ℕ, zero, suc, ◌+◌, ◌-◌, ◌<◌, ◌≤◌, Bool, true, false, cond, ◌&&◌, ◌||◌, List, [], ◌∷◌, ◌++◌, length, take, drop, get_or, refl, sym, ap, subst, ◌∙◌, arith, Some}
 use Rattle.std.specs.Prelude.{◌==◌, if◌then◌else◌, slice_range}
-use Rattle.std.proofs.lemmas.List.{length-append, append_assoc, append_cancel_left, drop-drop, take-append-drop, take_at, drop_at, length-take-le}
+use Rattle.std.proofs.lemmas.List.{take_rest, get_or-drop, length-append, append_assoc, append_cancel_left, drop-drop, take-append-drop, take_at, drop_at, length-take-le}
 use Rattle.std.proofs.lemmas.Bool.{eqb-true}
 use Rattle.sudoers_text.specs.Unit.{LineUnit, Quoted, Comment, Byte, bytes_of_unit, bytes_of_reversed_units, AreUnitsBefore, unit_at, begins_line_end, is_hash_of_comment, rest_of_quoted_part, bytes_up_to_line_end}
 use Rattle.sudoers_text.specs.Line.{IsLogicalLineBefore, IsUnfinishedLine, IsLineEndingOrTextEnd, by_lf, by_crlf, at_end}
 use Rattle.sudoers_text.specs.Cut.{first_line_size}
+use Rattle.sudoers_text.specs.internal.Clear.{HasNoBackslashFromTo}
 use Rattle.sudoers_text.proofs.Units.{true_conjunction_has_two_true_parts, untrue_disjunction_has_false_parts}
 use Rattle.sudoers_text.proofs.Reading.{IsUnitAtStartOf, choice_is_one_of_its_sides}
 use Rattle.sudoers_text.proofs.Computed.{first_line_prefix_is_logical_line}
@@ -153,3 +154,30 @@ pub first_lf_without_backslash_ends_line : (text rest : List ℕ) (start k : ℕ
 first_lf_without_backslash_ends_line text rest start k same inside before lf =
     let here = first_lf_splits_bytes_without_backslash rest k inside before lf in
     line_from_start_ends_after_first_lf text (take k rest) (drop (suc k) rest) start (start + k + 1) here.0 (sym same ∙ here.1) (omega (arith, length-take-le k rest (omega arith)))
+
+-- ---- backslashes that are found once
+
+byte_of_rest_is_byte_of_text : (text : List ℕ) (start k : ℕ) → start ≤ k → get_or (take (length text - start) (drop start text)) (k - start) 0 ≡ get_or text k 0
+byte_of_rest_is_byte_of_text text start k from =
+    let same : start + (k - start) ≡ k = omega arith in
+    ap (λ (t : List ℕ). get_or t (k - start) 0) (take_rest text start) ∙ get_or-drop start text (k - start) 0 ∙ ap (λ (n : ℕ). get_or text n 0) same
+
+-- none stands in what is left of the text, up to there
+pub clear_rest_has_no_backslash : (text : List ℕ) (start to : ℕ) → ((i : ℕ) → 0 ≤ i → i < to - start → (get_or (take (length text - start) (drop start text)) i 0 == 92) ≡ true → ⊥) → HasNoBackslashFromTo text start to
+clear_rest_has_no_backslash text start to nowhere = λ k from below is.
+    nowhere (k - start) (omega arith) (omega arith) (ap (λ (n : ℕ). n == 92) (byte_of_rest_is_byte_of_text text start k from ∙ is))
+
+one_of_two_tests_passes : (a b : Bool) → (a || b) ≡ true → (a ≡ true → ⊥) → (b ≡ true → ⊥) → ⊥
+one_of_two_tests_passes true b h not_a not_b = not_a refl
+one_of_two_tests_passes false b h not_a not_b = not_b h
+
+-- The first LF before a backslash ends the line.
+pub first_lf_before_backslash_ends_line : (text : List ℕ) (start lf backslash : ℕ) → HasNoBackslashFromTo text start backslash → lf < length (take (length text - start) (drop start text)) → ((i : ℕ) → 0 ≤ i → i < lf → (get_or (take (length text - start) (drop start text)) i 0 == 10) ≡ true → ⊥) → (get_or (take (length text - start) (drop start text)) lf 0 == 10) ≡ true → start + lf < backslash → IsClosedLineFromStartToStop text start (start + lf + 1)
+first_lf_before_backslash_ends_line text start lf backslash clear inside before is below =
+    let rest : List ℕ = take (length text - start) (drop start text) in
+    first_lf_without_backslash_ends_line text rest start lf (take_rest text start) inside
+    (λ i under either. one_of_two_tests_passes (get_or rest i 0 == 10) (get_or rest i 0 == 92) either (before i (omega arith) under) (λ slash.
+    let place : start + i - start ≡ i = omega arith in
+    let byte : get_or rest i 0 ≡ get_or text (start + i) 0 = ap (λ (n : ℕ). get_or rest n 0) (sym place) ∙ byte_of_rest_is_byte_of_text text start (start + i) (omega arith) in
+    clear (start + i) (omega arith) (omega arith) (sym byte ∙ eqb-true (get_or rest i 0) 92 slash)))
+    (eqb-true (get_or rest lf 0) 10 is)

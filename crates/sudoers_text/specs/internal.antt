@@ -1,4 +1,5 @@
 -- Devices of the proofs. No contract of an exported function cites them.
+pub mod Clear
 pub mod Left
 pub mod Mode
 pub mod Plain

@@ -3,6 +3,7 @@
 ghost use Rattle.std.specs.Prelude.{◌≡◌, ◌<◌, ◌≤◌, ◌+◌, ◌==◌, ℕ, List, [], ◌∷◌, ◌++◌, length, drop, take, slice_range, slice_get, IsTrue, ◌↔◌, ◌≢◌, IfOk, IfSome, IfNone, IfErr, Some};
 ghost use Rattle.sudoers_text.specs.Line.{IsLogicalLineBefore, IsUnfinishedLine, AreLinesOfText};
 ghost use Rattle.sudoers_text.specs.Span.{texts_of_spans, AreContiguousSpans};
+ghost use Rattle.sudoers_text.specs.internal.Clear.{HasNoBackslashFromTo};
 ghost use Rattle.sudoers_text.specs.Fault.{LastLineIsUnfinished, IsFirstFaultOfLines, HasFaultAt, lf_count};
 
 use crate::fault::TextFault;
@@ -48,9 +49,11 @@ pub fn split_into_line_spans(alloc: Global, text: &[u8]) -> Result<UncheckedLine
 {
     let mut spans = Vec::new(alloc);
     let mut start = 0;
+    let mut backslash = 0;
     let mut continues = false;
     while start < text.len() {
-        let end = find_logical_line_end(text, start);
+        backslash = find_backslash_unless_known(text, start, backslash);
+        let end = find_line_end_by_backslash(text, start, backslash);
         spans.push(LineSpan {
             start,
             stop: end.stop,
@@ -111,6 +114,51 @@ fn physical_line_number_at(text: &[u8], at: usize) -> usize
     text[..at].iter().filter(|byte| **byte == b'\n').count() + 1
 }
 
+/// Returns the place of the first backslash from a place on, or the text's end.
+fn find_backslash_from(text: &[u8], start: usize) -> usize
+    requires { start ≤ length text.now }
+    ensures { HasNoBackslashFromTo text.now start result }
+{
+    match memchr(b'\\', &text[start..]) {
+        Some(at) => start + at,
+        None => text.len(),
+    }
+}
+
+/// Returns a place up to which no backslash stands from `start` on: the one that is known, if that lies behind `start`.
+#[inline(always)]
+fn find_backslash_unless_known(text: &[u8], start: usize, known: usize) -> usize
+    requires inside { start ≤ length text.now }
+    requires known { HasNoBackslashFromTo text.now start known }
+    ensures { HasNoBackslashFromTo text.now start result }
+{
+    if start < known {
+        known
+    } else {
+        find_backslash_from(text, start)
+    }
+}
+
+/// Returns the end of the line that begins at a place. No backslash stands from there up to the place `backslash`.
+#[inline(always)]
+fn find_line_end_by_backslash(text: &[u8], start: usize, backslash: usize) -> LogicalLineEnd
+    requires inside { start < length text.now }
+    requires clear { HasNoBackslashFromTo text.now start backslash }
+    ensures later { start < result.stop }
+    ensures inside { result.stop ≤ length text.now }
+    ensures line { IsLogicalLineBefore (slice_range text.now start result.stop) (drop result.stop text.now) }
+    ensures open_text { result.stop ≡ length text.now
+        → (IsTrue result.continues ↔ IsUnfinishedLine (slice_range text.now start result.stop)) }
+{
+    match memchr(b'\n', &text[start..]) {
+        Some(lf) if start + lf < backslash => LogicalLineEnd {
+            stop: start + lf + 1,
+            continues: false,
+        },
+        _ => find_line_end_by_units(text, start),
+    }
+}
+
 /// Returns the end of the line that begins at a place.
 pub fn find_logical_line_end(text: &[u8], start: usize) -> LogicalLineEnd
     requires { start < length text.now }
@@ -131,6 +179,7 @@ pub fn find_logical_line_end(text: &[u8], start: usize) -> LogicalLineEnd
 }
 
 /// Returns the end of the line that begins at a place. It is read unit by unit.
+#[inline(never)]
 fn find_line_end_by_units(text: &[u8], start: usize) -> LogicalLineEnd
     requires { start < length text.now }
     ensures later { start < result.stop }

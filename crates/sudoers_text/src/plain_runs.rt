@@ -6,12 +6,23 @@ ghost use Rattle.sudoers_text.specs.internal.Run.{is_plain_unit_byte, plain_pref
 
 use crate::text_units::{LeftContext, is_blank, is_comma_colon_or_equals, is_sign_before_id};
 
+/// Which bytes are plain.
+static PLAIN_BYTES: [u8; 256] = *b"\
+    11111111110110111111111111111111\
+    11001111111111111111111111111101\
+    11111111111111111111111111110111\
+    11111111111111111111111111111111\
+    11111111111111111111111111111111\
+    11111111111111111111111111111111\
+    11111111111111111111111111111111\
+    11111111111111111111111111111111";
+
 /// Returns whether the byte is a unit of its own, wherever it stands behind a line's beginning, and asks for nothing left of it.
 #[inline(always)]
 fn is_plain_byte(byte: u8) -> bool
     ensures { result ≡ is_plain_unit_byte byte }
 {
-    !matches!(byte, b'\n' | b'\r' | b'\\' | b'"' | b'#' | b'>')
+    PLAIN_BYTES[byte as usize] >= b'1'
 }
 
 /// Returns the plain bytes that begin the text, up to the first that is none.
