@@ -290,6 +290,7 @@ impl TokenWithText<'_> {
 
     /// Returns whether the token is the mark `byte`.
     #[tactic(auto, unfolding(crate::specs::Piece::is_mark_of_byte))]
+    #[inline(always)]
     pub fn is_punct_mark(&self, byte: u8) -> bool
         ensures { result ≡ is_mark_of_byte byte (model_of_token_part self.now) }
     {
@@ -298,6 +299,7 @@ impl TokenWithText<'_> {
 
     /// Returns whether the token is the word `Defaults`.
     #[tactic(auto, unfolding(crate::specs::Piece::is_given_word))]
+    #[inline(always)]
     pub fn is_defaults_word(&self) -> bool
         ensures { result ≡ is_defaults (model_of_token_part self.now) }
     {
@@ -306,6 +308,7 @@ impl TokenWithText<'_> {
 
     /// Returns whether the token is a name that an alias can have.
     #[tactic(auto, unfolding(crate::specs::Piece::is_alias_name))]
+    #[inline(always)]
     pub fn is_alias_name(&self) -> bool
         ensures { result ≡ is_alias_name (model_of_token_part self.now) }
     {
@@ -314,6 +317,7 @@ impl TokenWithText<'_> {
 
     /// Returns the kind of the aliases that a line defines which begins with the token.
     #[tactic(auto, unfolding(crate::specs::Piece::alias_kind_of_token))]
+    #[inline(always)]
     pub fn alias_kind(&self) -> Option<Kind>
         ensures { result ≡ alias_kind_of_token (model_of_token_part self.now) }
     {
@@ -326,6 +330,7 @@ impl TokenWithText<'_> {
 
     /// Returns whether the include that the token begins is of a directory; nothing if it begins no include.
     #[tactic(auto, unfolding(crate::specs::Piece::include_is_dir_of_token))]
+    #[inline(always)]
     pub fn include_is_dir(&self) -> Option<bool>
         ensures { result ≡ include_is_dir_of_token (model_of_token_part self.now) }
     {
@@ -338,6 +343,7 @@ impl TokenWithText<'_> {
 
     /// Returns the option that the token names.
     #[tactic(auto, unfolding(crate::specs::Piece::option_of_token))]
+    #[inline(always)]
     pub fn option_name(&self) -> Option<OptionName>
         ensures { result ≡ option_of_token (model_of_token_part self.now) }
     {
@@ -350,6 +356,7 @@ impl TokenWithText<'_> {
 
     /// Returns the tag that the token is, and whether it stands without `NO`.
     #[tactic(auto, unfolding(crate::specs::Piece::tag_and_sign_of_token))]
+    #[inline(always)]
     pub fn tag_with_sign(&self) -> Option<(Tag, bool)>
         ensures { result ≡ tag_and_sign_of_token (model_of_token_part self.now) }
     {
@@ -362,6 +369,7 @@ impl TokenWithText<'_> {
 
     /// Returns the algorithm that the token names for the digest behind it.
     #[tactic(auto, unfolding(crate::specs::Piece::digest_kind_of_token))]
+    #[inline(always)]
     pub fn digest_kind(&self) -> Option<DigestKind>
         ensures { result ≡ digest_kind_of_token (model_of_token_part self.now) }
     {
@@ -374,6 +382,7 @@ impl TokenWithText<'_> {
 
     /// Returns the operator that the token is.
     #[tactic(auto, unfolding(crate::specs::Piece::operator_of_token))]
+    #[inline(always)]
     pub fn operator(&self) -> Option<Operator>
         ensures { result ≡ operator_of_token (model_of_token_part self.now) }
     {

@@ -43,6 +43,7 @@ fn may_follow_digests(has_digests: bool, atom: AtomRow) -> bool
 }
 
 /// Reads the word of a command behind these digests, if there are any.
+#[inline(always)]
 pub fn read_command_word(
     alloc: Global,
     cursor: &mut TokenCursor<'_>,

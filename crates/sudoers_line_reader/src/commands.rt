@@ -55,6 +55,7 @@ fn replace_command_args(atom: AtomRow, args: ArgsRow) -> AtomRow
 
 /// Reads the arguments of this command, which can have some.
 #[tactic(auto, unfolding(crate::specs::Descent::member_with_arguments_reader))]
+#[inline(never)]
 fn read_arguments_into_member(
     alloc: Global,
     cursor: &mut TokenCursor<'_>,
@@ -90,6 +91,7 @@ fn may_have_arguments(word: CommandStartRow) -> bool
 }
 
 /// Reads the arguments behind the word of a command, if there are any.
+#[inline(always)]
 fn read_optional_arguments_into_member(
     alloc: Global,
     cursor: &mut TokenCursor<'_>,
@@ -111,6 +113,7 @@ fn read_optional_arguments_into_member(
 
 /// Reads a command behind these digests, without its place.
 #[tactic(auto, unfolding(crate::specs::Descent::command_after_digests_reader))]
+#[inline(always)]
 fn read_command_after_digests(
     alloc: Global,
     cursor: &mut TokenCursor<'_>,
@@ -142,6 +145,7 @@ impl RowReader for CommandReader {
     ghost rule = { λ _. command_reader };
 
     #[tactic(auto, unfolding(crate::specs::Descent::command_reader))]
+    #[inline(always)]
     fn read(
         self,
         alloc: Global,

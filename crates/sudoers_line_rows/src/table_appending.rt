@@ -187,13 +187,13 @@ fn store_parsed_atom(
     alloc: Global,
     tables: &mut Tables,
     kind: Kind,
-    part: &TokenWithText<'_>,
+    part: TokenWithText<'_>,
     end: usize,
 ) -> Result<Option<AtomRow>, AllocError>
-    ensures keeps { IfOk result (λ row. OptionalRowMeansForGood atom_in_tables tables.new row (atom_of_token kind (model_of_token_part part.now))) }
+    ensures keeps { IfOk result (λ row. OptionalRowMeansForGood atom_in_tables tables.new row (atom_of_token kind (model_of_token_part part))) }
     ensures grown { TablesHaveGrown tables.old tables.new }
 {
-    match parse_single_token_atom(alloc, kind, part)? {
+    match parse_single_token_atom(alloc, kind, &part)? {
         Some(atom) => Ok(Some(store_atom(tables, end, &atom)?)),
         None => Ok(None),
     }
@@ -201,6 +201,7 @@ fn store_parsed_atom(
 
 /// Keeps what the token is as a member of a list of this kind, if it is one. The token ends before the byte `end` of the table of bytes,
 /// if its line stands there.
+#[inline(always)]
 pub fn store_atom_of_member_token(
     alloc: Global,
     tables: &mut Tables,
@@ -213,7 +214,7 @@ pub fn store_atom_of_member_token(
 {
     match plain_atom_of_token(kind, part) {
         Some(plain) => Ok(Some(store_plain_atom(tables, end, plain, part.text)?)),
-        None => store_parsed_atom(alloc, tables, kind, part, end),
+        None => store_parsed_atom(alloc, tables, kind, *part, end),
     }
 }
 

@@ -14,7 +14,7 @@ ghost use Rattle.sudoers_text.specs.Found.{kind_and_size_of_token};
 use crate::context::TokenContext;
 use crate::part::{ByteRunKind, leading_run_len};
 use crate::text_units::{LeftContext, begins_hash_or_percent};
-use crate::token::TokenKind;
+use crate::token::{Mode, TokenKind};
 use crate::token_finding::{
     TokenKindAndLen, begins_punct, find_comment_or_bad_token, find_quoted_or_comment_token,
 };
@@ -147,6 +147,11 @@ fn find_plain_token(here: TokenContext, bytes: &[u8]) -> TokenAndContextBehind
     ensures found { IsTokenWithContextBehind here result false false bytes.now }
 {
     match here {
+        TokenContext::First(Mode::Commands) => add_context_behind(
+            TokenContext::First(Mode::Commands),
+            find_plain_token_among_words(bytes),
+            bytes,
+        ),
         TokenContext::Words => add_context_behind(
             TokenContext::Words,
             find_plain_token_among_words(bytes),
