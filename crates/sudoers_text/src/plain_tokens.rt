@@ -3,12 +3,13 @@
 ghost use Rattle.std.specs.Prelude.{◌≡◌, ◌≤◌, ◌∷◌, [], take, drop, false, length};
 ghost use Rattle.sudoers_text.specs.declared.part.ByteRunKind.TheVariants as rules;
 ghost use Rattle.sudoers_text.specs.declared.token.TokenKind.TheVariants as kinds;
+ghost use Rattle.sudoers_text.specs.declared.token.Mode.TheVariants as modes;
 ghost use Rattle.sudoers_text.specs.Piece.{Run, QuotedPart, CommentPart};
 ghost use Rattle.sudoers_text.specs.declared.context.TokenContext.TheVariants as context;
 ghost use Rattle.sudoers_text.specs.internal.Left.{has_leading_hash_or_percent};
 ghost use Rattle.sudoers_text.specs.internal.Reached.{DescribesLeftAtOffset};
 ghost use Rattle.sudoers_text.specs.internal.Plain.{IsTokenWithContextBehind, IsTokenOfLineAt};
-ghost use Rattle.sudoers_text.specs.Context.{token_forms_in_word_lists, token_forms_in_command_lists, token_forms_in_context, context_after_token};
+ghost use Rattle.sudoers_text.specs.Context.{token_forms_in_word_lists, token_forms_in_command_lists, forms_of_first_token, token_forms_in_context, context_after_token};
 ghost use Rattle.sudoers_text.specs.Found.{kind_and_size_of_token};
 
 use crate::context::TokenContext;
@@ -60,6 +61,16 @@ fn find_plain_token_among_words(bytes: &[u8]) -> TokenKindAndLen
     } else {
         find_plain_word_or_quoted_token(bytes)
     }
+}
+
+/// Finds the first token of a line that is read as commands.
+#[inline(always)]
+fn find_plain_first_token(bytes: &[u8]) -> TokenKindAndLen
+    requires { has_leading_hash_or_percent bytes.now ≡ false }
+    ensures found { (result.kind, result.len) ≡ kind_and_size_of_token (forms_of_first_token modes.Commands) false false bytes.now }
+    ensures within { result.len ≤ length bytes.now }
+{
+    find_plain_token_among_words(bytes)
 }
 
 /// Finds the token that begins the bytes among commands.
@@ -149,7 +160,7 @@ fn find_plain_token(here: TokenContext, bytes: &[u8]) -> TokenAndContextBehind
     match here {
         TokenContext::First(Mode::Commands) => add_context_behind(
             TokenContext::First(Mode::Commands),
-            find_plain_token_among_words(bytes),
+            find_plain_first_token(bytes),
             bytes,
         ),
         TokenContext::Words => add_context_behind(
