@@ -1,6 +1,6 @@
 //! Readers of rows, and of lists of rows.
 
-ghost use Rattle.std.specs.Prelude.{◌≡◌, ◌∷◌, ◌++◌, [], Bool, OnOk};
+ghost use Rattle.std.specs.Prelude.{◌≡◌, ◌∷◌, [], Bool, IfOk};
 ghost use Rattle.sudoers_grammar.specs.Piece.{TokenWithBytes, is_mark_of_byte};
 ghost use Rattle.sudoers_line_rows.specs.declared.rows.Tables.{Tables as TablesOf};
 ghost use Rattle.sudoers_line_rows.specs.Tables.{TablesHaveGrown, RowMeaningLasts, values_of_row_range};
@@ -11,9 +11,6 @@ use crate::cursor::{ReadResult, TokenCursor};
 use crate::table_rows::TableRow;
 use std::alloc::{AllocError, Global};
 use sudoers_line_rows::{NONE, RowRange, Tables};
-
-/// For how many rows of a list there is room at once.
-const FEW_ROWS: usize = 4;
 
 /// A reader of rows of one kind.
 pub trait RowReader: Copy {
@@ -80,15 +77,23 @@ impl<R: RowReader> LookaheadRowReader for AfterMarkReader<R> {
     }
 }
 
-/// Appends a row to those of a list.
-fn push<T: Drop>(rows: &mut Vec<T>, row: T) -> Result<(), AllocError>
-    ensures { OnOk result (rows.new.items ≡ rows.old.items ++ row ∷ []) }
+/// Returns the range of rows and of those directly behind them. No reader of a row leaves another row of its table before it: where one
+/// did, that would be told as want of memory.
+#[inline(always)]
+fn join_row_ranges(rows: RowRange, behind: RowRange) -> Result<RowRange, AllocError>
+    ensures { IfOk result (λ all. (rows.to ≡ behind.from) × (all.from ≡ rows.from) × (all.to ≡ behind.to)) }
 {
-    rows.push(row)?;
-    Ok(())
+    if rows.to == behind.from {
+        Ok(RowRange {
+            from: rows.from,
+            to: behind.to,
+        })
+    } else {
+        Err(AllocError)
+    }
 }
 
-/// Reads rows while they come, and keeps them behind `first`. Where none comes, no list of rows is made.
+/// Reads rows while they come, and keeps each behind `first`.
 fn read_further_rows<R: LookaheadRowReader>(
     reader: R,
     first: R::Row,
@@ -101,16 +106,13 @@ fn read_further_rows<R: LookaheadRowReader>(
     ensures reads { RowReadsAsOutcome (repetition_reader snoc (R.begins reader) (R.rule reader) (R.said tables.old first ∷ []) cursor.old) (λ t. values_of_row_range (R.Row.table t) (R.said t)) tables.new result cursor.new }
     ensures grown { TablesHaveGrown tables.old tables.new }
 {
-    if !reader.comes(cursor) {
-        return Ok(R::Row::keep_one(tables, first)?);
-    }
-    let mut rows = Vec::with_capacity(alloc, FEW_ROWS)?;
-    push(&mut rows, first)?;
+    let mut rows = R::Row::keep_one(tables, first)?;
     while reader.comes(cursor) {
-        let next = reader.read(alloc, cursor, tables)?;
-        push(&mut rows, next)?;
+        let row = reader.read(alloc, cursor, tables)?;
+        let kept = R::Row::keep_one(tables, row)?;
+        rows = join_row_ranges(rows, kept)?;
     }
-    Ok(R::Row::keep(tables, rows.as_slice())?)
+    Ok(rows)
 }
 
 /// Reads rows while they come, and keeps them.

@@ -7,7 +7,7 @@ ghost use Rattle.sudoers_line_rows.specs.Tables.{TablesHaveGrown, IsExtendedList
 use std::alloc::AllocError;
 use sudoers_line_rows::{
     AliasDefinitionRow, CommandRow, DigestRow, HostGroupRow, MemberRow, OptionRow, ParamRow,
-    RowRange, Tables, TagRow, append_table_rows, convert_offset_to_u32,
+    RowRange, Tables, TagRow, convert_offset_to_u32,
 };
 
 /// Appends a row to a table, and returns where it stands. More than 2^32 rows are want of memory.
@@ -25,11 +25,6 @@ fn push_table_row<T: Copy + Drop>(table: &mut Vec<T>, row: T) -> Result<RowRange
 pub trait TableRow: Copy + Drop {
     ghost table: { TablesOf → List Self };
 
-    /// Appends rows to their table.
-    fn keep(tables: &mut Tables, rows: &[Self]) -> Result<RowRange, AllocError>
-        ensures kept { IfOk result (λ r. (table tables.new ≡ table tables.old ++ rows.now) × IsRowRangeFromTo r (length (table tables.old)) (length (table tables.new))) }
-        ensures grown { TablesHaveGrown tables.old tables.new };
-
     /// Appends a row to its table.
     fn keep_one(tables: &mut Tables, row: Self) -> Result<RowRange, AllocError>
         ensures kept { IfOk result (λ r. (table tables.new ≡ table tables.old ++ row ∷ []) × IsRowRangeFromTo r (length (table tables.old)) (length (table tables.new))) }
@@ -43,10 +38,6 @@ impl TableRow for DigestRow {
 
     ghost grows = { λ t u g. g.digests };
 
-    fn keep(tables: &mut Tables, rows: &[Self]) -> Result<RowRange, AllocError> {
-        append_table_rows(&mut tables.digests, rows)
-    }
-
     fn keep_one(tables: &mut Tables, row: Self) -> Result<RowRange, AllocError> {
         push_table_row(&mut tables.digests, row)
     }
@@ -56,10 +47,6 @@ impl TableRow for MemberRow {
     ghost table = { λ t. t.members.items };
 
     ghost grows = { λ t u g. g.members };
-
-    fn keep(tables: &mut Tables, rows: &[Self]) -> Result<RowRange, AllocError> {
-        append_table_rows(&mut tables.members, rows)
-    }
 
     fn keep_one(tables: &mut Tables, row: Self) -> Result<RowRange, AllocError> {
         push_table_row(&mut tables.members, row)
@@ -71,10 +58,6 @@ impl TableRow for OptionRow {
 
     ghost grows = { λ t u g. g.options };
 
-    fn keep(tables: &mut Tables, rows: &[Self]) -> Result<RowRange, AllocError> {
-        append_table_rows(&mut tables.options, rows)
-    }
-
     fn keep_one(tables: &mut Tables, row: Self) -> Result<RowRange, AllocError> {
         push_table_row(&mut tables.options, row)
     }
@@ -84,10 +67,6 @@ impl TableRow for TagRow {
     ghost table = { λ t. t.tags.items };
 
     ghost grows = { λ t u g. g.tags };
-
-    fn keep(tables: &mut Tables, rows: &[Self]) -> Result<RowRange, AllocError> {
-        append_table_rows(&mut tables.tags, rows)
-    }
 
     fn keep_one(tables: &mut Tables, row: Self) -> Result<RowRange, AllocError> {
         push_table_row(&mut tables.tags, row)
@@ -99,10 +78,6 @@ impl TableRow for CommandRow {
 
     ghost grows = { λ t u g. g.commands };
 
-    fn keep(tables: &mut Tables, rows: &[Self]) -> Result<RowRange, AllocError> {
-        append_table_rows(&mut tables.commands, rows)
-    }
-
     fn keep_one(tables: &mut Tables, row: Self) -> Result<RowRange, AllocError> {
         push_table_row(&mut tables.commands, row)
     }
@@ -112,10 +87,6 @@ impl TableRow for HostGroupRow {
     ghost table = { λ t. t.groups.items };
 
     ghost grows = { λ t u g. g.groups };
-
-    fn keep(tables: &mut Tables, rows: &[Self]) -> Result<RowRange, AllocError> {
-        append_table_rows(&mut tables.groups, rows)
-    }
 
     fn keep_one(tables: &mut Tables, row: Self) -> Result<RowRange, AllocError> {
         push_table_row(&mut tables.groups, row)
@@ -127,10 +98,6 @@ impl TableRow for AliasDefinitionRow {
 
     ghost grows = { λ t u g. g.defs };
 
-    fn keep(tables: &mut Tables, rows: &[Self]) -> Result<RowRange, AllocError> {
-        append_table_rows(&mut tables.defs, rows)
-    }
-
     fn keep_one(tables: &mut Tables, row: Self) -> Result<RowRange, AllocError> {
         push_table_row(&mut tables.defs, row)
     }
@@ -140,10 +107,6 @@ impl TableRow for ParamRow {
     ghost table = { λ t. t.params.items };
 
     ghost grows = { λ t u g. g.params };
-
-    fn keep(tables: &mut Tables, rows: &[Self]) -> Result<RowRange, AllocError> {
-        append_table_rows(&mut tables.params, rows)
-    }
 
     fn keep_one(tables: &mut Tables, row: Self) -> Result<RowRange, AllocError> {
         push_table_row(&mut tables.params, row)

@@ -190,7 +190,7 @@ fn store_parsed_atom(
     part: TokenWithText<'_>,
     end: usize,
 ) -> Result<Option<AtomRow>, AllocError>
-    ensures keeps { IfOk result (λ row. OptionalRowMeansForGood atom_in_tables tables.new row (atom_of_token kind (model_of_token_part part))) }
+    ensures keeps { IfOk result (λ row. OptionalRowMeansForGood atom_in_tables tables.new row (atom_of_token kind (model_of_token_part part.entry))) }
     ensures grown { TablesHaveGrown tables.old tables.new }
 {
     match parse_single_token_atom(alloc, kind, &part)? {
