@@ -2,13 +2,14 @@
 
 ghost use Rattle.std.specs.Prelude.{◌≡◌, IfOk};
 ghost use Rattle.sudoers_grammar.specs.declared.pattern.PatternSpelling.TheVariants as Spelling;
+ghost use Rattle.sudoers_grammar.specs.declared.node.Args.TheVariants as ArgsOf;
 ghost use Rattle.sudoers_grammar.specs.Pattern.{pattern_of_text};
 ghost use Rattle.sudoers_grammar.specs.Atom.{is_argument_of_empty_quotes};
 ghost use Rattle.sudoers_grammar.specs.Arguments.{args_with_one_more};
 
 use crate::items::Items;
 use crate::node::Args;
-use crate::pattern::{PatternSpelling, read_pattern_of_text};
+use crate::pattern::{PatternSpelling, is_own_pattern, read_pattern_of_text};
 use crate::token_text::TokenText;
 use crate::token_with_text::begins_with_byte;
 use std::alloc::{AllocError, Global};
@@ -49,4 +50,15 @@ pub fn append_argument_to_args<'a>(
             pattern.as_slice(),
         )?)),
     }
+}
+
+/// Returns the arguments of a command that has this one. Most are their own pattern.
+#[inline(always)]
+pub fn read_first_argument<'a>(alloc: Global, text: &'a [u8]) -> Result<Args<'a>, AllocError>
+    ensures { IfOk result (λ args. args ≡ args_with_one_more ArgsOf.Any text.now) }
+{
+    if !begins_with_byte(b'"', text) && is_own_pattern(text) {
+        return Ok(Args::Pattern(TokenText::from_slice(text)));
+    }
+    append_argument_to_args(alloc, Args::Any, text)
 }

@@ -24,7 +24,7 @@ pub use atom::{
     may_have_digests, parse_command_without_args, parse_include_path, parse_option_value,
     parse_single_token_atom,
 };
-pub use command_arguments::{ArglessCommand, append_argument_to_args};
+pub use command_arguments::{ArglessCommand, append_argument_to_args, read_first_argument};
 pub use expected_tokens::ExpectedTokens;
 pub use fault::{LineFault, Why};
 pub use fault_cause::find_syntax_fault_cause as cause_of;

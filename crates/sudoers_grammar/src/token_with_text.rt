@@ -22,11 +22,15 @@ pub struct TokenWithText<'a> {
     pub last: bool,
 }
 
-/// Returns whether nothing is left, or a line end comes.
+/// Returns whether nothing is left, or a line end comes. Most bytes are above those of a line end.
+#[inline(always)]
 fn is_empty_or_begins_line_end(rest: &[u8]) -> bool
     ensures { result ≡ begins_line_end_or_nothing rest.now }
 {
-    rest.is_empty() || begins_line_end(rest)
+    match rest {
+        [] => true,
+        [byte, ..] => *byte <= b'\r' && begins_line_end(rest),
+    }
 }
 
 /// Returns a token with its text.

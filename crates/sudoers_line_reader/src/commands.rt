@@ -19,12 +19,13 @@ use crate::digests::read_optional_digests;
 use crate::members::read_negation_signs;
 use crate::row_reader::{RowReader, read_separated_rows};
 use std::alloc::Global;
-use sudoers_grammar::{Args, TokenWithText, append_argument_to_args};
+use sudoers_grammar::{Args, TokenWithText, append_argument_to_args, read_first_argument};
 use sudoers_line_rows::{
     ArgsRow, AtomRow, MemberRow, NONE, RowRange, Tables, convert_offset_to_u32, store_command_args,
 };
 
 /// Reads the arguments behind the first, and returns all of them, and where the last ends.
+#[inline(always)]
 fn add_further_arguments_to_first<'a>(
     alloc: Global,
     cursor: &mut TokenCursor<'a>,
@@ -32,7 +33,7 @@ fn add_further_arguments_to_first<'a>(
 ) -> ReadResult<(Args<'a>, usize)>
     ensures { ReadsAsOutcome (repetition_reader args_and_stop_with_one_more is_argument_token (passing_token_reader is_argument_token) (args_with_one_more Any first.now.text.now, first.now.stop) cursor.old) value_itself result cursor.new }
 {
-    let mut args = append_argument_to_args(alloc, Args::Any, first.text)?;
+    let mut args = read_first_argument(alloc, first.text)?;
     let mut stop = first.stop;
     while cursor.is_at_argument() {
         let part = cursor.expect_argument()?;
