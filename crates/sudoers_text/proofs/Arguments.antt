@@ -5,7 +5,7 @@ use Rattle.std.proofs.lemmas.List.{length-drop, length-take-le, take-append-drop
 use Rattle.std.proofs.lemmas.Bool.{eqb-true}
 use Rattle.std.proofs.lemmas.Bool.Decides.{nat_tests}
 use Rattle.sudoers_text.specs.declared.part.ByteRunKind.TheVariants as rule
-use Rattle.sudoers_text.specs.Part.{run_unit_size, reach_of_units, leading_run_size, quotes_and_run_between_size, closed_quote_size, argument_unit_size, argument_units_size, quoted_front_to_inner_separator_size}
+use Rattle.sudoers_text.specs.Part.{run_unit_size, reach_of_units, leading_run_size, quotes_and_run_between_size, closed_quote_size, argument_unit_size, argument_units_size, is_whole_argument, has_given_first_byte, quoted_front_to_inner_separator_size}
 use Rattle.sudoers_text.specs.Piece.{is_argument_of_size}
 use Rattle.sudoers_text.specs.Found.{argument_size}
 use Rattle.sudoers_text.proofs.Units.{true_conjunction_has_two_true_parts}
@@ -115,6 +115,25 @@ pub record IsArgumentSizeLongest (bytes : List ℕ) : Type 0 where
 argument_units_size_keeps_in_own_prefix : (bytes : List ℕ) → argument_units_size (take (argument_units_size bytes) bytes) ≡ argument_units_size bytes
 unfolding argument_units_size
 argument_units_size_keeps_in_own_prefix bytes = reach_of_own_prefix_is_same argument_unit_size argument_unit_size_is_steady 0 bytes (omega arith)
+
+front_without_quote_is_none : (rest : List ℕ) → has_given_first_byte 34 rest ≡ false → quoted_front_to_inner_separator_size rest ≡ 0
+unfolding quoted_front_to_inner_separator_size quotes_and_run_between_size
+front_without_quote_is_none [] h = refl
+front_without_quote_is_none (b ∷ rest) h = rw h refl
+
+-- an argument of units alone
+pub record IsUnbrokenArgument (bytes : List ℕ) : Type 0 where
+  pub size : argument_size bytes ≡ argument_units_size bytes
+  pub whole : is_whole_argument (take (argument_units_size bytes) bytes) ≡ true
+
+pub units_before_no_quote_are_unbroken : (bytes : List ℕ) → has_given_first_byte 34 (drop (argument_units_size bytes) bytes) ≡ false → IsUnbrokenArgument bytes
+unfolding argument_size
+units_before_no_quote_are_unbroken bytes h =
+    let n = argument_units_size bytes in
+    record {
+      size = omega (arith, front_without_quote_is_none (drop n bytes) h);
+      whole = equal_numbers_pass_equality_test (argument_units_size (take n bytes)) (length (take n bytes)) (argument_units_size_keeps_in_own_prefix bytes ∙ sym (length-take-le n bytes (argument_units_size_is_within_bytes bytes)));
+    }
 
 units_with_broken_quote_are_argument : (bytes : List ℕ) (k : ℕ) → quoted_front_to_inner_separator_size (drop (argument_units_size bytes) bytes) ≡ k → is_argument_of_size bytes (argument_units_size bytes + k) ≡ true
 units_with_broken_quote_are_argument bytes zero e =

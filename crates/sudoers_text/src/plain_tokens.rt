@@ -1,6 +1,8 @@
 //! The token with which bytes begin, where neither `#` nor `%` does: it does not ask for what stands left of it.
 
-ghost use Rattle.std.specs.Prelude.{◌≡◌, ◌≤◌, ◌∷◌, [], take, drop, false, length};
+ghost use Rattle.std.specs.Prelude.{◌≡◌, ◌≤◌, ◌∷◌, [], take, drop, true, false, length, nat_lt};
+ghost use Rattle.sudoers_text.specs.Unit.{is_comma_colon_or_equals};
+ghost use Rattle.sudoers_text.specs.Part.{size_of_one_matching_byte};
 ghost use Rattle.sudoers_text.specs.declared.part.ByteRunKind.TheVariants as rules;
 ghost use Rattle.sudoers_text.specs.declared.token.TokenKind.TheVariants as kinds;
 ghost use Rattle.sudoers_text.specs.declared.token.Mode.TheVariants as modes;
@@ -13,13 +15,11 @@ ghost use Rattle.sudoers_text.specs.Context.{token_forms_in_word_lists, token_fo
 ghost use Rattle.sudoers_text.specs.Found.{kind_and_size_of_token};
 
 use crate::context::TokenContext;
-use crate::part::{ByteRunKind, leading_run_len};
+use crate::part::{ByteRunKind, argument_units_len, begins_with_given_byte, leading_run_len};
 use crate::text_units::{LeftContext, begins_hash_or_percent};
 use crate::token::{Mode, TokenKind};
-use crate::token_finding::{
-    TokenKindAndLen, begins_punct, find_comment_or_bad_token, find_quoted_or_comment_token,
-};
-use crate::token_lengths::{argument_len, begins_comma_colon_or_equals, command_path_len};
+use crate::token_finding::{TokenKindAndLen, begins_punct, find_quoted_or_comment_token};
+use crate::token_lengths::{begins_comma_colon_or_equals, command_path_len};
 use crate::tokenizing::LeftContextAtOffset;
 
 /// What stands left of a token that does not ask for it: any answer would do.
@@ -91,29 +91,6 @@ fn find_plain_token_among_commands(bytes: &[u8]) -> TokenKindAndLen
     }
 }
 
-/// Finds the token that begins the bytes among arguments.
-#[inline(always)]
-fn find_plain_token_among_arguments(bytes: &[u8]) -> TokenKindAndLen
-    ensures found { (result.kind, result.len) ≡ kind_and_size_of_token (token_forms_in_context context.Arguments) false false bytes.now }
-    ensures within { result.len ≤ length bytes.now }
-{
-    if begins_comma_colon_or_equals(bytes) {
-        return TokenKindAndLen {
-            kind: TokenKind::Punct,
-            len: 1,
-        };
-    }
-    let len = argument_len(bytes);
-    if len > 0 {
-        TokenKindAndLen {
-            kind: TokenKind::Arg,
-            len,
-        }
-    } else {
-        find_comment_or_bad_token(UNASKED, bytes)
-    }
-}
-
 /// A token, and what may stand behind it.
 #[derive(Clone, Copy)]
 pub struct TokenAndContextBehind {
@@ -148,6 +125,51 @@ fn find_other_plain_token(here: TokenContext, bytes: &[u8]) -> TokenAndContextBe
     ensures found { IsTokenWithContextBehind here result false false bytes.now }
 {
     add_context_behind(here, here.find_token_in_context(UNASKED, bytes), bytes)
+}
+
+/// Finds one of `,`, `:` and `=` among arguments.
+#[inline(always)]
+fn find_mark_among_arguments(bytes: &[u8]) -> TokenAndContextBehind
+    requires { nat_lt 0 (size_of_one_matching_byte is_comma_colon_or_equals bytes.now) ≡ true }
+    ensures found { IsTokenWithContextBehind context.Arguments result false false bytes.now }
+{
+    let mark = TokenKindAndLen {
+        kind: TokenKind::Punct,
+        len: 1,
+    };
+    add_context_behind(TokenContext::Arguments, mark, bytes)
+}
+
+/// Finds an argument, or what else may stand there. Most are units alone, with no quote behind them.
+#[inline(always)]
+fn find_plain_argument(bytes: &[u8]) -> TokenAndContextBehind
+    requires { nat_lt 0 (size_of_one_matching_byte is_comma_colon_or_equals bytes.now) ≡ false }
+    ensures found { IsTokenWithContextBehind context.Arguments result false false bytes.now }
+{
+    let len = argument_units_len(bytes);
+    if len == 0 {
+        return find_other_plain_token(TokenContext::Arguments, bytes);
+    }
+    if begins_with_given_byte(b'"', &bytes[len..]) {
+        return find_other_plain_token(TokenContext::Arguments, bytes);
+    }
+    TokenAndContextBehind {
+        kind: TokenKind::Arg,
+        len,
+        behind: TokenContext::Arguments,
+    }
+}
+
+/// Finds the token that begins the bytes among arguments.
+#[inline(always)]
+fn find_plain_token_among_arguments(bytes: &[u8]) -> TokenAndContextBehind
+    ensures found { IsTokenWithContextBehind context.Arguments result false false bytes.now }
+{
+    if begins_comma_colon_or_equals(bytes) {
+        find_mark_among_arguments(bytes)
+    } else {
+        find_plain_argument(bytes)
+    }
 }
 
 /// Finds the token with which the bytes begin, where this may stand there. Lists of words and commands come first, as most tokens stand
@@ -188,11 +210,7 @@ fn find_plain_token(here: TokenContext, bytes: &[u8]) -> TokenAndContextBehind
             find_plain_token_among_commands(bytes),
             bytes,
         ),
-        TokenContext::Arguments => add_context_behind(
-            TokenContext::Arguments,
-            find_plain_token_among_arguments(bytes),
-            bytes,
-        ),
+        TokenContext::Arguments => find_plain_token_among_arguments(bytes),
         _ => find_other_plain_token(here, bytes),
     }
 }

@@ -40,7 +40,7 @@ fn make_bad_token(bytes: &[u8]) -> TokenKindAndLen
 }
 
 /// Finds a token where only a comment may stand.
-pub fn find_comment_or_bad_token(left: LeftContext, bytes: &[u8]) -> TokenKindAndLen
+fn find_comment_or_bad_token(left: LeftContext, bytes: &[u8]) -> TokenKindAndLen
     ensures found { (result.kind, result.len) ≡ kind_and_size_of_token (CommentPart ∷ []) left.item (left.begun == 0) bytes.now }
     ensures within { result.len ≤ length bytes.now }
 {

@@ -2,7 +2,7 @@ use Rattle.std.proofs.Common.{Option, Some, option_map, not, rules, sym, ap, ◌
 use Rattle.sudoers_grammar.specs.Node.{Member}
 use Rattle.sudoers_grammar.specs.declared.command_arguments.ArglessCommand.{ArglessCommand}
 use Rattle.sudoers_grammar.specs.Seen.{model_of_token_part}
-use Rattle.sudoers_grammar.specs.Atom.{command_atom_without_args}
+use Rattle.sudoers_grammar.specs.Atom.{atom_of_token, command_atom_without_args}
 use Rattle.sudoers_line_reader.specs.Descent.{command_start_of_token}
 use Rattle.sudoers_line_rows.specs.Tables.{atom_in_tables, digests_of_range_in_tables}
 use Rattle.sudoers_line_rows.proofs.Growth.{absent_row_means_none, given_row_means_its_view, meaning_of_given_row_lasts}
@@ -11,27 +11,30 @@ use Rattle.sudoers_line_reader.proofs.WordRows.{token_without_atom_is_no_command
 use Rattle.sudoers_line_reader.proofs.command_words.read_command_word.Goals as goal
 
 pub returns-in_default-2-clause-reads : goal.returns-in_default-2-clause-reads
+unfolding atom_of_token
 returns-in_default-2-clause-reads c =
     let t = model_of_token_part c.in-Some.part in
     let ds = digests_of_range_in_tables c.args.tables.now c.args.digests in
     first_token_without_meaning_is_halted_at (command_start_of_token c.args.negated ds) c.args.cursor.now t (ap (option_map model_of_token_part) (sym c.in-Some.is) ∙ c.peek.ensures)
-    (token_without_atom_is_no_command_start c.args.negated ds t (absent_row_means_none atom_in_tables c.store_command_without_args.new.tables c.in_ok-atom.field-0 (command_atom_without_args t.kind t.text) c.in_ok-atom.ensures.keeps c.in_default-2.is))
+    (token_without_atom_is_no_command_start c.args.negated ds t (absent_row_means_none atom_in_tables c.store_atom_of_member_token.new.tables c.in_ok-atom.field-0 (command_atom_without_args t.kind t.text) c.in_ok-atom.ensures.keeps c.in_default-2.is))
 
 pub returns-then-not-may_follow_digests-clause-reads : goal.returns-then-not-may_follow_digests-clause-reads
+unfolding atom_of_token
 returns-then-not-may_follow_digests-clause-reads c =
     let t = model_of_token_part c.in-Some.part in
     let ds = digests_of_range_in_tables c.args.tables.now c.args.digests in
-    let new = c.store_command_without_args.new.tables in
+    let new = c.store_atom_of_member_token.new.tables in
     first_token_without_meaning_is_halted_at (command_start_of_token c.args.negated ds) c.args.cursor.now t (ap (option_map model_of_token_part) (sym c.in-Some.is) ∙ c.peek.ensures)
     (command_not_allowing_digests_is_refused c.args.negated ds t (atom_in_tables new c.in-Some-2.atom)
     (given_row_means_its_view atom_in_tables new c.in_ok-atom.field-0 (command_atom_without_args t.kind t.text) c.in-Some-2.atom c.in_ok-atom.ensures.keeps c.in-Some-2.is)
     (sym (c.may_follow_digests.ensures new ds c.requires.tells) ∙ search rules))
 
 pub returns-clause-reads : goal.returns-clause-reads
+unfolding atom_of_token
 returns-clause-reads c =
     let t = model_of_token_part c.in-Some.part in
     let ds = digests_of_range_in_tables c.args.tables.now c.args.digests in
-    let new = c.store_command_without_args.new.tables in
+    let new = c.store_atom_of_member_token.new.tables in
     let atom = c.in-Some-2.atom in
     let grown = c.in_ok-atom.ensures.grown in (
       first_token_with_meaning_is_read (command_start_of_token c.args.negated ds) c.args.cursor.now c.pass_next_token.new.self t _ (ap (option_map model_of_token_part) (sym c.in-Some.is) ∙ c.peek.ensures)
