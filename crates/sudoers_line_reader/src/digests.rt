@@ -54,6 +54,7 @@ pub fn read_digest_list(
 
 /// Reads the digests before a command, if any.
 #[tactic(auto, unfolding(crate::specs::Descent::optional_digests_reader))]
+#[inline(always)]
 pub fn read_optional_digests(
     alloc: Global,
     cursor: &mut TokenCursor<'_>,

@@ -1,6 +1,9 @@
 //! What may stand at a place of a line, by the tokens before it.
 
-ghost use Rattle.std.specs.Prelude.{◌≡◌, ◌≤◌, List, length};
+ghost use Rattle.std.specs.Prelude.{◌≡◌, ◌≤◌, ◌&&◌, List, length, if◌then◌else◌};
+ghost use Rattle.sudoers_text.specs.Word.{is_among, include_words};
+ghost use Rattle.sudoers_text.specs.declared.context.TokenContext.TheVariants as context;
+ghost use Rattle.sudoers_text.specs.declared.token.Mode.TheVariants as modes;
 ghost use Rattle.sudoers_text.specs.Unit.{LineUnit};
 ghost use Rattle.sudoers_text.specs.internal.Left.{LeftAgreesWithUnits};
 ghost use Rattle.sudoers_text.specs.Context.{is_scope_sign, is_parameter_mark, token_forms_in_word_lists, token_forms_in_command_lists, token_forms_of_parameters, forms_of_first_token, token_forms_in_scope, token_forms_in_context, is_given_punct_token, is_word_kind, context_after_command_mark, context_after_command_word, context_after_command_token, context_after_option_value, context_after_argument, context_after_quoted_argument, context_after_parameter_token, is_kind_of_list_member, context_after_include_path, context_after_first_token, context_after_token};
@@ -95,7 +98,7 @@ fn find_context_after_command_word(text: &[u8]) -> TokenContext
 
 /// Returns what may stand after a token in the place of a command.
 #[inline(always)]
-fn find_context_after_command_token(
+pub fn find_context_after_command_token(
     colon: TokenContext,
     equals: TokenContext,
     kind: TokenKind,
@@ -204,6 +207,42 @@ fn find_context_after_first_token(
                 || begins_with_given_byte(b'!', rest) => { TokenContext::ScopeSign }
         (Mode::Parameters, TokenKind::Word) => TokenContext::Parameter,
         (Mode::Parameters, _) => find_context_after_parameter(kind, text),
+    }
+}
+
+/// Returns what may stand after a token of a list of hosts before the `=`.
+#[inline(always)]
+pub fn find_context_in_hosts(kind: TokenKind, text: &[u8]) -> TokenContext
+    ensures { result ≡ (if is_given_punct_token 61 kind text.now then context.Commands else context.Hosts) }
+{
+    if is_token_of_mark(b'=', kind, text) {
+        TokenContext::Commands
+    } else {
+        TokenContext::Hosts
+    }
+}
+
+/// Returns what may stand after the first token of a line that is read as commands.
+#[inline(always)]
+pub fn find_context_after_first_of_commands(kind: TokenKind, text: &[u8]) -> TokenContext
+    ensures { result ≡ (if is_word_kind kind && is_among include_words text.now then context.IncludePath modes.Commands
+        else (if is_given_punct_token 61 kind text.now then context.Commands else context.Hosts)) }
+{
+    match kind {
+        TokenKind::Word if is_include_word(text) => TokenContext::IncludePath(Mode::Commands),
+        _ => find_context_in_hosts(kind, text),
+    }
+}
+
+/// Returns what may stand after a token in parentheses.
+#[inline(always)]
+pub fn find_context_in_parentheses(kind: TokenKind, text: &[u8]) -> TokenContext
+    ensures { result ≡ (if is_given_punct_token 41 kind text.now then context.Commands else context.Parentheses) }
+{
+    if is_token_of_mark(b')', kind, text) {
+        TokenContext::Commands
+    } else {
+        TokenContext::Parentheses
     }
 }
 

@@ -14,7 +14,10 @@ ghost use Rattle.sudoers_text.specs.internal.Plain.{IsTokenWithContextBehind, Is
 ghost use Rattle.sudoers_text.specs.Context.{token_forms_in_word_lists, token_forms_in_command_lists, forms_of_first_token, token_forms_in_context, context_after_token};
 ghost use Rattle.sudoers_text.specs.Found.{kind_and_size_of_token};
 
-use crate::context::TokenContext;
+use crate::context::{
+    TokenContext, find_context_after_command_token, find_context_after_first_of_commands,
+    find_context_in_hosts, find_context_in_parentheses,
+};
 use crate::part::{ByteRunKind, argument_units_len, begins_with_given_byte, leading_run_len};
 use crate::text_units::{LeftContext, begins_hash_or_percent};
 use crate::token::{Mode, TokenKind};
@@ -172,6 +175,100 @@ fn find_plain_token_among_arguments(bytes: &[u8]) -> TokenAndContextBehind
     }
 }
 
+/// Finds the first token of a line that is read as commands.
+#[inline(always)]
+fn find_plain_first_of_commands(bytes: &[u8]) -> TokenAndContextBehind
+    requires { has_leading_hash_or_percent bytes.now ≡ false }
+    ensures found { IsTokenWithContextBehind (context.First modes.Commands) result false false bytes.now }
+{
+    let token = find_plain_first_token(bytes);
+    TokenAndContextBehind {
+        kind: token.kind,
+        len: token.len,
+        behind: find_context_after_first_of_commands(token.kind, &bytes[..token.len]),
+    }
+}
+
+/// Finds the token that begins the bytes in a line of words.
+#[inline(always)]
+fn find_plain_token_in_words(bytes: &[u8]) -> TokenAndContextBehind
+    requires { has_leading_hash_or_percent bytes.now ≡ false }
+    ensures found { IsTokenWithContextBehind context.Words result false false bytes.now }
+{
+    let token = find_plain_token_among_words(bytes);
+    TokenAndContextBehind {
+        kind: token.kind,
+        len: token.len,
+        behind: TokenContext::Words,
+    }
+}
+
+/// Finds the token that begins the bytes in a list of hosts before the `=`.
+#[inline(always)]
+fn find_plain_token_in_hosts(bytes: &[u8]) -> TokenAndContextBehind
+    requires { has_leading_hash_or_percent bytes.now ≡ false }
+    ensures found { IsTokenWithContextBehind context.Hosts result false false bytes.now }
+{
+    let token = find_plain_token_among_words(bytes);
+    TokenAndContextBehind {
+        kind: token.kind,
+        len: token.len,
+        behind: find_context_in_hosts(token.kind, &bytes[..token.len]),
+    }
+}
+
+/// Finds the token that begins the bytes in parentheses.
+#[inline(always)]
+fn find_plain_token_in_parentheses(bytes: &[u8]) -> TokenAndContextBehind
+    requires { has_leading_hash_or_percent bytes.now ≡ false }
+    ensures found { IsTokenWithContextBehind context.Parentheses result false false bytes.now }
+{
+    let token = find_plain_token_among_words(bytes);
+    TokenAndContextBehind {
+        kind: token.kind,
+        len: token.len,
+        behind: find_context_in_parentheses(token.kind, &bytes[..token.len]),
+    }
+}
+
+/// Finds the token that begins the bytes in a list of commands.
+#[inline(always)]
+fn find_plain_token_in_commands(bytes: &[u8]) -> TokenAndContextBehind
+    requires { has_leading_hash_or_percent bytes.now ≡ false }
+    ensures found { IsTokenWithContextBehind context.Commands result false false bytes.now }
+{
+    let token = find_plain_token_among_commands(bytes);
+    TokenAndContextBehind {
+        kind: token.kind,
+        len: token.len,
+        behind: find_context_after_command_token(
+            TokenContext::Hosts,
+            TokenContext::Commands,
+            token.kind,
+            &bytes[..token.len],
+        ),
+    }
+}
+
+/// Finds the token that begins the bytes directly behind a tag.
+#[inline(always)]
+fn find_plain_token_behind_tag(bytes: &[u8]) -> TokenAndContextBehind
+    requires { has_leading_hash_or_percent bytes.now ≡ false }
+    ensures found { IsTokenWithContextBehind context.BehindTag result false false bytes.now }
+{
+    let token = find_plain_token_among_commands(bytes);
+    TokenAndContextBehind {
+        kind: token.kind,
+        len: token.len,
+        behind: find_context_after_command_token(
+            TokenContext::Commands,
+            TokenContext::Commands,
+            token.kind,
+            &bytes[..token.len],
+        ),
+    }
+}
+
 /// Finds the token with which the bytes begin, where this may stand there. Lists of words and commands come first, as most tokens stand
 /// in these.
 #[inline(always)]
@@ -180,36 +277,12 @@ fn find_plain_token(here: TokenContext, bytes: &[u8]) -> TokenAndContextBehind
     ensures found { IsTokenWithContextBehind here result false false bytes.now }
 {
     match here {
-        TokenContext::First(Mode::Commands) => add_context_behind(
-            TokenContext::First(Mode::Commands),
-            find_plain_first_token(bytes),
-            bytes,
-        ),
-        TokenContext::Words => add_context_behind(
-            TokenContext::Words,
-            find_plain_token_among_words(bytes),
-            bytes,
-        ),
-        TokenContext::Hosts => add_context_behind(
-            TokenContext::Hosts,
-            find_plain_token_among_words(bytes),
-            bytes,
-        ),
-        TokenContext::Parentheses => add_context_behind(
-            TokenContext::Parentheses,
-            find_plain_token_among_words(bytes),
-            bytes,
-        ),
-        TokenContext::Commands => add_context_behind(
-            TokenContext::Commands,
-            find_plain_token_among_commands(bytes),
-            bytes,
-        ),
-        TokenContext::BehindTag => add_context_behind(
-            TokenContext::BehindTag,
-            find_plain_token_among_commands(bytes),
-            bytes,
-        ),
+        TokenContext::First(Mode::Commands) => find_plain_first_of_commands(bytes),
+        TokenContext::Words => find_plain_token_in_words(bytes),
+        TokenContext::Hosts => find_plain_token_in_hosts(bytes),
+        TokenContext::Parentheses => find_plain_token_in_parentheses(bytes),
+        TokenContext::Commands => find_plain_token_in_commands(bytes),
+        TokenContext::BehindTag => find_plain_token_behind_tag(bytes),
         TokenContext::Arguments => find_plain_token_among_arguments(bytes),
         _ => find_other_plain_token(here, bytes),
     }
