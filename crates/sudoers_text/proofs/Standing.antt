@@ -1,21 +1,19 @@
 -- Which tokens are left of a line, from a place on.
-use Rattle.std.proofs.Common.{◌≡◌, ℕ, ◌+◌, ◌-◌, ◌≤◌, ◌<◌, true, false, List, [], ◌∷◌, length, take, drop, sym, ap, subst, ◌∙◌, arith}
-use Rattle.std.specs.Prelude.{◌==◌, slice_range, slice_get, Some, None}
-use Rattle.std.proofs.lemmas.List.{length-drop, drop-drop}
+use Rattle.std.proofs.Common.{◌≡◌, ℕ, ◌+◌, ◌≤◌, ◌<◌, true, false, List, [], ◌∷◌, length, take, drop, sym, ap, subst, ◌∙◌, arith}
+use Rattle.std.specs.Prelude.{slice_get, Some, None}
+use Rattle.std.proofs.lemmas.List.{length-drop}
 use Rattle.sudoers_text.specs.declared.part.ByteRunKind.TheVariants as rule
-use Rattle.sudoers_text.specs.declared.text_units.LeftContext.{LeftContext}
 use Rattle.sudoers_text.specs.declared.token.TokenKind.{TokenKind}
 use Rattle.sudoers_text.specs.declared.token.Token.{Token}
 use Rattle.sudoers_text.specs.declared.token.Mode.{Mode}
 use Rattle.sudoers_text.specs.declared.context.TokenContext.{TokenContext}
-use Rattle.sudoers_text.specs.Piece.{TokenForm}
 use Rattle.sudoers_text.specs.Context.{token_forms_in_context, context_after_token}
 use Rattle.sudoers_text.specs.Token.{units_left_of_place, next_token_start, is_line_end_or_empty, AreTokensFrom, HasTokens}
-use Rattle.sudoers_text.specs.Found.{kind_and_size_of_token, kind_and_size_after_units, tokens_from_offset, tokens_of_line}
+use Rattle.sudoers_text.specs.Found.{tokens_from_offset, tokens_of_line}
 use Rattle.sudoers_text.specs.LeftTokens.{LeftTokens}
 use Rattle.sudoers_text.specs.declared.plain_tokens.TokenAndContextBehind.{TokenAndContextBehind}
 use Rattle.sudoers_text.specs.internal.Plain.{IsTokenOfLineAt}
-use Rattle.sudoers_text.proofs.Reach.{leading_run_size_is_within_bytes, slice_from_count_to_end_is_drop}
+use Rattle.sudoers_text.proofs.Reach.{leading_run_size_is_within_bytes}
 use Rattle.sudoers_text.proofs.TokenLists.{found_token_has_positive_size, found_token_before_tokens_is_token_list, tokens_from_offset_are_tokens_of_line, tokens_from_place_are_unique, computed_tokens_are_tokens_of_line}
 
 -- the tokens that are left of the line from this place on

@@ -1,4 +1,4 @@
-use Rattle.std.proofs.Common.{◌+◌, ◌-◌, ◌<◌, ℕ, length, ap, arith}
+use Rattle.std.proofs.Common.{◌+◌, length, ap, arith}
 use Rattle.std.proofs.lemmas.List.{take_rest, length-drop}
 use Rattle.sudoers_text.proofs.FirstLf.{clear_rest_has_no_backslash}
 use Rattle.sudoers_text.proofs.cutting.find_backslash_from.Goals as goal

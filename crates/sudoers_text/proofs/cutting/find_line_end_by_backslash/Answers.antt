@@ -1,4 +1,4 @@
-use Rattle.std.proofs.Common.{◌+◌, ◌-◌, List, ℕ, length, take, drop, ap, arith}
+use Rattle.std.proofs.Common.{◌+◌, List, ℕ, length, ap, arith}
 use Rattle.std.proofs.lemmas.List.{take_rest, length-drop}
 use Rattle.sudoers_text.proofs.FirstLf.{IsClosedLineFromStartToStop, first_lf_before_backslash_ends_line}
 use Rattle.sudoers_text.proofs.cutting.find_line_end_by_backslash.Goals as goal
