@@ -1,6 +1,6 @@
 //! Members of lists whose token is their text, as most are: neither escapes nor signs stand in it.
 
-ghost use Rattle.std.specs.Prelude.{◌≡◌, IfSome, Some, true, Bool, List, ℕ, not};
+ghost use Rattle.std.specs.Prelude.{◌≡◌, IfSome, Some};
 ghost use Rattle.sudoers_grammar.specs.Atom.{user_atom_of_word, host_atom_of_token, command_atom_without_args, command_atom_of_word, atom_of_token};
 ghost use Rattle.sudoers_grammar.specs.Plain.{atom_of_plain, has_first_byte_of_plain_name, has_first_byte_of_plain_host};
 ghost use Rattle.sudoers_grammar.specs.Seen.{model_of_token_part};

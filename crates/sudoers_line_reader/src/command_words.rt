@@ -1,13 +1,13 @@
 //! The word of a command.
 
-ghost use Rattle.std.specs.Prelude.{◌≡◌, List, IfOk};
+ghost use Rattle.std.specs.Prelude.{◌≡◌, List};
 ghost use Rattle.sudoers_grammar.specs.Node.{Digest as DigestOf};
-ghost use Rattle.sudoers_grammar.specs.Atom.{command_atom_without_args, is_command_allowing_digests};
+ghost use Rattle.sudoers_grammar.specs.Atom.{is_command_allowing_digests};
 ghost use Rattle.sudoers_grammar.specs.Arguments.{has_digests_only_if_allowed};
 ghost use Rattle.sudoers_line_rows.specs.declared.rows.Tables.{Tables as TablesOf};
 ghost use Rattle.sudoers_line_reader.specs.Reader.{one_token_reader};
 ghost use Rattle.sudoers_line_reader.specs.Descent.{command_start_of_token};
-ghost use Rattle.sudoers_line_rows.specs.Tables.{TablesHaveGrown, OptionalRowMeansForGood, RowMeaningLasts, atom_in_tables, digests_of_range_in_tables};
+ghost use Rattle.sudoers_line_rows.specs.Tables.{TablesHaveGrown, RowMeaningLasts, atom_in_tables, digests_of_range_in_tables};
 ghost use Rattle.sudoers_line_reader.specs.internal.Answer.{RowReadsAsOutcome, ReportsDigestPresence, command_start_of_word_row};
 
 use crate::cursor::{HaltCause, ReadResult, TokenCursor};
