@@ -10,6 +10,7 @@ mod fault;
 mod fault_cause;
 mod items;
 pub mod laws;
+mod marks;
 mod node;
 mod numbers_and_addresses;
 mod owned_atom;

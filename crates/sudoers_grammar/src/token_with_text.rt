@@ -4,10 +4,11 @@ ghost use Rattle.std.specs.Prelude.{◌≡◌, ◌==◌, if◌then◌else◌, na
 ghost use Rattle.std.specs.List.{starts_with};
 ghost use Rattle.sudoers_text.specs.Word.{is_name};
 ghost use Rattle.sudoers_text.specs.Token.{IsTokenWithinLine};
-ghost use Rattle.sudoers_grammar.specs.Piece.{TokenWithBytes, token_with_bytes, begins_line_end_or_nothing, is_punct, is_word, is_quoted, is_arg, is_digest, is_parameter_name_kind, is_value, is_comment, is_bad, is_mark_of_byte, is_given_word, is_alias_name, alias_kinds_by_keyword, alias_kind_of_token, include_is_dir_by_word, include_is_dir_of_token, options_by_name, option_of_token, tags_by_word, tag_and_sign_of_word, tag_and_sign_of_token, digest_kinds_by_word, digest_kind_of_token, operators_by_mark, operator_of_token, scope_kinds_by_sign, scope_kind_of_sign_token_after, value_of_matching_row, meaning_of_token_word, has_first_byte, has_last_byte, has_byte};
+ghost use Rattle.sudoers_grammar.specs.Piece.{TokenWithBytes, token_with_bytes, begins_line_end_or_nothing, is_punct, is_word, is_quoted, is_arg, is_digest, is_parameter_name_kind, is_value, is_comment, is_bad, is_mark_of_byte, is_given_word, is_alias_name, alias_kinds_by_keyword, alias_kind_of_token, include_is_dir_by_word, include_is_dir_of_token, options_by_name, option_of_token, tags_by_word, tag_and_sign_of_word, tag_and_sign_of_token, digest_kinds_by_word, digest_kind_of_token, operator_of_token, scope_kind_of_sign_token_after, value_of_matching_row, meaning_of_token_word, has_first_byte, has_last_byte, has_byte};
 ghost use Rattle.sudoers_grammar.specs.Grammar.{is_defaults};
 ghost use Rattle.sudoers_grammar.specs.Seen.{model_of_token_part};
 
+use crate::marks::{list_kind_of_scope_sign, operator_of_mark};
 use crate::node::{DigestKind, Kind, Operator, OptionName, Tag};
 use sudoers_text::{Token, TokenKind, begins_line_end, is_name};
 
@@ -191,38 +192,6 @@ fn digest_kind_of_word(word: &[u8]) -> Option<DigestKind>
         Some(DigestKind::Sha384)
     } else if word == b"sha512".as_slice() {
         Some(DigestKind::Sha512)
-    } else {
-        None
-    }
-}
-
-/// Returns the operator that a mark is.
-fn operator_of_mark(mark: &[u8]) -> Option<Operator>
-    ensures { result ≡ value_of_matching_row operators_by_mark mark.now }
-{
-    if mark == b"=".as_slice() {
-        Some(Operator::Set)
-    } else if mark == b"+=".as_slice() {
-        Some(Operator::Add)
-    } else if mark == b"-=".as_slice() {
-        Some(Operator::Remove)
-    } else {
-        None
-    }
-}
-
-/// Returns what a scope with this sign is a list of.
-fn list_kind_of_scope_sign(sign: &[u8]) -> Option<Kind>
-    ensures { result ≡ value_of_matching_row scope_kinds_by_sign sign.now }
-{
-    if sign == b"@".as_slice() {
-        Some(Kind::Host)
-    } else if sign == b":".as_slice() {
-        Some(Kind::User)
-    } else if sign == b"!".as_slice() {
-        Some(Kind::Cmnd)
-    } else if sign == b">".as_slice() {
-        Some(Kind::Runas)
     } else {
         None
     }

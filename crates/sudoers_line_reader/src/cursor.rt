@@ -4,17 +4,17 @@ ghost use Rattle.std.specs.Prelude.{◌≡◌, Bool, Option, drop, map, not, opt
 ghost use Rattle.sudoers_grammar.specs.Seen.{model_of_token_part};
 ghost use Rattle.sudoers_text.specs.LineMode.{line_mode};
 ghost use Rattle.sudoers_text.specs.Found.{tokens_of_line};
-ghost use Rattle.sudoers_grammar.specs.Piece.{TokenWithBytes, tokens_with_bytes, is_mark_of_byte, is_alias_name, alias_kind_of_token, include_is_dir_of_token, option_of_token, tag_and_sign_of_token, digest_kind_of_token, operator_of_token, scope_kind_of_sign_token_after};
+ghost use Rattle.sudoers_grammar.specs.Piece.{TokenWithBytes, tokens_with_bytes, is_mark_of_byte, is_alias_name, alias_kind_of_token, include_is_dir_of_token, option_of_token, tag_and_sign_of_token, digest_kind_of_token};
 ghost use Rattle.sudoers_grammar.specs.Grammar.{is_defaults, start_of_first_token};
 ghost use Rattle.sudoers_line_reader.specs.Reader.{is_next_token, one_token_reader, passing_token_reader};
-ghost use Rattle.sudoers_line_reader.specs.Descent.{is_any_token, is_argument_token, is_comment_token, is_digest_token, is_argument_token_but_no_regex, is_inside_runas_users, is_parameter_name_token, has_meaning_by, is_parameter_value_token};
+ghost use Rattle.sudoers_line_reader.specs.Descent.{is_any_token, is_argument_token, is_comment_token, is_digest_token, is_argument_token_but_no_regex, is_inside_runas_users, has_meaning_by};
 ghost use Rattle.sudoers_line_reader.specs.internal.Cursor.{first_token_option, value_itself, ReadsAsOutcome};
 ghost use Rattle.sudoers_line_reader.specs.internal.Source.{tokens_of_source};
 
 use std::alloc::AllocError;
 use std::marker::Model;
 use sudoers_grammar::{
-    DigestKind, Kind, Operator, OptionName, Tag, TokenWithText, add_text_to_token, begins_with_byte,
+    DigestKind, Kind, OptionName, Tag, TokenWithText, add_text_to_token, begins_with_byte,
 };
 use sudoers_text::{LineTokens, TokenKind, choose_line_mode};
 
@@ -236,20 +236,6 @@ impl<'a> TokenCursor<'a> {
         self.pass_token_if_allowed_or_halt(self.is_at_defaults_word())
     }
 
-    /// Passes the name of a parameter.
-    pub fn expect_parameter_name(&mut self) -> ReadResult<TokenWithText<'a>>
-        ensures { ReadsAsOutcome (passing_token_reader is_parameter_name_token self.old) model_of_token_part result self.new }
-    {
-        self.pass_token_if_allowed_or_halt(self.peek().is_some_and(|part| part.is_parameter_name()))
-    }
-
-    /// Passes the value of a parameter.
-    pub fn expect_parameter_value(&mut self) -> ReadResult<TokenWithText<'a>>
-        ensures { ReadsAsOutcome (passing_token_reader is_parameter_value_token self.old) model_of_token_part result self.new }
-    {
-        self.pass_token_if_allowed_or_halt(self.peek().is_some_and(|part| part.is_value()))
-    }
-
     /// Passes a word with which a line of aliases begins.
     pub fn expect_alias_keyword(&mut self) -> ReadResult<Kind>
         ensures { ReadsAsOutcome (one_token_reader alias_kind_of_token self.old) value_itself result self.new }
@@ -285,13 +271,6 @@ impl<'a> TokenCursor<'a> {
         self.pass_token_with_meaning_or_halt(self.peek().and_then(|part| part.digest_kind()))
     }
 
-    /// Passes the operator of a parameter.
-    pub fn expect_operator(&mut self) -> ReadResult<Operator>
-        ensures { ReadsAsOutcome (one_token_reader operator_of_token self.old) value_itself result self.new }
-    {
-        self.pass_token_with_meaning_or_halt(self.peek().and_then(|part| part.operator()))
-    }
-
     /// Returns whether the next token is the kind of a digest.
     pub fn is_at_digest_kind(&self) -> bool
         ensures { result ≡ is_next_token (has_meaning_by digest_kind_of_token) self.now }
@@ -312,13 +291,6 @@ impl<'a> TokenCursor<'a> {
     {
         self.peek()
             .is_some_and(|part| part.tag_with_sign().is_some())
-    }
-
-    /// Returns whether the next token is the operator of a parameter.
-    pub fn is_at_operator(&self) -> bool
-        ensures { result ≡ is_next_token (has_meaning_by operator_of_token) self.now }
-    {
-        self.peek().is_some_and(|part| part.operator().is_some())
     }
 
     /// Returns whether a token is left that ends no list of runas users.
@@ -350,24 +322,6 @@ impl<'a> TokenCursor<'a> {
         ensures { ReadsAsOutcome (passing_token_reader is_argument_token self.old) model_of_token_part result self.new }
     {
         self.pass_token_if_allowed_or_halt(self.is_at_argument())
-    }
-
-    /// Returns whether the next token is the sign of a scope, directly behind the word that ends at this byte.
-    pub fn is_at_scope_sign(&self, stop: usize) -> bool
-        ensures { result ≡ is_next_token (has_meaning_by (scope_kind_of_sign_token_after stop)) self.now }
-    {
-        self.peek()
-            .is_some_and(|part| part.scope_kind_of_sign_after(stop).is_some())
-    }
-
-    /// Passes the sign of a scope, directly behind the word that ends at this byte.
-    pub fn expect_scope_sign(&mut self, stop: usize) -> ReadResult<Kind>
-        ensures { ReadsAsOutcome (one_token_reader (scope_kind_of_sign_token_after stop) self.old) value_itself result self.new }
-    {
-        self.pass_token_with_meaning_or_halt(
-            self.peek()
-                .and_then(|part| part.scope_kind_of_sign_after(stop)),
-        )
     }
 
     /// Returns whether the next token is a comment.

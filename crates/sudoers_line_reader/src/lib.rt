@@ -13,6 +13,7 @@ pub mod laws;
 mod lists;
 mod members;
 mod options;
+mod parameter_cursor;
 mod reading;
 mod row_reader;
 mod runas;
