@@ -1,0 +1,111 @@
+//! Bytes that can go from a line of aliases while what it says then is known without a reading.
+ghost use Rattle.std.specs.Prelude.{◌≡◌, true, Some};
+ghost use Rattle.std.specs.List.{list_all};
+ghost use Rattle.sudoers_line_rows.specs.View.{node_of_view};
+ghost use Rattle.sudoers_tree.specs.Single.{reading_of_single_line};
+ghost use Rattle.sudoers_edit.specs.Splice.{line_without_bytes};
+ghost use Rattle.sudoers_edit.specs.internal.OneMore.{IsLineTextWithItemCutOut};
+ghost use Rattle.sudoers_edit.specs.internal.Plain.{IsPlainCut, begins_no_word, begins_with_word_alias_head, is_kind_of_words as kind_of_words, is_plain_byte as the_plain_byte};
+
+use crate::extra_item::{ExtraItem, ItemListKind, members_of_nth_definition};
+use sudoers_tree::{Kind, Node};
+
+/// Returns whether the byte stands for itself, whatever stands around it.
+#[inline(always)]
+fn is_plain_byte(byte: u8) -> bool
+    ensures { result ≡ the_plain_byte byte }
+{
+    !matches!(byte, 0 | b'\n' | b'\r' | b'"' | b'#' | b'%' | b'\\')
+}
+
+/// Returns whether each byte stands for itself.
+fn are_plain_bytes(bytes: &[u8]) -> bool
+    ensures { result ≡ list_all the_plain_byte bytes.now }
+{
+    bytes.iter().all(|byte| is_plain_byte(*byte))
+}
+
+/// Returns whether the bytes begin a line of aliases of users, of runas users or of hosts.
+fn begins_word_aliases(bytes: &[u8]) -> bool
+    ensures { result ≡ begins_with_word_alias_head bytes.now }
+{
+    bytes.starts_with(b"User_Alias ")
+        || bytes.starts_with(b"Runas_Alias ")
+        || bytes.starts_with(b"Host_Alias ")
+}
+
+/// Returns whether the bytes begin with a blank, a `,`, a `:` or a LF, before which each word ends.
+fn begins_no_word(bytes: &[u8]) -> bool
+    ensures { result ≡ begins_no_word bytes.now }
+{
+    match bytes {
+        [byte, ..] => matches!(*byte, b' ' | b'\t' | b',' | b':' | b'\n'),
+        [] => false,
+    }
+}
+
+/// Returns whether the bytes from `from` up to `to` can go from a line of aliases in which each byte stands for itself.
+pub fn is_plain_cut(line: &[u8], from: usize, to: usize) -> bool
+    ensures { result ≡ true → IsPlainCut from to line.now }
+{
+    let Some((last, plain)) = line.split_last() else {
+        return false;
+    };
+    if *last != b'\n' || from > to || to >= line.len() {
+        return false;
+    }
+    begins_word_aliases(&line[..from])
+        && begins_no_word(&line[from..])
+        && begins_no_word(&line[to..])
+        && are_plain_bytes(plain)
+}
+
+/// Returns whether the lists of an alias of this kind have words for members.
+pub fn is_kind_of_words(kind: Kind) -> bool
+    ensures { result ≡ kind_of_words kind }
+{
+    match kind {
+        Kind::User | Kind::Runas | Kind::Host => true,
+        Kind::Cmnd => false,
+    }
+}
+
+/// Returns whether it is sure that the line `line`, which says `says`, reads as before but for this one without its bytes.
+pub fn is_sure_cut(one: ExtraItem, among: ItemListKind, line: &[u8], says: &Node<'_>) -> bool
+    ensures { result ≡ true → reading_of_single_line line.now ≡ Some (node_of_view says.now)
+        → IsLineTextWithItemCutOut among one.at one.from one.to (record { text = line.now; node = node_of_view says.now }) (line_without_bytes one.from one.to line.now) }
+{
+    match among {
+        ItemListKind::Definitions => is_sure_definition_cut(one, line, says),
+        ItemListKind::Members { def } => is_sure_member_cut(one, def, line, says),
+    }
+}
+
+/// Returns whether that is sure of a definition.
+fn is_sure_definition_cut(one: ExtraItem, line: &[u8], says: &Node<'_>) -> bool
+    ensures { result ≡ true → reading_of_single_line line.now ≡ Some (node_of_view says.now)
+        → IsLineTextWithItemCutOut ItemListKind.Definitions one.at one.from one.to (record { text = line.now; node = node_of_view says.now }) (line_without_bytes one.from one.to line.now) }
+{
+    let Node::Alias { kind, defs } = *says else {
+        return false;
+    };
+    if one.at == 0 || !is_kind_of_words(kind) || !one.owns_its_bytes(&defs) {
+        return false;
+    }
+    is_plain_cut(line, one.from, one.to)
+}
+
+/// Returns whether that is sure of a member of a definition.
+fn is_sure_member_cut(one: ExtraItem, def: usize, line: &[u8], says: &Node<'_>) -> bool
+    ensures { result ≡ true → reading_of_single_line line.now ≡ Some (node_of_view says.now)
+        → IsLineTextWithItemCutOut (ItemListKind.Members def) one.at one.from one.to (record { text = line.now; node = node_of_view says.now }) (line_without_bytes one.from one.to line.now) }
+{
+    let Node::Alias { kind, defs } = *says else {
+        return false;
+    };
+    let members = members_of_nth_definition(&defs, def);
+    if one.at == 0 || !is_kind_of_words(kind) || !one.owns_its_bytes(&members) {
+        return false;
+    }
+    is_plain_cut(line, one.from, one.to)
+}
