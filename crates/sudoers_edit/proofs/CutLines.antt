@@ -24,14 +24,14 @@ use Rattle.sudoers_edit.proofs.TokenCuts.{CanLoseTokens}
 use Rattle.sudoers_edit.proofs.AliasHeads.{BeginsWordAliases, first_token_is_head}
 
 -- a list whose image falls into two parts
-record IsSplitImage {X Y : Type 0} (f : X → Y) (xs : List X) (a b : List Y) : Type 0 where
+pub record IsSplitImage {X Y : Type 0} (f : X → Y) (xs : List X) (a b : List Y) : Type 0 where
   pub first : List X
   pub second : List X
   pub split : xs ≡ first ++ second
   pub one : map f first ≡ a
   pub other : map f second ≡ b
 
-image_in_parts_splits : {X Y : Type 0} (f : X → Y) (xs : List X) (a b : List Y) → map f xs ≡ a ++ b → IsSplitImage f xs a b
+pub image_in_parts_splits : {X Y : Type 0} (f : X → Y) (xs : List X) (a b : List Y) → map f xs ≡ a ++ b → IsSplitImage f xs a b
 image_in_parts_splits f xs [] b e = record { first = []; second = xs; split = refl; one = refl; other = e }
 image_in_parts_splits f [] (y ∷ a) b e = absurd (cc)
 image_in_parts_splits {X} {Y} f (x ∷ xs) (y ∷ a) b e =
@@ -46,16 +46,16 @@ image_in_parts_splits {X} {Y} f (x ∷ xs) (y ∷ a) b e =
       other = s.other;
     }
 
-tokens_stop_where_they_end : (line : List ℕ) (ts : List Token) (at stop : ℕ) → EndsAt (tokens_with_bytes line ts) stop → stop_of_tokens at ts ≡ stop
+pub tokens_stop_where_they_end : (line : List ℕ) (ts : List Token) (at stop : ℕ) → EndsAt (tokens_with_bytes line ts) stop → stop_of_tokens at ts ≡ stop
 tokens_stop_where_they_end line [] at stop ends = absurd ends
 tokens_stop_where_they_end line (t ∷ []) at stop ends = ends
 tokens_stop_where_they_end line (t ∷ u ∷ ts) at stop ends = tokens_stop_where_they_end line (u ∷ ts) t.stop stop ends
 
-tokens_begin_behind_those_before : (ts us : List Token) (line : List ℕ) (at : ℕ) → AreTokensFrom context.Words line at (ts ++ us) → AreTokensFrom context.Words line (stop_of_tokens at ts) us
+pub tokens_begin_behind_those_before : (ts us : List Token) (line : List ℕ) (at : ℕ) → AreTokensFrom context.Words line at (ts ++ us) → AreTokensFrom context.Words line (stop_of_tokens at ts) us
 tokens_begin_behind_those_before [] us line at are = are
 tokens_begin_behind_those_before (t ∷ ts) us line at are = tokens_begin_behind_those_before ts us line t.stop are.4
 
-tokens_before_place_are_alike : (limit : ℕ) (p s o : List ℕ) (ts us : List Token) (at : ℕ) → stop_of_tokens at ts ≤ length p → AreTokensFrom context.Words (p ++ s) at (ts ++ us)
+pub tokens_before_place_are_alike : (limit : ℕ) (p s o : List ℕ) (ts us : List Token) (at : ℕ) → stop_of_tokens at ts ≤ length p → AreTokensFrom context.Words (p ++ s) at (ts ++ us)
     → AreTokensAlike limit (tokens_with_bytes (p ++ s) ts) (tokens_with_bytes (p ++ o) ts)
 tokens_before_place_are_alike limit p s o [] us at inside are = tt
 tokens_before_place_are_alike limit p s o (t ∷ ts) us at inside are = (
@@ -67,7 +67,7 @@ tokens_before_place_are_alike limit p s o (t ∷ ts) us at inside are = (
   tokens_before_place_are_alike limit p s o ts us t.stop inside are.4,
 )
 
-tokens_behind_place_are_alike : (p o s : List ℕ) (limit : ℕ) → limit ≤ length p → (ts : List Token) (n c : ℕ) → n ≡ length p + c → AreTokensFrom context.Words (p ++ s) n ts
+pub tokens_behind_place_are_alike : (p o s : List ℕ) (limit : ℕ) → limit ≤ length p → (ts : List Token) (n c : ℕ) → n ≡ length p + c → AreTokensFrom context.Words (p ++ s) n ts
     → AreTokensAlike limit (tokens_with_bytes (p ++ s) ts) (tokens_with_bytes (o ++ s) (tokens_after_replacement (length p) (length o) ts))
 tokens_behind_place_are_alike p o s limit below [] n c e are = tt
 tokens_behind_place_are_alike p o s limit below (t ∷ ts) n c e are = (
@@ -79,7 +79,7 @@ tokens_behind_place_are_alike p o s limit below (t ∷ ts) n c e are = (
   tokens_behind_place_are_alike p o s limit below ts t.stop (t.stop - length p) (omega (arith, e, are.0, are.2)) are.4,
 )
 
-alike_end_is_end : (limit : ℕ) (ts us : List TokenWithBytes) → AreTokensAlike limit ts us → IsEnd ts → IsEnd us
+pub alike_end_is_end : (limit : ℕ) (ts us : List TokenWithBytes) → AreTokensAlike limit ts us → IsEnd ts → IsEnd us
 alike_end_is_end limit [] [] alike end = tt
 alike_end_is_end limit [] (u ∷ us) alike end = absurd alike
 alike_end_is_end limit (t ∷ ts) [] alike end = absurd alike
@@ -87,7 +87,7 @@ alike_end_is_end limit (t ∷ []) (u ∷ []) alike end = ap is_comment alike.0.k
 alike_end_is_end limit (t ∷ []) (u ∷ v ∷ us) alike end = absurd alike.1
 alike_end_is_end limit (t ∷ s ∷ ts) us alike end = absurd end
 
-alike_token_has_same_alias_kind : (limit : ℕ) (t u : TokenWithBytes) → IsTokenAlike limit t u → alias_kind_of_token u ≡ alias_kind_of_token t
+pub alike_token_has_same_alias_kind : (limit : ℕ) (t u : TokenWithBytes) → IsTokenAlike limit t u → alias_kind_of_token u ≡ alias_kind_of_token t
 unfolding alias_kind_of_token
 alike_token_has_same_alias_kind limit t u alike = rw (alike.kind, alike.text) refl
 

@@ -109,3 +109,8 @@ pub mod PlainCuts
 pub mod SureCuts
 pub mod LineCutLemmas
 pub mod LastCutLines
+pub mod TokenGains
+pub mod GainLines
+pub mod GainItems
+pub mod WordSplices
+pub mod SurePuts

@@ -44,7 +44,7 @@ one_holds : (a b : Bool) → (a || b) ≡ true → (a ≡ true) ⊎ (b ≡ true)
 one_holds true b h = inl refl
 one_holds false b h = inr h
 
-all_plain_are_plain : (bytes : List ℕ) → list_all is_plain_byte bytes ≡ true → ArePlainBytes bytes
+pub all_plain_are_plain : (bytes : List ℕ) → list_all is_plain_byte bytes ≡ true → ArePlainBytes bytes
 all_plain_are_plain [] h = tt
 all_plain_are_plain (b ∷ bytes) h =
     let both = both_hold (is_plain_byte b) (list_all is_plain_byte bytes) h in
@@ -143,7 +143,7 @@ plain_cut_has_parts from to line is =
       seam_left = subst (λ (t : List ℕ). leading_run_size rule.Word t ≡ 0) rest_to (no_word_begins (drop to line) is.seam_left);
     }
 
-join_of_plain_bytes_is_plain : (p r : List ℕ) → ArePlainBytes p → ArePlainBytes r → ArePlainBytes (p ++ r)
+pub join_of_plain_bytes_is_plain : (p r : List ℕ) → ArePlainBytes p → ArePlainBytes r → ArePlainBytes (p ++ r)
 join_of_plain_bytes_is_plain [] r plain more = more
 join_of_plain_bytes_is_plain (b ∷ p) r plain more = (plain.0, join_of_plain_bytes_is_plain p r plain.1 more)
 

@@ -22,7 +22,7 @@ unfolding leading_run_size
 run_past_plain_byte b xs h =
     reach_by_tests (is_word_byte b) (b == 92) (pair_size_of_unit (unit_after_backslash xs)) (λ k. reach_of_units (run_unit_size rule.Word) k xs) (plain_byte_is_no_backslash b h)
 
-gap_past_plain_byte : (b : ℕ) (xs : List ℕ) → is_plain_byte b ≡ true → leading_run_size rule.Gap (b ∷ xs) ≡ (if is_blank b then suc (leading_run_size rule.Gap xs) else 0)
+pub gap_past_plain_byte : (b : ℕ) (xs : List ℕ) → is_plain_byte b ≡ true → leading_run_size rule.Gap (b ∷ xs) ≡ (if is_blank b then suc (leading_run_size rule.Gap xs) else 0)
 unfolding leading_run_size
 gap_past_plain_byte b xs h =
     reach_by_tests (is_blank b) (b == 92) (continuation_size_of_unit (unit_after_backslash xs)) (λ k. reach_of_units (run_unit_size rule.Gap) k xs) (plain_byte_is_no_backslash b h)

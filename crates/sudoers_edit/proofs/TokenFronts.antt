@@ -97,7 +97,7 @@ AtomsAreAlikeThemselves = (a : Atom) → is_same_atom a a ≡ true
 
 -- two members that say the same; one that ends no later than the limit ends at the same place
 abbrev pub AreMembersAlike : ℕ → Member → Member → Type 0
-AreMembersAlike limit m o = (is_same_member m o ≡ true) × (m.stop ≤ limit → o.stop ≡ m.stop)
+AreMembersAlike limit m o = (is_same_member m o ≡ true) × (m.stop ≤ limit → o.stop ≡ m.stop) × (is_same_member o m ≡ true)
 
 abbrev pub stop_of_member : Member → ℕ
 stop_of_member m = m.stop
@@ -157,7 +157,11 @@ word_members_take_fronts self limit k ts m rest is = record {
             start = refl;
             stop = refl;
           },
-          (member_like_another_without_digests m o (self m.atom) is.digests refl refl refl, λ inside. alike.0.stop (subst (λ (n : ℕ). n ≤ limit) is.stop inside) ∙ sym is.stop),
+          (
+            member_like_another_without_digests m o (self m.atom) is.digests refl refl refl,
+            λ inside. alike.0.stop (subst (λ (n : ℕ). n ≤ limit) is.stop inside) ∙ sym is.stop,
+            member_like_another_without_digests o m (self m.atom) refl is.digests refl refl,
+          ),
         )
 
     again : {us : List TokenWithBytes} (x : AreSplitAlike limit is.signs (is.last ∷ []) us) (vs : List TokenWithBytes) → (o : Member) × IsMember k (us ++ vs) o vs × AreMembersAlike limit m o

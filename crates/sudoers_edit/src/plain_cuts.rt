@@ -1,14 +1,19 @@
-//! Bytes that can go from a line of aliases while what it says then is known without a reading.
-ghost use Rattle.std.specs.Prelude.{◌≡◌, true, Some};
+//! Bytes that can go from a line of aliases, or come into it, while what it says then is known without a reading.
+ghost use Rattle.std.specs.Prelude.{◌≡◌, ◌⊎◌, ◌∷◌, true, Some, IfOk, IfSome};
 ghost use Rattle.std.specs.List.{list_all};
 ghost use Rattle.sudoers_line_rows.specs.View.{node_of_view};
 ghost use Rattle.sudoers_tree.specs.Single.{reading_of_single_line};
-ghost use Rattle.sudoers_edit.specs.Splice.{line_without_bytes};
-ghost use Rattle.sudoers_edit.specs.internal.OneMore.{IsLineTextWithItemCutOut};
-ghost use Rattle.sudoers_edit.specs.internal.Plain.{IsPlainCut, begins_no_word, begins_with_word_alias_head, is_kind_of_words as kind_of_words, is_plain_byte as the_plain_byte};
+ghost use Rattle.sudoers_text.specs.Part.{is_word_byte as the_word_byte};
+ghost use Rattle.sudoers_tree.specs.Line.{line_of_view};
+ghost use Rattle.sudoers_edit.specs.Splice.{line_with_splice, line_without_bytes};
+ghost use Rattle.sudoers_edit.specs.internal.OneMore.{IsLineTextWithItemCutOut, IsLineTextWithItemPutIn};
+ghost use Rattle.sudoers_edit.specs.internal.Plain.{CanBeMember, IsPlainCut, IsWordSplice, begins_no_word, begins_with_word_alias_head, is_kind_of_words as kind_of_words, is_plain_byte as the_plain_byte};
 
-use crate::extra_item::{ExtraItem, ItemListKind, members_of_nth_definition};
-use sudoers_tree::{Kind, Node};
+use crate::extra_item::{ExtraItem, ItemListKind, members_of_nth_definition, starts_at};
+use std::alloc::{AllocError, Global};
+use sudoers_grammar::{TokenWithText, parse_single_token_atom};
+use sudoers_text::TokenKind;
+use sudoers_tree::{Kind, Line, Node};
 
 /// Returns whether the byte stands for itself, whatever stands around it.
 #[inline(always)]
@@ -108,4 +113,103 @@ fn is_sure_member_cut(one: ExtraItem, def: usize, line: &[u8], says: &Node<'_>) 
         return false;
     }
     is_plain_cut(line, one.from, one.to)
+}
+
+/// Returns whether the byte is one of a word.
+#[inline(always)]
+fn is_word_byte(byte: u8) -> bool
+    ensures { result ≡ the_word_byte byte }
+{
+    !matches!(
+        byte,
+        0 | b'\n'
+            | b'\r'
+            | b' '
+            | b'\t'
+            | b'"'
+            | b'#'
+            | b'\\'
+            | b'!'
+            | b'='
+            | b':'
+            | b','
+            | b'('
+            | b')'
+    )
+}
+
+/// Returns whether each byte is one of a word.
+fn are_word_bytes(bytes: &[u8]) -> bool
+    ensures { result ≡ list_all the_word_byte bytes.now }
+{
+    bytes.iter().all(|byte| is_word_byte(*byte))
+}
+
+/// Returns what stands behind the `,` that begins the bytes, and behind a blank there.
+fn bytes_behind_comma(splice: &[u8]) -> Option<&[u8]>
+    ensures { IfSome result (λ word. (splice.now ≡ 44 ∷ word.now) ⊎ (splice.now ≡ 44 ∷ 32 ∷ word.now)) }
+{
+    match splice {
+        [b',', b' ', word @ ..] => Some(word),
+        [b',', word @ ..] => Some(word),
+        _ => None,
+    }
+}
+
+/// Returns the word of a splice that is a `,`, a blank or none, and a word.
+fn word_of_splice(splice: &[u8]) -> Option<&[u8]>
+    ensures { IfSome result (λ word. IsWordSplice splice.now word.now) }
+{
+    let word = bytes_behind_comma(splice)?;
+    if word.is_empty() || !are_word_bytes(word) || !are_plain_bytes(word) {
+        return None;
+    }
+    Some(word)
+}
+
+/// Returns whether a word can be a member of a list of this kind.
+fn can_be_member(alloc: Global, kind: Kind, word: &[u8]) -> Result<bool, AllocError>
+    ensures { IfOk result (λ can. can ≡ true → CanBeMember kind word.now) }
+{
+    let part = TokenWithText {
+        kind: TokenKind::Word,
+        text: word,
+        start: 0,
+        stop: 0,
+        last: false,
+    };
+    match parse_single_token_atom(alloc, kind, &part)? {
+        Some(_) => Ok(true),
+        None => Ok(false),
+    }
+}
+
+/// Returns whether it is sure that the line reads as before but for one member more of a definition, at the place `at`, once the bytes
+/// `splice` stand at the offset `from`.
+pub fn is_sure_put(
+    alloc: Global,
+    def: usize,
+    at: usize,
+    from: usize,
+    splice: &[u8],
+    line: &Line<'_>,
+) -> Result<bool, AllocError>
+    ensures { IfOk result (λ sure. sure ≡ true → reading_of_single_line (line_of_view line.now).text ≡ Some (line_of_view line.now).node
+        → IsLineTextWithItemPutIn (ItemListKind.Members def) at from splice.now (line_of_view line.now) (line_with_splice from splice.now (line_of_view line.now).text)) }
+{
+    let Node::Alias { kind, defs } = line.node else {
+        return Ok(false);
+    };
+    let members = members_of_nth_definition(&defs, def);
+    if at == 0
+        || !is_kind_of_words(kind)
+        || !starts_at(&members, at, from)
+        || !is_plain_cut(line.text, from, from)
+    {
+        return Ok(false);
+    }
+    match word_of_splice(splice) {
+        Some(word) => Ok(can_be_member(alloc, kind, word)?),
+        None => Ok(false),
+    }
 }

@@ -25,7 +25,7 @@ use crate::fault::EditFault;
 use crate::owned_bytes::{
     drop_bytes_from_line, find_bytes_to_drop_item, find_offset_to_add_item, insert_splice_into_line,
 };
-use crate::plain_cuts::is_sure_cut;
+use crate::plain_cuts::{is_sure_cut, is_sure_put};
 use std::alloc::{AllocError, Global};
 use sudoers_edit_script::{Edit, Edits, Text};
 use sudoers_text::{LINE_LIMIT, ends_in_lf};
@@ -255,13 +255,18 @@ fn add_item_to_line(
     splice: &[u8],
     old: &Line<'_>,
 ) -> Result<Vec<u8>, EditFault>
-    requires { from ≤ length (line_of_view old.now).text }
+    requires { (from ≤ length (line_of_view old.now).text) × (reading_of_single_line (line_of_view old.now).text ≡ Some (line_of_view old.now).node) }
     ensures put { IfOk result (λ text. IsLineTextWithItemPutIn among at from splice.now (line_of_view old.now) text.items) }
     ensures outcome { (n : ℕ) (lines : List LineOf) → MatchResult result
         (λ text. with_more among at from n splice.now (line_of_view old.now) lines ≡ replaced_lines_unless_too_long n text.items (texts_of_lines lines))
         (λ fault. IsRefusalOrNoMemory fault (with_more among at from n splice.now (line_of_view old.now) lines)) }
 {
     let text = insert_splice_into_line(alloc, old.text, from, splice)?;
+    if let ItemListKind::Members { def } = among {
+        if is_sure_put(alloc, def, at, from, splice, old)? {
+            return Ok(text);
+        }
+    }
     let Some(new) = read_line(alloc, text.as_slice())? else {
         return Err(EditFault::BadSplice);
     };

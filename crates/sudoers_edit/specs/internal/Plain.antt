@@ -1,6 +1,11 @@
 -- A device of the proofs, which no public contract cites: lines of bytes that stand for themselves.
-use Rattle.std.specs.Prelude.{◌≡◌, ◌≤◌, ◌<◌, ℕ, Bool, ◌==◌, ◌||◌, ◌&&◌, not, nat_eq, true, false, List, [], ◌∷◌, ◌++◌, length, take, drop, codes}
+use Rattle.std.specs.Prelude.{◌≡◌, ◌≤◌, ◌<◌, ℕ, Bool, ◌==◌, ◌||◌, ◌&&◌, not, nat_eq, true, false, List, [], ◌∷◌, ◌++◌, length, take, drop, codes, ◌⊎◌, Some}
 use Rattle.std.specs.List.{starts_with, list_all}
+use Rattle.sudoers_text.specs.declared.token.TokenKind.TheVariants as kind
+use Rattle.sudoers_text.specs.Part.{is_word_byte}
+use Rattle.sudoers_grammar.specs.declared.node.Atom.{Atom}
+use Rattle.sudoers_grammar.specs.Piece.{TokenWithBytes}
+use Rattle.sudoers_grammar.specs.Atom.{atom_of_token}
 use Rattle.sudoers_grammar.specs.declared.node.Kind.{Kind}
 use Rattle.sudoers_grammar.specs.declared.node.Kind.TheVariants.{User, Runas, Host, Cmnd}
 use Rattle.sudoers_edit.specs.Splice.{ByteExtent, owned_bytes_start, owned_bytes_stop, is_option_equal_to}
@@ -43,3 +48,14 @@ is_kind_of_words Cmnd = false
 -- The one at a place owns exactly these bytes.
 abbrev pub owns_bytes_from_to : ℕ → ℕ → ℕ → List ByteExtent → Bool
 owns_bytes_from_to at from to extents = is_option_equal_to from (owned_bytes_start at extents) && is_option_equal_to to (owned_bytes_stop at extents)
+
+-- These bytes are a `,`, a blank or none, and this word, whose bytes stand for themselves.
+pub record IsWordSplice (splice word : List ℕ) : Type 0 where
+  pub lead : (splice ≡ 44 ∷ word) ⊎ (splice ≡ 44 ∷ 32 ∷ word)
+  pub some : 0 < length word
+  pub words : list_all is_word_byte word ≡ true
+  pub plain : list_all is_plain_byte word ≡ true
+
+-- A word of this text can be a member of a list of this kind.
+abbrev pub CanBeMember : Kind → List ℕ → Type 0
+CanBeMember k word = (t : TokenWithBytes) × (a : Atom) × (t.kind ≡ kind.Word) × (t.text ≡ word) × (atom_of_token k t ≡ Some a)
