@@ -25,6 +25,7 @@ use Rattle.sudoers_edit.proofs.Common.{LawsBehindPrunes}
 use Rattle.sudoers_edit.proofs.AlikeItems.{alike_items_end_alike, alike_lists_are_as_long, item_before_removed_ends_as_before, alike_definitions_end_alike}
 use Rattle.sudoers_edit.proofs.FrontLists.{IsKindOfWords, AreDefsAlike}
 use Rattle.sudoers_edit.proofs.ItemStops.{start_of_owned_is_stop_before, stop_of_owned_is_its_stop, stop_before_is_start_of_owned, stop_of_item_is_stop_of_owned}
+use Rattle.sudoers_edit.proofs.PlainCuts.{plain_cut_leaves_plain_line}
 use Rattle.sudoers_edit.proofs.PruneCut.{definition_cut_out_is_definition_cut}
 use Rattle.sudoers_edit.proofs.PruneGoes.{single_reading_is_reading_of_text}
 use Rattle.sudoers_edit.proofs.SureCuts.{kind_of_words_is_one, plain_cut_takes_definition_out, plain_cut_is_definition_cut}
@@ -140,7 +141,7 @@ sure_cut_is_definition_cut laws known text at from to n lines line is sure says 
 
 -- What is known of the line then.
 pub sure_cut_leaves_known_line : LawsBehindPrunes → (known : LineBeingCut) (text : List ℕ) (at from to : ℕ) → IsLineKnown known text → IsSureToCut known text at from to
-    → IsLineKnown (record { reading = known.reading; at = at; count = known.count - 1 }) (line_without_bytes from to text)
+    → IsLineKnown (record { reading = known.reading; at = at; count = known.count - 1; is_plain = true }) (line_without_bytes from to text)
 sure_cut_leaves_known_line laws known text at from to is sure =
     let o = known_line_owns_as_before known text at from to is sure in
     let y = plain_cut_takes_definition_out laws text o.kind o.others o.before from to sure.cut o.words o.begins o.stops o.says in
@@ -163,13 +164,14 @@ sure_cut_leaves_known_line laws known text at from to is sure =
       fits = omega (arith, o.fits);
       same = λ i below. keeps i (omega (arith, below, o.at_is));
       fresh = λ e. absurd (omega (arith, e, o.fits, o.room));
+      plain = λ e. plain_cut_leaves_plain_line from to text sure.cut;
     }
 
 -- ---- a line that was read
 
 -- What is known of a line of definitions that was read.
 pub read_line_is_known : (reading : Node) (kind : Kind) (defs : List Def) (count : ℕ) (text : List ℕ) → reading ≡ node.Alias kind defs → count ≡ length defs → reading_of_single_line text ≡ Some reading
-    → IsLineKnown (record { reading = reading; at = count; count = count }) text
+    → IsLineKnown (record { reading = reading; at = count; count = count; is_plain = false }) text
 read_line_is_known reading kind defs count text makes size says = record {
   kind = kind;
   defs = defs;
@@ -181,6 +183,7 @@ read_line_is_known reading kind defs count text makes size says = record {
   fits = omega (arith, size);
   same = λ i below. refl;
   fresh = λ e. refl;
+  plain = λ e. absurd (cc);
 }
 
 -- A line from which nothing was taken out says what was read.

@@ -13,7 +13,7 @@ use Rattle.sudoers_grammar.specs.Node as node
 use Rattle.sudoers_grammar.specs.Piece.{TokenWithBytes}
 use Rattle.sudoers_grammar.specs.Grammar.{Separated, IsDef}
 use Rattle.sudoers_grammar.specs.Line.{LineReadsAsNode}
-use Rattle.sudoers_edit.specs.internal.Plain.{is_plain_byte, ArePlainBytes, begins_with_word_alias_head, begins_no_word, IsPlainCut}
+use Rattle.sudoers_edit.specs.internal.Plain.{is_plain_byte, ArePlainBytes, begins_with_word_alias_head, begins_no_word, IsPlainCut, IsPlainLine}
 use Rattle.sudoers_edit.proofs.TokensBefore.{plain_bytes_drop_to_plain_bytes}
 use Rattle.sudoers_edit.proofs.TokenCuts.{CanLoseTokens}
 use Rattle.sudoers_edit.proofs.AliasHeads.{BeginsWordAliases, user_head_begins_aliases, runas_head_begins_aliases, host_head_begins_aliases}
@@ -109,8 +109,8 @@ no_word_begins (b ∷ xs) h = no_word_begins_such_byte b xs h
 
 pub plain_cut_has_parts : (from to : ℕ) (line : List ℕ) → IsPlainCut from to line → IsLineInParts from to line
 plain_cut_has_parts from to line is =
-    let q : List ℕ = is.plain in
-    let size : length line ≡ length q + 1 = omega (arith, ap length is.lf, length-append q (10 ∷ [])) in
+    let q : List ℕ = is.bytes.plain in
+    let size : length line ≡ length q + 1 = omega (arith, ap length is.bytes.lf, length-append q (10 ∷ [])) in
     let to_inside : to ≤ length q = omega (arith, size, is.inside) in
     let from_inside : from ≤ length q = omega (arith, to_inside, is.order) in
     let p : List ℕ = take from q in
@@ -119,13 +119,13 @@ plain_cut_has_parts from to line is =
     let p_size : length p ≡ from = length-take-le from q from_inside in
     let g_size : length g ≡ to - from = length-take-le (to - from) (drop from q) (omega (arith, length-drop from q, to_inside)) in
     let behind : drop (to - from) (drop from q) ≡ r = drop-drop (to - from) from q ∙ ap (λ (n : ℕ). drop n q) (omega (arith, is.order)) in
-    let from_line : take from line ≡ p = ap (take from) is.lf ∙ take-append-le from q (10 ∷ []) from_inside in
-    let rest_from : drop from line ≡ drop from q ++ 10 ∷ [] = ap (drop from) is.lf ∙ drop-append-le from q (10 ∷ []) from_inside in
-    let rest_to : drop to line ≡ r ++ 10 ∷ [] = ap (drop to) is.lf ∙ drop-append-le to q (10 ∷ []) to_inside in
+    let from_line : take from line ≡ p = ap (take from) is.bytes.lf ∙ take-append-le from q (10 ∷ []) from_inside in
+    let rest_from : drop from line ≡ drop from q ++ 10 ∷ [] = ap (drop from) is.bytes.lf ∙ drop-append-le from q (10 ∷ []) from_inside in
+    let rest_to : drop to line ≡ r ++ 10 ∷ [] = ap (drop to) is.bytes.lf ∙ drop-append-le to q (10 ∷ []) to_inside in
     let middle : drop from line ≡ g ++ (r ++ 10 ∷ []) =
     rest_from ∙ ap (λ (t : List ℕ). t ++ 10 ∷ []) (sym (take-append-drop (to - from) (drop from q)) ∙ ap (λ (t : List ℕ). g ++ t) behind) ∙ append_assoc g r (10 ∷ []) in
     let h = text_with_head_has_alias_head p (subst (λ (t : List ℕ). begins_with_word_alias_head t ≡ true) from_line is.begins) in
-    let plain = all_plain_are_plain q is.are_plain in
+    let plain = all_plain_are_plain q is.bytes.are_plain in
     record {
       head = h.head;
       front = h.front;
@@ -163,3 +163,23 @@ line_with_plain_cut_reads from to line k defs Good is lose reads =
     let whole : IsLogicalLine (p ++ (x.rest ++ 10 ∷ [])) =
     subst IsLogicalLine (append_assoc p x.rest (10 ∷ [])) (plain_bytes_and_lf_are_logical_line (p ++ x.rest) (join_of_plain_bytes_is_plain p x.rest x.plain x.plain_rest)) in
     (y.0, subst (λ (t : List ℕ). LineReadsAsNode t (node.Alias k y.0)) (sym x.text_is) y.1, subst IsLogicalLine (sym x.text_is) whole, y.2)
+
+-- ---- what is left of a plain line
+
+all_are_plain : (bytes : List ℕ) → ArePlainBytes bytes → list_all is_plain_byte bytes ≡ true
+all_are_plain [] plain = refl
+all_are_plain (b ∷ bytes) plain = both_are_plain (is_plain_byte b) (list_all is_plain_byte bytes) plain.0 (all_are_plain bytes plain.1)
+  where
+    both_are_plain : (a b : Bool) → a ≡ true → b ≡ true → (a && b) ≡ true
+    both_are_plain a b e f = rw (e, f) refl
+
+-- A plain cut leaves a plain line.
+pub plain_cut_leaves_plain_line : (from to : ℕ) (line : List ℕ) → IsPlainCut from to line → IsPlainLine (take from line ++ drop to line)
+plain_cut_leaves_plain_line from to line is =
+    let x = plain_cut_has_parts from to line is in
+    let p : List ℕ = x.head ++ x.front in
+    record {
+      plain = p ++ x.rest;
+      lf = x.text_is ∙ sym (append_assoc p x.rest (10 ∷ []));
+      are_plain = all_are_plain (p ++ x.rest) (join_of_plain_bytes_is_plain p x.rest x.plain x.plain_rest);
+    }

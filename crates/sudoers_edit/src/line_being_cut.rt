@@ -1,5 +1,5 @@
 //! A line of which definitions are taken out one after another, from the last on.
-ghost use Rattle.std.specs.Prelude.{◌≡◌, false, ◌≤◌, ℕ, List, None, Ok, Some, IfOk, IfSome, MatchResult, length, slice_get};
+ghost use Rattle.std.specs.Prelude.{◌≡◌, false, true, ◌≤◌, ℕ, List, None, Ok, Some, IfOk, IfSome, MatchResult, length, slice_get};
 ghost use Rattle.sudoers_line_rows.specs.View.{node_of_view};
 ghost use Rattle.sudoers_tree.specs.Line.{Line as LineOf};
 ghost use Rattle.sudoers_tree.specs.Policy.{texts_of_lines};
@@ -9,13 +9,14 @@ ghost use Rattle.sudoers_edit.specs.SpliceEdits.{definitions_of_alias_line, line
 ghost use Rattle.sudoers_edit.specs.internal.Drafts.{IsDefinitionCut, IsDefinitionCutOutcome};
 ghost use Rattle.sudoers_edit.specs.internal.LineCuts.{IsLineKnown, IsSureToCut};
 ghost use Rattle.sudoers_edit.specs.internal.OneMore.{IsLineTextWithItemCutOut};
+ghost use Rattle.sudoers_edit.specs.internal.Plain.{IsPlainCut};
 
 use crate::extra_item::{ExtraItem, ItemListKind};
 use crate::fault::EditFault;
 use crate::owned_bytes::{
     drop_bytes_from_line, find_bytes_to_drop_item, owned_start_of_item, owned_stop_of_item,
 };
-use crate::plain_cuts::{is_kind_of_words, is_plain_cut};
+use crate::plain_cuts::{is_cut_of_plain_line, is_kind_of_words, is_plain_cut};
 use std::alloc::{AllocError, Global};
 use sudoers_edit_script::Text;
 use sudoers_tree::{Node, ParsedLine, read_line};
@@ -29,6 +30,8 @@ pub struct LineBeingCut {
     at: usize,
     /// How many definitions there are now.
     count: usize,
+    /// Each byte of the line now stands for itself, as is known.
+    is_plain: bool,
 }
 
 /// Reads a line of which definitions are to be taken out.
@@ -62,6 +65,7 @@ impl LineBeingCut {
             reading,
             at: count,
             count,
+            is_plain: false,
         })
     }
 
@@ -140,11 +144,13 @@ impl LineBeingCut {
         let splice = Text::from_slice(alloc, &text[from..to])?;
         self.at = at;
         self.count -= 1;
+        self.is_plain = true;
         Ok(Some((Text::from_vec(less), splice)))
     }
 
     /// Returns which bytes go with the definition at the place `at`, if it is sure without a reading how the line reads without them.
     fn find_sure_bytes(&self, text: &[u8], at: usize) -> Option<(usize, usize)>
+        requires { IsLineKnown self.now text.now }
         ensures { IfSome result (λ bytes. IsSureToCut self.now text.now at bytes.0 bytes.1) }
     {
         let Node::Alias { kind, defs } = self.reading.node() else {
@@ -155,10 +161,21 @@ impl LineBeingCut {
         }
         let from = owned_start_of_item(&defs, at)?;
         let to = owned_stop_of_item(&defs, at)?;
-        if !is_plain_cut(text, from, to) {
+        if !self.is_plain_cut_of(text, from, to) {
             return None;
         }
         Some((from, to))
+    }
+
+    /// Returns whether these bytes can go from the line, in which each byte stands for itself.
+    fn is_plain_cut_of(&self, text: &[u8], from: usize, to: usize) -> bool
+        requires { IsLineKnown self.now text.now }
+        ensures { result ≡ true → IsPlainCut from to text.now }
+    {
+        if self.is_plain {
+            return is_cut_of_plain_line(text, from, to);
+        }
+        is_plain_cut(text, from, to)
     }
 }
 

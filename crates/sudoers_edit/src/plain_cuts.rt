@@ -7,7 +7,7 @@ ghost use Rattle.sudoers_text.specs.Part.{is_word_byte as the_word_byte};
 ghost use Rattle.sudoers_tree.specs.Line.{line_of_view};
 ghost use Rattle.sudoers_edit.specs.Splice.{line_with_splice, line_without_bytes};
 ghost use Rattle.sudoers_edit.specs.internal.OneMore.{IsLineTextWithItemCutOut, IsLineTextWithItemPutIn};
-ghost use Rattle.sudoers_edit.specs.internal.Plain.{CanBeMember, IsPlainCut, IsWordSplice, begins_no_word, begins_with_word_alias_head, is_kind_of_words as kind_of_words, is_plain_byte as the_plain_byte};
+ghost use Rattle.sudoers_edit.specs.internal.Plain.{CanBeMember, IsPlainCut, IsPlainLine, IsWordSplice, begins_no_word, begins_with_word_alias_head, is_kind_of_words as kind_of_words, is_plain_byte as the_plain_byte};
 
 use crate::extra_item::{ExtraItem, ItemListKind, members_of_nth_definition, starts_at};
 use std::alloc::{AllocError, Global};
@@ -53,16 +53,36 @@ fn begins_no_word(bytes: &[u8]) -> bool
 pub fn is_plain_cut(line: &[u8], from: usize, to: usize) -> bool
     ensures { result ≡ true → IsPlainCut from to line.now }
 {
+    if !is_plain_line(line) {
+        return false;
+    }
+    is_cut_of_plain_line(line, from, to)
+}
+
+/// Returns whether the line ends in LF, and each byte before that stands for itself.
+fn is_plain_line(line: &[u8]) -> bool
+    ensures { result ≡ true → IsPlainLine line.now }
+{
     let Some((last, plain)) = line.split_last() else {
         return false;
     };
-    if *last != b'\n' || from > to || to >= line.len() {
+    if *last != b'\n' {
+        return false;
+    }
+    are_plain_bytes(plain)
+}
+
+/// Returns whether the bytes from `from` up to `to` can go from such a line.
+pub fn is_cut_of_plain_line(line: &[u8], from: usize, to: usize) -> bool
+    requires { IsPlainLine line.now }
+    ensures { result ≡ true → IsPlainCut from to line.now }
+{
+    if from > to || to >= line.len() {
         return false;
     }
     begins_word_aliases(&line[..from])
         && begins_no_word(&line[from..])
         && begins_no_word(&line[to..])
-        && are_plain_bytes(plain)
 }
 
 /// Returns whether the lists of an alias of this kind have words for members.

@@ -9,7 +9,7 @@ use Rattle.sudoers_edit.specs.declared.line_being_cut.LineBeingCut.{LineBeingCut
 use Rattle.sudoers_edit.specs.declared.prune_plan.LastCutLine.{LastCutLine}
 use Rattle.sudoers_edit.specs.Splice.{extents_of_definitions, owned_bytes_start, owned_bytes_stop}
 use Rattle.sudoers_edit.specs.internal.Drafts.{replacement_text_by_first_change}
-use Rattle.sudoers_edit.specs.internal.Plain.{IsPlainCut, is_kind_of_words}
+use Rattle.sudoers_edit.specs.internal.Plain.{IsPlainCut, IsPlainLine, is_kind_of_words}
 
 -- where the item at a place ends
 abbrev pub stop_of_item_at : {X : Type 0} → (X → ℕ) → List X → ℕ → ℕ
@@ -33,6 +33,7 @@ pub record IsLineKnown (known : LineBeingCut) (text : List ℕ) : Type 0 where
   pub fits : known.count ≤ length defs
   pub same : (i : ℕ) → i < known.at → stop_of_item_at stop_of_def others i ≡ stop_of_item_at stop_of_def defs i
   pub fresh : known.count ≡ length defs → others ≡ defs
+  pub plain : known.is_plain ≡ true → IsPlainLine text
 
 -- It is sure that the line reads as before but for the definition at this place, if these bytes go.
 pub record IsSureToCut (known : LineBeingCut) (text : List ℕ) (at from to : ℕ) : Type 0 where

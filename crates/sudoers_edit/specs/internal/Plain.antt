@@ -27,13 +27,17 @@ abbrev pub begins_no_word : List ℕ → Bool
 begins_no_word [] = false
 begins_no_word (b ∷ _) = b == 32 || b == 9 || b == 44 || b == 58 || b == 10
 
--- The line begins with aliases of words, its bytes before its LF stand for themselves, and at neither place a word goes on.
-pub record IsPlainCut (from to : ℕ) (line : List ℕ) : Type 0 where
-  pub order : from ≤ to
-  pub inside : to < length line
+-- The bytes of the line before its LF stand for themselves.
+pub record IsPlainLine (line : List ℕ) : Type 0 where
   pub plain : List ℕ
   pub lf : line ≡ plain ++ 10 ∷ []
   pub are_plain : list_all is_plain_byte plain ≡ true
+
+-- The line begins with aliases of words, its bytes stand for themselves, and at neither place a word goes on.
+pub record IsPlainCut (from to : ℕ) (line : List ℕ) : Type 0 where
+  pub order : from ≤ to
+  pub inside : to < length line
+  pub bytes : IsPlainLine line
   pub begins : begins_with_word_alias_head (take from line) ≡ true
   pub seam : begins_no_word (drop from line) ≡ true
   pub seam_left : begins_no_word (drop to line) ≡ true

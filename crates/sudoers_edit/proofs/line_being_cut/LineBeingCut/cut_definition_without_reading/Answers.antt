@@ -1,4 +1,4 @@
-use Rattle.sudoers_edit.proofs.Common.{IsDefinitionCut, List, line_without_bytes, subst, sym, ℕ, ◌-◌, ◌∙◌, ◌≡◌}
+use Rattle.sudoers_edit.proofs.Common.{IsDefinitionCut, List, line_without_bytes, subst, true, sym, ℕ, ◌-◌, ◌∙◌, ◌≡◌}
 use Rattle.sudoers_edit.specs.internal.LineCuts.{IsLineKnown}
 use Rattle.sudoers_edit.proofs.LawsBelow.{prune_edit_laws_hold}
 use Rattle.sudoers_edit.proofs.LineCutLemmas.{sure_cut_is_definition_cut, sure_cut_leaves_known_line}
@@ -12,6 +12,6 @@ returns-clause-cut c =
       λ n lines line says here same. subst (λ (t : List ℕ). IsDefinitionCut n c.args.at lines line t c.in_ok-splice.splice) (sym text_is)
           (subst (λ (s : List ℕ). IsDefinitionCut n c.args.at lines line less s) (sym c.in_ok-splice.ensures)
           (sure_cut_is_definition_cut prune_edit_laws_hold c.args.self.now text c.args.at c.in-Some.from c.in-Some.to n lines line c.requires c.in-Some.ensures says here same)),
-      subst (λ (t : List ℕ). IsLineKnown (record { reading = c.args.self.now.reading; at = c.args.at; count = c.args.self.now.count - 1 }) t) (sym text_is)
+      subst (λ (t : List ℕ). IsLineKnown (record { reading = c.args.self.now.reading; at = c.args.at; count = c.args.self.now.count - 1; is_plain = true }) t) (sym text_is)
           (sure_cut_leaves_known_line prune_edit_laws_hold c.args.self.now text c.args.at c.in-Some.from c.in-Some.to c.requires c.in-Some.ensures),
     )

@@ -12,5 +12,5 @@ returns c = record {
   words = sym c.is_kind_of_words.ensures ∙ c.if-not-is_kind_of_words.false;
   begins = sym c.in_ok-from.ensures;
   stops = sym c.in_ok-to.ensures;
-  cut = c.is_plain_cut.ensures c.if-not-is_plain_cut.false;
+  cut = c.is_plain_cut_of.ensures c.if-not-is_plain_cut_of.false;
 }
