@@ -127,7 +127,7 @@ args_alikeness_is_transitive args.Nothing args.Nothing c h k = k
 args_alikeness_is_transitive (args.Pattern a) (args.Pattern b) (args.Pattern c) h k = bytes_alikeness_is_transitive a b c h k
 args_alikeness_is_transitive a b c h k = absurd (cc)
 
-atom_is_alike_itself : (a : Atom) → is_same_atom a a ≡ true
+pub atom_is_alike_itself : (a : Atom) → is_same_atom a a ≡ true
 atom_is_alike_itself atom.All = refl
 atom_is_alike_itself (atom.Alias a) = bytes_are_alike_themselves a
 atom_is_alike_itself (atom.Name a) = bytes_are_alike_themselves a

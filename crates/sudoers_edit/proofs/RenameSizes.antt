@@ -2,7 +2,7 @@
 use Rattle.sudoers_edit.proofs.Common.{named_files_after_rename}
 use Rattle.sudoers_edit.proofs.Common.{AllByRecursion, AreDefinedNamesValid, AreFilesMapped, AreValidWalkLines, Bool, CanReplaceFiles, EachIsOneLineWhenCut, Err, IsCorrectlyParsed, IsDefinableName, IsLogicalLine}
 use Rattle.sudoers_edit.proofs.Common.{IsPolicyAfterRename, Kind, Line, List, LoadFault, LoadedPolicy, NamedAlias, NamedFile, Ok, ParsedFile, TextSizeLawsBehindRenames, Result, TextFault, WalkState, [], ap, arith}
-use Rattle.sudoers_edit.proofs.Common.{cut_outcome_of_text, false, file_limit, file_names, first_repeated_file_name, has_inner_line_without_lf, if◌then◌else◌, inl, inr, is_file_on_walk, is_line_too_long, join}
+use Rattle.sudoers_edit.proofs.Common.{cut_outcome_of_text, false, file_limit, file_names, has_inner_line_without_lf, if◌then◌else◌, inl, inr, is_file_on_walk, is_line_too_long, join}
 use Rattle.sudoers_edit.proofs.Common.{length, line_after_rename, line_limit, line_text_after_rename, lines_after_rename, lines_of_numbered_file, list_any, load_then, ltb-false, map, mapped_lines_at_spots}
 use Rattle.sudoers_edit.proofs.Common.{named_alias_of_kind_and_name, named_file_of_parsed, named_files_of_policy, named_files_numbered_from_replaced_if_on_walk, or_false, parsed_file_of_texts, parsed_file_of_cut_or_fault}
 use Rattle.sudoers_edit.proofs.Common.{parsed_files_after_rename, parsed_files_or_cut_fault, policy_of_parsed_files, policy_or_load_fault, refl, subst, suc, sym, text_limit, texts_of_lines, texts_with_name_replaced}

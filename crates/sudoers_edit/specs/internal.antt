@@ -5,9 +5,11 @@ pub mod EditLaws
 pub mod LastLine
 pub mod Leading
 pub mod LeadingInFile
+pub mod LineCuts
 pub mod Made
 pub mod NameOffsets
 pub mod OneMore
+pub mod Plain
 pub mod PruneLaws
 pub mod PruneOrder
 pub mod RenameLaws

@@ -4,7 +4,8 @@ ghost use Rattle.std.specs.Option.{option_copied};
 ghost use Rattle.sudoers_line_rows.specs.Alike.{are_lists_alike as alike_lists, is_same_def as same_def};
 ghost use Rattle.sudoers_edit.specs.SpliceEdits.{has_one_item_more};
 ghost use Rattle.sudoers_line_rows.specs.View.{alias_definition_of_view, alias_definitions_of_view, members_of_view, node_of_view};
-ghost use Rattle.sudoers_edit.specs.Splice.{ByteExtent, is_option_equal_to as stands_at, are_owned_byte_offsets_in_both_lists as owns, definition_without_member, definitions_with_one_changed, has_one_member_more as one_member_more, has_one_definition_more as one_def_more, extents_of_members, extents_of_definition_members};
+ghost use Rattle.sudoers_edit.specs.internal.Plain.{owns_bytes_from_to as owns_these};
+ghost use Rattle.sudoers_edit.specs.Splice.{ByteExtent, owned_bytes_start as the_start, is_option_equal_to as stands_at, are_owned_byte_offsets_in_both_lists as owns, definition_without_member, definitions_with_one_changed, has_one_member_more as one_member_more, has_one_definition_more as one_def_more, extents_of_members, extents_of_definition_members};
 
 use crate::owned_bytes::{HasByteExtent, owned_start_of_item, owned_stop_of_item};
 use sudoers_line_rows::{ComparableRow, are_row_lists_alike};
@@ -97,6 +98,15 @@ impl ExtraItem {
         begins & stops & fits
     }
 
+    /// Returns whether it owns exactly these bytes.
+    pub fn owns_its_bytes<T: HasByteExtent>(self, items: &RowsOfTable<'_, T>) -> bool
+        ensures { result ≡ owns_these self.at self.from self.to (map T.extent (map (T.said items.now.tables.now) items.now.rows.now)) }
+    {
+        let begins = is_optional_offset_equal_to(self.from, owned_start_of_item(items, self.at));
+        let stops = is_optional_offset_equal_to(self.to, owned_stop_of_item(items, self.at));
+        begins & stops
+    }
+
     /// Returns whether definitions say the same but for this member of one of them.
     fn are_definitions_alike_without_member(
         self,
@@ -132,7 +142,7 @@ impl ExtraItem {
 }
 
 /// Returns the members of the definition at a place.
-fn members_of_nth_definition<'a>(
+pub fn members_of_nth_definition<'a>(
     defs: &RowsOfTable<'a, AliasDefinitionRow>,
     at: usize,
 ) -> RowsOfTable<'a, MemberRow>
@@ -171,6 +181,13 @@ fn drop_first_rows<'a, T>(items: &RowsOfTable<'a, T>, count: usize) -> RowsOfTab
         tables: items.tables,
         rows,
     }
+}
+
+/// Returns whether one more comes in at this offset at the place `at`.
+pub fn starts_at<T: HasByteExtent>(items: &RowsOfTable<'_, T>, at: usize, from: usize) -> bool
+    ensures { result ≡ stands_at from (the_start at (map T.extent (map (T.said items.now.tables.now) items.now.rows.now))) }
+{
+    is_optional_offset_equal_to(from, owned_start_of_item(items, at))
 }
 
 fn is_optional_offset_equal_to(place: usize, found: Option<usize>) -> bool

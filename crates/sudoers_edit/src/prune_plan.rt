@@ -1,27 +1,34 @@
 //! A prune of the files of a policy, as the changes that it makes at once.
 ghost use Rattle.std.specs.Prelude.{◌≡◌, ◌≤◌, [], ◌∷◌, Bool, List, ℕ, length, reverse, slice_get, None, Ok, Some, IfOk, OnOk, MatchResult};
 ghost use Rattle.std.specs.Option.{option_copied, option_or};
-ghost use Rattle.sudoers_line_rows.specs.View.{node_of_view};
 ghost use Rattle.sudoers_tree.specs.declared.line_change.LineChange.TheVariants.{Swap};
 ghost use Rattle.sudoers_tree.specs.Files.{lines_of_numbered_file};
 ghost use Rattle.sudoers_tree.specs.Line.{Line as LineOf};
 ghost use Rattle.sudoers_tree.specs.Load.{LoadedPolicy};
 ghost use Rattle.sudoers_tree.specs.Policy.{texts_of_lines};
 ghost use Rattle.sudoers_tree.specs.Single.{reading_of_single_line};
+ghost use Rattle.sudoers_edit.specs.internal.Drafts.{IsFileOrderOfChanges, IsResultOfChanges, LeavesLinesBelowLimitsUnchanged, IsRemovalBelowLimitsOnAliasLine, IsRemovalOutcome, replacement_text_by_first_change, changes_without_first_if_it_replaces_line};
 ghost use Rattle.sudoers_edit.specs.Editing.{IsRefusalOrNoMemory};
-ghost use Rattle.sudoers_edit.specs.SpliceEdits.{lines_with_item_cut_out as with_less, replaced_lines_unless_too_long};
-ghost use Rattle.sudoers_edit.specs.internal.Drafts.{IsFileOrderOfChanges, IsDefinitionCutOutcome, IsResultOfChanges, LeavesLinesBelowLimitsUnchanged, IsRemovalBelowLimitsOnAliasLine, IsRemovalOutcome, replacement_text_by_first_change, changes_without_first_if_it_replaces_line};
+ghost use Rattle.sudoers_edit.specs.SpliceEdits.{lines_with_definition_dropped};
+ghost use Rattle.sudoers_edit.specs.declared.prune_plan.LastCutLine.{LastCutLine as CutLineOf};
 ghost use Rattle.sudoers_edit.specs.internal.Leading.{IsPlanOutcome};
-ghost use Rattle.sudoers_edit.specs.internal.OneMore.{IsLineTextWithItemCutOut};
+ghost use Rattle.sudoers_edit.specs.internal.LineCuts.{IsLastCutLineKnown, IsLineKnown};
 
 use crate::edit_plan::{EditPlan, allocator_of, file_number_of_line_change};
-use crate::extra_item::{ExtraItem, ItemListKind};
 use crate::fault::EditFault;
-use crate::owned_bytes::{drop_bytes_from_line, find_bytes_to_drop_item};
+use crate::line_being_cut::{LineBeingCut, read_line_to_cut};
 use crate::prune_removals::{PruneRemoval, list_prune_removals};
 use std::alloc::{AllocError, Global};
 use sudoers_edit_script::{Edit, Edits, Text};
-use sudoers_tree::{LineChange, Node, Policy, read_line};
+use sudoers_tree::{LineChange, Policy};
+
+/// The line from which a definition was taken out last, and what is known of it.
+#[derive(Drop)]
+struct LastCutLine {
+    file: usize,
+    line: usize,
+    known: LineBeingCut,
+}
 
 /// Plans a prune: all definitions of aliases that are unused are taken out, one after another, each from what the one before left.
 pub fn plan_prune(policy: &Policy) -> Result<EditPlan, EditFault>
@@ -31,8 +38,14 @@ pub fn plan_prune(policy: &Policy) -> Result<EditPlan, EditFault>
     let removals = list_prune_removals(alloc, policy)?;
     let mut changes = Vec::new(alloc);
     let mut inverse = Vec::new(alloc);
+    let mut last = None;
     for removal in removals.as_slice() {
-        let edit = add_changes_of_removal_and_get_inverse(policy, &mut changes, *removal)?;
+        let edit = add_changes_of_removal_and_get_inverse(
+            policy,
+            &mut changes,
+            &mut last,
+            *removal,
+        )?;
         inverse.push(edit)?;
     }
     changes.reverse();
@@ -53,22 +66,26 @@ fn sort_changes_by_file(changes: &mut Vec<LineChange>) -> Result<(), AllocError>
 }
 
 /// Adds to `changes` what takes `removal` out of the files that they make so far. They have the change of the last line first. Returns
-/// the edit that puts it in again.
+/// the edit that puts it in again. `last` is the line from which a definition was taken out last.
 fn add_changes_of_removal_and_get_inverse(
     policy: &Policy,
     changes: &mut Vec<LineChange>,
+    last: &mut Option<LastCutLine>,
     removal: PruneRemoval,
 ) -> Result<Edit, EditFault>
-    ensures { (now : LoadedPolicy) (below : ℕ → ℕ) (cut : ℕ → ℕ → Bool) → IsResultOfChanges policy.now (reverse changes.old.items) now
+    requires { IsLastCutLineKnown (reverse changes.old.items) last.old }
+    ensures known { IfOk result (λ _. IsLastCutLineKnown (reverse changes.new.items) last.new) }
+    ensures made { (now : LoadedPolicy) (below : ℕ → ℕ) (cut : ℕ → ℕ → Bool) → IsResultOfChanges policy.now (reverse changes.old.items) now
         → LeavesLinesBelowLimitsUnchanged policy.now below cut (reverse changes.old.items) → IsRemovalBelowLimitsOnAliasLine policy.now removal below cut
         → IsRemovalOutcome policy.now removal below now (reverse changes.new.items) result }
 {
     match removal {
-        PruneRemoval::Line { file, at } => add_line_removal_and_get_inverse(
-            policy, changes, file, at,
-        ),
+        PruneRemoval::Line { file, at } => {
+            *last = None;
+            add_line_removal_and_get_inverse(policy, changes, file, at)
+        }
         PruneRemoval::Def { file, line, at } => add_definition_removal_and_get_inverse(
-            policy, changes, file, line, at,
+            policy, changes, last, file, line, at,
         ),
     }
 }
@@ -100,11 +117,14 @@ fn add_line_removal_and_get_inverse(
 fn add_definition_removal_and_get_inverse(
     policy: &Policy,
     changes: &mut Vec<LineChange>,
+    last: &mut Option<LastCutLine>,
     file: u32,
     line: u32,
     at: u32,
 ) -> Result<Edit, EditFault>
-    ensures { (now : LoadedPolicy) (below : ℕ → ℕ) (cut : ℕ → ℕ → Bool) → IsResultOfChanges policy.now (reverse changes.old.items) now
+    requires { IsLastCutLineKnown (reverse changes.old.items) last.old }
+    ensures known { IfOk result (λ _. IsLastCutLineKnown (reverse changes.new.items) last.new) }
+    ensures made { (now : LoadedPolicy) (below : ℕ → ℕ) (cut : ℕ → ℕ → Bool) → IsResultOfChanges policy.now (reverse changes.old.items) now
         → LeavesLinesBelowLimitsUnchanged policy.now below cut (reverse changes.old.items) → IsRemovalBelowLimitsOnAliasLine policy.now (PruneRemoval.Def file line at) below cut
         → IsRemovalOutcome policy.now (PruneRemoval.Def file line at) below now (reverse changes.new.items) result }
 {
@@ -117,11 +137,20 @@ fn add_definition_removal_and_get_inverse(
     ) else {
         return Err(EditFault::NoLine);
     };
-    let (text, splice) = match cut_definition_from_line(alloc, old, at) {
+    let mut known = match known_line(alloc, last, file, line, old) {
+        Ok(known) => known,
+        Err(fault) => return Err(fault),
+    };
+    let (text, splice) = match known.cut_definition(alloc, old, at as usize) {
         Ok(cut) => cut,
         Err(fault) => return Err(fault),
     };
     add_line_replacement(changes, file as usize, line as usize, text)?;
+    *last = Some(LastCutLine {
+        file: file as usize,
+        line: line as usize,
+        known,
+    });
     Ok(Edit::AddDef {
         file,
         line,
@@ -185,59 +214,23 @@ fn add_line_replacement(
     Ok(())
 }
 
-/// Returns the line `text` without the definition at the place `at`, and the bytes that go with that definition.
-fn cut_definition_from_line(alloc: Global, text: &[u8], at: u32) -> Result<(Text, Text), EditFault>
-    ensures { (n : ℕ) (lines : List LineOf) (line : LineOf) → reading_of_single_line line.text ≡ Some line.node → slice_get lines n ≡ Some line → line.text ≡ text.now
-        → IsDefinitionCutOutcome n at lines line result }
-{
-    let Some(reading) = read_line(alloc, text)? else {
-        return Err(EditFault::NoAlias);
-    };
-    let node = reading.node();
-    let Node::Alias { defs, .. } = node else {
-        return Err(EditFault::NoAlias);
-    };
-    let (from, to) = match find_bytes_to_drop_item(&defs, at as usize) {
-        Ok(bytes) => bytes,
-        Err(fault) => return Err(fault),
-    };
-    let less = match cut_bytes_of_definition_if_line_still_reads(
-        alloc,
-        at as usize,
-        from,
-        to,
-        text,
-        &node,
-    ) {
-        Ok(less) => less,
-        Err(fault) => return Err(fault),
-    };
-    let splice = Text::from_slice(alloc, &text[from..to])?;
-    Ok((Text::from_vec(less), splice))
-}
-
-/// Returns the line `old`, which says `says`, without the definition at the place `at`, which owns the bytes from `from` up to `to`.
-fn cut_bytes_of_definition_if_line_still_reads(
+/// Returns what is known of the line `line` of the file `file`, whose text is `text`: what `last` knows of it, or what is read of it.
+fn known_line(
     alloc: Global,
-    at: usize,
-    from: usize,
-    to: usize,
-    old: &[u8],
-    says: &Node<'_>,
-) -> Result<Vec<u8>, EditFault>
-    requires { (from ≤ to) × (to ≤ length old.now) }
-    ensures cut { IfOk result (λ text. IsLineTextWithItemCutOut ItemListKind.Definitions at from to (record { text = old.now; node = node_of_view says.now }) text.items) }
-    ensures outcome { (n : ℕ) (lines : List LineOf) → MatchResult result
-        (λ text. with_less ItemListKind.Definitions at from to n (record { text = old.now; node = node_of_view says.now }) lines ≡ replaced_lines_unless_too_long n text.items (texts_of_lines lines))
-        (λ fault. IsRefusalOrNoMemory fault (with_less ItemListKind.Definitions at from to n (record { text = old.now; node = node_of_view says.now }) lines)) }
+    last: &mut Option<LastCutLine>,
+    file: u32,
+    line: u32,
+    text: &[u8],
+) -> Result<LineBeingCut, EditFault>
+    requires { (l : CutLineOf) → last.old ≡ Some l → l.file ≡ file → l.line ≡ line → IsLineKnown l.known text.now }
+    ensures { MatchResult result (λ known. IsLineKnown known text.now)
+        (λ fault. (n at : ℕ) (lines : List LineOf) (line : LineOf) → reading_of_single_line line.text ≡ Some line.node → slice_get lines n ≡ Some line → line.text ≡ text.now
+        → IsRefusalOrNoMemory fault (lines_with_definition_dropped n at lines)) }
 {
-    let text = drop_bytes_from_line(alloc, old, from, to)?;
-    let Some(new) = read_line(alloc, text.as_slice())? else {
-        return Err(EditFault::BadSplice);
-    };
-    let one = ExtraItem { at, from, to };
-    if !one.is_only_difference(ItemListKind::Definitions, says, &new.node()) {
-        return Err(EditFault::BadSplice);
+    if let Some(cut) = last.take() {
+        if cut.file == file as usize && cut.line == line as usize {
+            return Ok(cut.known);
+        }
     }
-    Ok(text)
+    read_line_to_cut(alloc, text)
 }

@@ -7,6 +7,7 @@ ghost use Rattle.sudoers_tree.specs.Changed.{lines_with_one_replaced};
 ghost use Rattle.sudoers_tree.specs.Files.{lines_of_numbered_file};
 ghost use Rattle.sudoers_tree.specs.Line.{Line as LineOf, line_of_view, lines_of_rows};
 ghost use Rattle.sudoers_tree.specs.Policy.{texts_of_lines};
+ghost use Rattle.sudoers_tree.specs.Single.{reading_of_single_line};
 ghost use Rattle.sudoers_tree.specs.declared.place.Place.{Place as PlaceOf};
 ghost use Rattle.sudoers_edit.specs.Editing.{IsRefusalOrNoMemory, policy_with_file_defining_alias_edited};
 ghost use Rattle.sudoers_edit.specs.SpliceEdits.{definitions_of_alias_line, result_with_definition_at, result_with_line_definitions, lines_with_item_cut_out as with_less, lines_with_item_put_in as with_more, replaced_lines_unless_too_long};
@@ -24,6 +25,7 @@ use crate::fault::EditFault;
 use crate::owned_bytes::{
     drop_bytes_from_line, find_bytes_to_drop_item, find_offset_to_add_item, insert_splice_into_line,
 };
+use crate::plain_cuts::{is_sure_cut, is_sure_put};
 use std::alloc::{AllocError, Global};
 use sudoers_edit_script::{Edit, Edits, Text};
 use sudoers_text::{LINE_LIMIT, ends_in_lf};
@@ -253,13 +255,18 @@ fn add_item_to_line(
     splice: &[u8],
     old: &Line<'_>,
 ) -> Result<Vec<u8>, EditFault>
-    requires { from ≤ length (line_of_view old.now).text }
+    requires { (from ≤ length (line_of_view old.now).text) × (reading_of_single_line (line_of_view old.now).text ≡ Some (line_of_view old.now).node) }
     ensures put { IfOk result (λ text. IsLineTextWithItemPutIn among at from splice.now (line_of_view old.now) text.items) }
     ensures outcome { (n : ℕ) (lines : List LineOf) → MatchResult result
         (λ text. with_more among at from n splice.now (line_of_view old.now) lines ≡ replaced_lines_unless_too_long n text.items (texts_of_lines lines))
         (λ fault. IsRefusalOrNoMemory fault (with_more among at from n splice.now (line_of_view old.now) lines)) }
 {
     let text = insert_splice_into_line(alloc, old.text, from, splice)?;
+    if let ItemListKind::Members { def } = among {
+        if is_sure_put(alloc, def, at, from, splice, old)? {
+            return Ok(text);
+        }
+    }
     let Some(new) = read_line(alloc, text.as_slice())? else {
         return Err(EditFault::BadSplice);
     };
@@ -282,17 +289,20 @@ pub fn cut_item_from_line(
     old: &[u8],
     says: &Node<'_>,
 ) -> Result<Vec<u8>, EditFault>
-    requires { (from ≤ to) × (to ≤ length old.now) }
+    requires { (from ≤ to) × (to ≤ length old.now) × (reading_of_single_line old.now ≡ Some (node_of_view says.now)) }
     ensures cut { IfOk result (λ text. IsLineTextWithItemCutOut among at from to (record { text = old.now; node = node_of_view says.now }) text.items) }
     ensures outcome { (n : ℕ) (lines : List LineOf) → MatchResult result
         (λ text. with_less among at from to n (record { text = old.now; node = node_of_view says.now }) lines ≡ replaced_lines_unless_too_long n text.items (texts_of_lines lines))
         (λ fault. IsRefusalOrNoMemory fault (with_less among at from to n (record { text = old.now; node = node_of_view says.now }) lines)) }
 {
     let text = drop_bytes_from_line(alloc, old, from, to)?;
+    let one = ExtraItem { at, from, to };
+    if is_sure_cut(one, among, old, says) {
+        return Ok(text);
+    }
     let Some(new) = read_line(alloc, text.as_slice())? else {
         return Err(EditFault::BadSplice);
     };
-    let one = ExtraItem { at, from, to };
     if !one.is_only_difference(among, says, &new.node()) {
         return Err(EditFault::BadSplice);
     }

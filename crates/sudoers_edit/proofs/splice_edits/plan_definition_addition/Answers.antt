@@ -5,6 +5,7 @@ use Rattle.sudoers_edit.specs.declared.extra_item.ItemListKind.TheVariants as am
 use Rattle.sudoers_edit.proofs.DefLemmas.{addition_with_definitions_puts_item_in, definition_addition_replaces_file_line, addition_without_definitions_is_refused, edit_of_present_file_edits_given_lines, refusal_of_lines_is_refusal_of_edit, fault_of_lines_is_fault_of_edit}
 use Rattle.sudoers_edit.proofs.SwapLemmas.{owned_start_of_definition_is_within_line}
 use Rattle.sudoers_edit.proofs.LawsBelow.{lines_of_loaded_file_are_sound_parsed}
+use Rattle.sudoers_edit.proofs.WayBackLemmas.{numbered_line_reads_as_its_node}
 use Rattle.sudoers_edit.proofs.splice_edits.plan_definition_addition.Goals as goal
 
 pub returns-in-Err : goal.returns-in-Err
@@ -46,10 +47,12 @@ pub add_item_to_line-requires : goal.add_item_to_line-requires
 add_item_to_line-requires c =
     let lines : List Line = lines_of_rows c.lines_of_file-lines.result in
     let line : Line = line_of_view c.in-Ok.found.0 in
-    owned_start_of_definition_is_within_line lines c.args.line c.args.at c.in-Ok-find_offset_to_add_item.from line (alias_definitions_of_view c.in-Ok.found.1)
-    (subst AreSoundParsedLines (sym c.lines_of_file-lines.ensures) (lines_of_loaded_file_are_sound_parsed (named_files_of_policy c.args.policy.now) c.args.policy.now c.allocator_of-alloc.ensures c.args.file))
-    c.in-Ok.ensures.found.0 c.in-Ok.ensures.found.1
-    (c.in-Ok-find_offset_to_add_item.ensures (λ from. lines_with_item_put_in among.Definitions c.args.at from c.args.line c.args.splice.now line lines)).1
+    let sound : AreSoundParsedLines lines =
+    subst AreSoundParsedLines (sym c.lines_of_file-lines.ensures) (lines_of_loaded_file_are_sound_parsed (named_files_of_policy c.args.policy.now) c.args.policy.now c.allocator_of-alloc.ensures c.args.file) in (
+      owned_start_of_definition_is_within_line lines c.args.line c.args.at c.in-Ok-find_offset_to_add_item.from line (alias_definitions_of_view c.in-Ok.found.1) sound c.in-Ok.ensures.found.0 c.in-Ok.ensures.found.1
+          (c.in-Ok-find_offset_to_add_item.ensures (λ from. lines_with_item_put_in among.Definitions c.args.at from c.args.line c.args.splice.now line lines)).1,
+      numbered_line_reads_as_its_node lines c.args.line line sound.says c.in-Ok.ensures.found.0,
+    )
 
 pub plan_line_replacement-requires : goal.plan_line_replacement-requires
 plan_line_replacement-requires c =

@@ -5,6 +5,7 @@ use Rattle.sudoers_edit.specs.declared.extra_item.ItemListKind.TheVariants as am
 use Rattle.sudoers_edit.proofs.DefLemmas.{drop_with_definitions_cuts_item_out, definition_drop_replaces_file_line, drop_without_definitions_is_refused, edit_of_present_file_edits_given_lines, refusal_of_lines_is_refusal_of_edit, fault_of_lines_is_fault_of_edit}
 use Rattle.sudoers_edit.proofs.SwapLemmas.{owned_bytes_of_definition_are_within_text}
 use Rattle.sudoers_edit.proofs.LawsBelow.{lines_of_loaded_file_are_sound_parsed}
+use Rattle.sudoers_edit.proofs.WayBackLemmas.{numbered_line_reads_as_its_node}
 use Rattle.sudoers_edit.proofs.splice_edits.plan_drop_of_definition_unless_only_one.Goals as goal
 
 pub returns-in-Err : goal.returns-in-Err
@@ -49,9 +50,11 @@ cut_item_from_line-requires c =
     let lines : List Line = lines_of_rows c.lines_of_file-lines.result in
     let line : Line = line_of_view c.in-Ok.found.0 in
     let place = c.in-Ok-find_bytes_to_drop_item.ensures (λ from to. lines_with_item_cut_out among.Definitions at from to n line lines) in
-    owned_bytes_of_definition_are_within_text lines n at c.in-Ok-find_bytes_to_drop_item.bytes.0 c.in-Ok-find_bytes_to_drop_item.bytes.1 line (alias_definitions_of_view c.in-Ok.found.1)
-    (subst AreSoundParsedLines (sym c.lines_of_file-lines.ensures) (lines_of_loaded_file_are_sound_parsed (named_files_of_policy c.args.policy.now) c.args.policy.now c.allocator_of-alloc.ensures c.args.file))
-    c.in-Ok.ensures.found.0 c.in-Ok.ensures.found.1 place.1 place.2
+    let sound : AreSoundParsedLines lines =
+    subst AreSoundParsedLines (sym c.lines_of_file-lines.ensures) (lines_of_loaded_file_are_sound_parsed (named_files_of_policy c.args.policy.now) c.args.policy.now c.allocator_of-alloc.ensures c.args.file) in
+    let within = owned_bytes_of_definition_are_within_text lines n at c.in-Ok-find_bytes_to_drop_item.bytes.0 c.in-Ok-find_bytes_to_drop_item.bytes.1 line (alias_definitions_of_view c.in-Ok.found.1)
+    sound c.in-Ok.ensures.found.0 c.in-Ok.ensures.found.1 place.1 place.2 in
+    (within.0, within.1, numbered_line_reads_as_its_node lines n line sound.says c.in-Ok.ensures.found.0)
 
 pub plan_line_replacement-requires : goal.plan_line_replacement-requires
 plan_line_replacement-requires c =

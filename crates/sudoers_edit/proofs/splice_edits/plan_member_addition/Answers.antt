@@ -1,4 +1,4 @@
-use Rattle.sudoers_edit.proofs.Common.{AddMember, Def, DefinitionFilePlace, DropMember, EditFault, EditReplacesFileLine, IsAliasDefinedAt, IsRefusalOrNoMemory, Kind, Line, LineTexts, List, LoadedPolicy, Result, []}
+use Rattle.sudoers_edit.proofs.Common.{AddMember, AreSoundParsedLines, Def, DefinitionFilePlace, DropMember, EditFault, EditReplacesFileLine, IsAliasDefinedAt, IsRefusalOrNoMemory, Kind, Line, LineTexts, List, LoadedPolicy, Result, []}
 use Rattle.sudoers_edit.proofs.Common.{alias_definition_of_view, ap, inr, line_of_view, lines_of_numbered_file, lines_with_item_put_in, lines_with_member_added, named_files_of_policy, place_within_file_of_definition}
 use Rattle.sudoers_edit.proofs.Common.{slice_get_within, subst, sym, ℕ, ◌∙◌, ◌∷◌, ◌≡◌}
 use Rattle.sudoers_edit.specs.declared.extra_item.ItemListKind.TheVariants as among
@@ -6,6 +6,7 @@ use Rattle.sudoers_edit.proofs.DefLemmas.{refusal_of_lines_is_refusal_of_edit, f
 use Rattle.sudoers_edit.proofs.MemberLemmas.{member_addition_at_alias_puts_item_in, member_addition_replaces_file_line, alias_refusal_refuses_member_edits, edit_at_defined_alias_edits_its_file}
 use Rattle.sudoers_edit.proofs.SwapLemmas.{owned_start_of_member_is_within_line}
 use Rattle.sudoers_edit.proofs.LawsBelow.{lines_of_loaded_file_are_sound_parsed, member_edit_laws_hold}
+use Rattle.sudoers_edit.proofs.WayBackLemmas.{numbered_line_reads_as_its_node}
 use Rattle.sudoers_edit.proofs.splice_edits.plan_member_addition.Goals as goal
 
 pub returns-in-Err : goal.returns-in-Err
@@ -48,8 +49,11 @@ add_item_to_line-requires c =
     let lines : List Line = lines_of_numbered_file policy.files place.file in
     let next : ℕ → Result LineTexts EditFault = λ from. lines_with_item_put_in (among.Members place.def) c.args.at from place.line c.args.splice.now line lines in
     let is : IsAliasDefinedAt c.args.kind c.args.name.now policy place line d = c.in-Ok.ensures.found in
-    owned_start_of_member_is_within_line lines place.line place.def c.args.at c.in-Ok-find_offset_to_add_item.from line is.defs d (lines_of_loaded_file_are_sound_parsed (named_files_of_policy policy) policy c.allocator_of-alloc.ensures place.file)
-    is.here is.makes is.stands ((c.in-Ok-find_offset_to_add_item.ensures next).1)
+    let sound : AreSoundParsedLines lines = lines_of_loaded_file_are_sound_parsed (named_files_of_policy policy) policy c.allocator_of-alloc.ensures place.file in (
+      owned_start_of_member_is_within_line lines place.line place.def c.args.at c.in-Ok-find_offset_to_add_item.from line is.defs d sound is.here is.makes is.stands
+          ((c.in-Ok-find_offset_to_add_item.ensures next).1),
+      numbered_line_reads_as_its_node lines place.line line sound.says is.here,
+    )
 
 pub plan_line_replacement-requires : goal.plan_line_replacement-requires
 plan_line_replacement-requires c =

@@ -1,4 +1,4 @@
-use Rattle.sudoers_edit.proofs.Common.{AddMember, Def, DefinitionFilePlace, DropMember, EditFault, EditReplacesFileLine, IsAliasDefinedAt, IsRefusalOrNoMemory, Kind, Line, LineTexts, List, LoadedPolicy, Result, Some}
+use Rattle.sudoers_edit.proofs.Common.{AddMember, AreSoundParsedLines, Def, DefinitionFilePlace, DropMember, EditFault, EditReplacesFileLine, IsAliasDefinedAt, IsRefusalOrNoMemory, Kind, Line, LineTexts, List, LoadedPolicy, Result, Some}
 use Rattle.sudoers_edit.proofs.Common.{[], alias_definition_of_view, bytes_between, extents_of_members, inr, line_of_view, lines_of_numbered_file, lines_with_item_cut_out, lines_with_member_dropped}
 use Rattle.sudoers_edit.proofs.Common.{named_files_of_policy, owned_bytes_start, owned_bytes_stop, place_within_file_of_definition, refl, slice_get_within, subst, sym, ℕ, ◌∙◌, ◌∷◌, ◌≡◌}
 use Rattle.sudoers_edit.specs.declared.extra_item.ItemListKind.TheVariants as among
@@ -6,6 +6,7 @@ use Rattle.sudoers_edit.proofs.DefLemmas.{refusal_of_lines_is_refusal_of_edit, f
 use Rattle.sudoers_edit.proofs.MemberLemmas.{alias_refusal_refuses_member_edits, edit_at_defined_alias_edits_its_file, member_drop_at_alias_cuts_item_out, member_drop_replaces_file_line}
 use Rattle.sudoers_edit.proofs.SwapLemmas.{owned_bytes_of_member_are_within_line}
 use Rattle.sudoers_edit.proofs.LawsBelow.{lines_of_loaded_file_are_sound_parsed, member_edit_laws_hold}
+use Rattle.sudoers_edit.proofs.WayBackLemmas.{numbered_line_reads_as_its_node}
 use Rattle.sudoers_edit.proofs.splice_edits.plan_member_drop.Goals as goal
 
 pub returns-in-Err : goal.returns-in-Err
@@ -51,8 +52,10 @@ cut_item_from_line-requires c =
     let bytes = c.in-Ok-find_bytes_to_drop_item.ensures next in
     let begins : owned_bytes_start c.args.at (extents_of_members d.members) ≡ Some c.in-Ok-find_bytes_to_drop_item.bytes.0 = bytes.1 in
     let stops : owned_bytes_stop c.args.at (extents_of_members d.members) ≡ Some c.in-Ok-find_bytes_to_drop_item.bytes.1 = bytes.2 in
-    owned_bytes_of_member_are_within_line lines place.line place.def c.args.at c.in-Ok-find_bytes_to_drop_item.bytes.0 c.in-Ok-find_bytes_to_drop_item.bytes.1 line is.defs d
-    (lines_of_loaded_file_are_sound_parsed (named_files_of_policy policy) policy c.allocator_of-alloc.ensures place.file) is.here is.makes is.stands begins stops
+    let sound : AreSoundParsedLines lines = lines_of_loaded_file_are_sound_parsed (named_files_of_policy policy) policy c.allocator_of-alloc.ensures place.file in
+    let within = owned_bytes_of_member_are_within_line lines place.line place.def c.args.at c.in-Ok-find_bytes_to_drop_item.bytes.0 c.in-Ok-find_bytes_to_drop_item.bytes.1 line is.defs d
+    sound is.here is.makes is.stands begins stops in
+    (within.0, within.1, numbered_line_reads_as_its_node lines place.line line sound.says is.here)
 
 pub plan_line_replacement-requires : goal.plan_line_replacement-requires
 plan_line_replacement-requires c =
