@@ -52,3 +52,12 @@ pub mod KeptRows
 pub mod KeptNames
 pub mod WalksBefore
 pub mod Known
+pub mod SplicedLists
+pub mod SplicedWalk
+pub mod InPlaceLoads
+pub mod MovedNames
+pub mod WithinReach
+pub mod OneChange
+pub mod MovedPlaces
+pub mod ChangedRows
+pub mod LineTaken

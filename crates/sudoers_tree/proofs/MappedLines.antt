@@ -3,6 +3,8 @@ use Rattle.sudoers_tree.proofs.Common.{Bool, Err, InFile, Line, LineToLinesMappi
 use Rattle.sudoers_tree.proofs.Common.{ap₂, arith, definitions_from_line_number, definitions_in_line, definitions_of_lines, eq-eqb, false, first_definition_fault, first_of_two_faults, is_file_on_walk, length}
 use Rattle.sudoers_tree.proofs.Common.{length-append, length_push, list_any, list_any-append, load_result_and_then, mapped_lines_at_spots, nat_eq, refl, subst, sym, true, value_unless_file_fault}
 use Rattle.sudoers_tree.proofs.Common.{walk_with_file_entered, walk_with_line_appended, ℕ, ◌++◌, ◌+◌, ◌||◌, ◌∙◌, ◌∷◌, ◌≡◌}
+use Rattle.sudoers_tree.proofs.Common.{ParsedFile}
+use Rattle.sudoers_tree.specs.internal.MovedSpots.{mapped_line_number, mapped_spots, spots_from_line_number}
 use Rattle.sudoers_tree.proofs.Joined.{definitions_of_appended_lines_are_appended, definitions_with_last_line_are_appended}
 use Rattle.sudoers_tree.proofs.Passed.{faultless_line_keeps_walk_faultless}
 use Rattle.sudoers_tree.proofs.Sound.{first_fault_of_append_is_of_first_or_rest}
@@ -25,6 +27,23 @@ mapped_lines_with_last_line_are_appended : (g : LineToLinesMapping) (spots : Lis
 mapped_lines_with_last_line_are_appended g spots at lines line paired =
     mapped_lines_of_appended_lines_are_appended g spots (at ∷ []) lines (line ∷ []) paired
     ∙ ap (λ ls. mapped_lines_at_spots g spots lines ++ ls) (append-nil (g at.file at.line line))
+
+mapped_spots_of_appended_lines_are_appended : (g : LineToLinesMapping) (files others : List ParsedFile) (spots more : List WalkLineSpot) (lines behind : List Line) → length spots ≡ length lines
+    → mapped_spots g files others (spots ++ more) (lines ++ behind) ≡ mapped_spots g files others spots lines ++ mapped_spots g files others more behind
+mapped_spots_of_appended_lines_are_appended g files others [] more [] behind paired = refl
+mapped_spots_of_appended_lines_are_appended g files others [] more (line ∷ lines) behind paired = absurd (omega (arith, paired))
+mapped_spots_of_appended_lines_are_appended g files others (at ∷ spots) more [] behind paired = absurd (omega (arith, paired))
+mapped_spots_of_appended_lines_are_appended g files others (at ∷ spots) more (line ∷ lines) behind paired =
+    let here : List WalkLineSpot = spots_from_line_number others at.file (mapped_line_number g files at.file at.line) (g at.file at.line line) in
+    ap (λ ls. here ++ ls) (mapped_spots_of_appended_lines_are_appended g files others spots more lines behind (omega (arith, paired)))
+    ∙ sym (append_assoc here (mapped_spots g files others spots lines) (mapped_spots g files others more behind))
+
+mapped_spots_with_last_line_are_appended : (g : LineToLinesMapping) (files others : List ParsedFile) (spots : List WalkLineSpot) (at : WalkLineSpot) (lines : List Line) (line : Line) → length spots ≡ length lines
+    → mapped_spots g files others (spots ++ at ∷ []) (lines ++ line ∷ [])
+    ≡ mapped_spots g files others spots lines ++ spots_from_line_number others at.file (mapped_line_number g files at.file at.line) (g at.file at.line line)
+mapped_spots_with_last_line_are_appended g files others spots at lines line paired =
+    mapped_spots_of_appended_lines_are_appended g files others spots (at ∷ []) lines (line ∷ []) paired
+    ∙ ap (λ ls. mapped_spots g files others spots lines ++ ls) (append-nil (spots_from_line_number others at.file (mapped_line_number g files at.file at.line) (g at.file at.line line)))
 
 -- ---- what a walk appends
 
@@ -93,15 +112,16 @@ extended_walk_keeps_files_on_it f w now more on =
 -- ---- a walk that follows another
 
 -- The lines of the walk v are those that come of the lines of the walk w, and no name that they define has a fault. The walk v has passed
--- the same files.
-pub record IsWalkFollowedByMappedWalk (g : LineToLinesMapping) (v w : WalkState) : Type 0 where
+-- the same files, and its lines stand at the spots to which those of w moved.
+pub record IsWalkFollowedByMappedWalk (files others : List ParsedFile) (g : LineToLinesMapping) (v w : WalkState) : Type 0 where
   pub paired : length w.spots ≡ length w.lines
   pub lines : v.lines ≡ mapped_lines_at_spots g w.spots w.lines
+  pub spots : v.spots ≡ mapped_spots g files others w.spots w.lines
   pub on : v.on ≡ w.on
   pub stand : first_definition_fault [] (definitions_of_lines v.lines) ≡ None
 
-pub entering_file_keeps_mapped_walk_following : (g : LineToLinesMapping) (f : ℕ) (v w : WalkState) → IsWalkFollowedByMappedWalk g v w → IsWalkFollowedByMappedWalk g (walk_with_file_entered f v) (walk_with_file_entered f w)
-entering_file_keeps_mapped_walk_following g f v w is = record { paired = is.paired; lines = is.lines; on = ap (λ on. on ++ f ∷ []) is.on; stand = is.stand }
+pub entering_file_keeps_mapped_walk_following : (files others : List ParsedFile) (g : LineToLinesMapping) (f : ℕ) (v w : WalkState) → IsWalkFollowedByMappedWalk files others g v w → IsWalkFollowedByMappedWalk files others g (walk_with_file_entered f v) (walk_with_file_entered f w)
+entering_file_keeps_mapped_walk_following files others g f v w is = record { paired = is.paired; lines = is.lines; spots = is.spots; on = ap (λ on. on ++ f ∷ []) is.on; stand = is.stand }
 
 -- the walk with this line at this spot appended
 abbrev pub walk_with_line_at_spot : WalkLineSpot → Line → WalkState → WalkState
@@ -118,17 +138,21 @@ appending_line_extends_walk at line w = record {
   on_are = append-nil w.on;
 }
 
-mapped_lines_after_line_are_appended : (g : LineToLinesMapping) (at : WalkLineSpot) (line : Line) (v w : WalkState) → IsWalkFollowedByMappedWalk g v w
+mapped_lines_after_line_are_appended : (files others : List ParsedFile) (g : LineToLinesMapping) (at : WalkLineSpot) (line : Line) (v w : WalkState) → IsWalkFollowedByMappedWalk files others g v w
     → v.lines ++ g at.file at.line line ≡ mapped_lines_at_spots g (w.spots ++ at ∷ []) (w.lines ++ line ∷ [])
-mapped_lines_after_line_are_appended g at line v w is =
+mapped_lines_after_line_are_appended files others g at line v w is =
     ap (λ ls. ls ++ g at.file at.line line) is.lines ∙ sym (mapped_lines_with_last_line_are_appended g w.spots at w.lines line is.paired)
 
 -- One walk has passed a line, and the other the lines that come of it.
-pub mapped_walk_follows_after_line : (g : LineToLinesMapping) (at : WalkLineSpot) (line : Line) (v last w : WalkState) → IsWalkFollowedByMappedWalk g v w → last.lines ≡ v.lines ++ g at.file at.line line
-    → last.on ≡ v.on → first_definition_fault [] (definitions_of_lines last.lines) ≡ None → IsWalkFollowedByMappedWalk g last (walk_with_line_at_spot at line w)
-mapped_walk_follows_after_line g at line v last w is lines on stand = record {
+pub mapped_walk_follows_after_line : (files others : List ParsedFile) (g : LineToLinesMapping) (at : WalkLineSpot) (line : Line) (v last w : WalkState) → IsWalkFollowedByMappedWalk files others g v w → last.lines ≡ v.lines ++ g at.file at.line line
+    → last.spots ≡ v.spots ++ spots_from_line_number others at.file (mapped_line_number g files at.file at.line) (g at.file at.line line)
+    → last.on ≡ v.on → first_definition_fault [] (definitions_of_lines last.lines) ≡ None → IsWalkFollowedByMappedWalk files others g last (walk_with_line_at_spot at line w)
+mapped_walk_follows_after_line files others g at line v last w is lines spots on stand = record {
   paired = omega (arith, is.paired, length_push w.spots at, length_push w.lines line);
-  lines = lines ∙ mapped_lines_after_line_are_appended g at line v w is;
+  lines = lines ∙ mapped_lines_after_line_are_appended files others g at line v w is;
+  spots =
+      spots ∙ ap (λ ss. ss ++ spots_from_line_number others at.file (mapped_line_number g files at.file at.line) (g at.file at.line line)) is.spots
+      ∙ sym (mapped_spots_with_last_line_are_appended g files others w.spots at w.lines line is.paired);
   on = on ∙ is.on;
   stand = stand;
 }
@@ -149,16 +173,16 @@ name_fault_of_first_lines_is_first_of_all lines others fault is =
     ∙ ap (λ o. first_of_two_faults o (first_definition_fault (definitions_of_lines lines) behind)) is
 
 -- So is one in the lines that come of a line on the walk.
-pub name_fault_in_mapped_lines_is_first_of_walk : (g : LineToLinesMapping) (at : WalkLineSpot) (line : Line) (v w total : WalkState) → IsWalkFollowedByMappedWalk g v w → IsExtendedWalk (walk_with_line_at_spot at line w) total
+pub name_fault_in_mapped_lines_is_first_of_walk : (files others : List ParsedFile) (g : LineToLinesMapping) (at : WalkLineSpot) (line : Line) (v w total : WalkState) → IsWalkFollowedByMappedWalk files others g v w → IsExtendedWalk (walk_with_line_at_spot at line w) total
     → (fault : ReadFault) → first_definition_fault [] (definitions_of_lines (v.lines ++ g at.file at.line line)) ≡ Some fault → IsFirstNameFaultOfMappedWalk g total fault
-name_fault_in_mapped_lines_is_first_of_walk g at line v w total follows more fault is =
+name_fault_in_mapped_lines_is_first_of_walk files others g at line v w total follows more fault is =
     let passed : WalkState = walk_with_line_at_spot at line w in
     let paired : length passed.spots ≡ length passed.lines =
     omega (arith, follows.paired, length_push w.spots at, length_push w.lines line) in
     let whole : mapped_lines_at_spots g passed.spots passed.lines ++ mapped_lines_at_spots g more.spots more.lines ≡ mapped_lines_at_spots g total.spots total.lines =
     sym (mapped_lines_of_appended_lines_are_appended g passed.spots more.spots passed.lines more.lines paired) ∙ ap₂ (mapped_lines_at_spots g) more.spots_are more.lines_are in
     let front : first_definition_fault [] (definitions_of_lines (mapped_lines_at_spots g passed.spots passed.lines)) ≡ Some fault =
-    ap (λ ls. first_definition_fault [] (definitions_of_lines ls)) (sym (mapped_lines_after_line_are_appended g at line v w follows)) ∙ is in
+    ap (λ ls. first_definition_fault [] (definitions_of_lines ls)) (sym (mapped_lines_after_line_are_appended files others g at line v w follows)) ∙ is in
     ap (λ ls. first_definition_fault [] (definitions_of_lines ls)) (sym whole)
     ∙ name_fault_of_first_lines_is_first_of_all (mapped_lines_at_spots g passed.spots passed.lines) (mapped_lines_at_spots g more.spots more.lines) fault front
 
@@ -172,44 +196,44 @@ pub record IsOutcomeWithFirstNameFault (g : LineToLinesMapping) (total : WalkSta
   pub first : IsFirstNameFaultOfMappedWalk g total fault
 
 -- The outcome is a walk that follows this one, unless a name has a fault.
-pub data ArrivesAtFollowingWalkOrNameFault (g : LineToLinesMapping) (total now : WalkState) (outcome : WalkResult) : Type 0 where
-  arrived : (last : WalkState) → outcome ≡ Ok last → IsWalkFollowedByMappedWalk g last now → ArrivesAtFollowingWalkOrNameFault g total now outcome
-  faulty : IsOutcomeWithFirstNameFault g total outcome → ArrivesAtFollowingWalkOrNameFault g total now outcome
+pub data ArrivesAtFollowingWalkOrNameFault (files others : List ParsedFile) (g : LineToLinesMapping) (total now : WalkState) (outcome : WalkResult) : Type 0 where
+  arrived : (last : WalkState) → outcome ≡ Ok last → IsWalkFollowedByMappedWalk files others g last now → ArrivesAtFollowingWalkOrNameFault files others g total now outcome
+  faulty : IsOutcomeWithFirstNameFault g total outcome → ArrivesAtFollowingWalkOrNameFault files others g total now outcome
 
 -- One part of a walk goes from w to `now`. The other walk goes along: from a walk that follows w it arrives at one that follows `now`, if
 -- the whole walk has both parts.
-pub record MappedWalkGoesAlongPart (g : LineToLinesMapping) (total w now : WalkState) (go : WalkState → WalkResult) : Type 0 where
+pub record MappedWalkGoesAlongPart (files others : List ParsedFile) (g : LineToLinesMapping) (total w now : WalkState) (go : WalkState → WalkResult) : Type 0 where
   pub more : IsExtendedWalk w now
-  pub arrives : (v : WalkState) → IsWalkFollowedByMappedWalk g v w → IsExtendedWalk now total → ArrivesAtFollowingWalkOrNameFault g total now (go v)
+  pub arrives : (v : WalkState) → IsWalkFollowedByMappedWalk files others g v w → IsExtendedWalk now total → ArrivesAtFollowingWalkOrNameFault files others g total now (go v)
 
 -- The other walk goes on where it arrives.
-pub mapped_walk_goes_on_where_it_arrives : (g : LineToLinesMapping) (total within now : WalkState) (outcome : WalkResult) (later : WalkState → WalkResult) → ArrivesAtFollowingWalkOrNameFault g total within outcome
-    → ((last : WalkState) → IsWalkFollowedByMappedWalk g last within → ArrivesAtFollowingWalkOrNameFault g total now (later last)) → ArrivesAtFollowingWalkOrNameFault g total now (load_result_and_then outcome later)
-mapped_walk_goes_on_where_it_arrives g total within now outcome later (arrived last is follows) next =
-    subst (ArrivesAtFollowingWalkOrNameFault g total now) (ap (λ r. load_result_and_then r later) (sym is)) (next last follows)
-mapped_walk_goes_on_where_it_arrives g total within now outcome later (faulty wrong) next =
+pub mapped_walk_goes_on_where_it_arrives : (files others : List ParsedFile) (g : LineToLinesMapping) (total within now : WalkState) (outcome : WalkResult) (later : WalkState → WalkResult) → ArrivesAtFollowingWalkOrNameFault files others g total within outcome
+    → ((last : WalkState) → IsWalkFollowedByMappedWalk files others g last within → ArrivesAtFollowingWalkOrNameFault files others g total now (later last)) → ArrivesAtFollowingWalkOrNameFault files others g total now (load_result_and_then outcome later)
+mapped_walk_goes_on_where_it_arrives files others g total within now outcome later (arrived last is follows) next =
+    subst (ArrivesAtFollowingWalkOrNameFault files others g total now) (ap (λ r. load_result_and_then r later) (sym is)) (next last follows)
+mapped_walk_goes_on_where_it_arrives files others g total within now outcome later (faulty wrong) next =
     faulty (record { name = wrong.name; fault = wrong.fault; is = ap (λ r. load_result_and_then r later) wrong.is; first = wrong.first })
 
-pub mapped_walk_goes_along_two_parts : (g : LineToLinesMapping) (total w within now : WalkState) (first later : WalkState → WalkResult) → MappedWalkGoesAlongPart g total w within first
-    → MappedWalkGoesAlongPart g total within now later → MappedWalkGoesAlongPart g total w now (λ v. load_result_and_then (first v) later)
-mapped_walk_goes_along_two_parts g total w within now first later one two = record {
+pub mapped_walk_goes_along_two_parts : (files others : List ParsedFile) (g : LineToLinesMapping) (total w within now : WalkState) (first later : WalkState → WalkResult) → MappedWalkGoesAlongPart files others g total w within first
+    → MappedWalkGoesAlongPart files others g total within now later → MappedWalkGoesAlongPart files others g total w now (λ v. load_result_and_then (first v) later)
+mapped_walk_goes_along_two_parts files others g total w within now first later one two = record {
   more = walk_extension_is_transitive w within now one.more two.more;
   arrives = λ v follows more.
-      mapped_walk_goes_on_where_it_arrives g total within now (first v) later (one.arrives v follows (walk_extension_is_transitive within now total two.more more))
+      mapped_walk_goes_on_where_it_arrives files others g total within now (first v) later (one.arrives v follows (walk_extension_is_transitive within now total two.more more))
       (λ last here. two.arrives last here more);
 }
 
 -- The other walk takes a line, unless one of its names has a fault.
-pub mapped_walk_takes_line_or_has_name_fault : (g : LineToLinesMapping) (total now : WalkState) (name : List ℕ) (at : WalkLineSpot) (line : Line) (v : WalkState) (later : WalkState → WalkResult)
+pub mapped_walk_takes_line_or_has_name_fault : (files others : List ParsedFile) (g : LineToLinesMapping) (total now : WalkState) (name : List ℕ) (at : WalkLineSpot) (line : Line) (v : WalkState) (later : WalkState → WalkResult)
     → first_definition_fault [] (definitions_of_lines v.lines) ≡ None
     → ((fault : ReadFault) → first_definition_fault [] (definitions_of_lines (v.lines ++ line ∷ [])) ≡ Some fault → IsFirstNameFaultOfMappedWalk g total fault)
-    → (first_definition_fault [] (definitions_of_lines (v.lines ++ line ∷ [])) ≡ None → ArrivesAtFollowingWalkOrNameFault g total now (later (walk_with_line_at_spot at line v)))
-    → ArrivesAtFollowingWalkOrNameFault g total now (load_result_and_then (walk_with_line_appended name at line v) later)
-mapped_walk_takes_line_or_has_name_fault g total now name at line v later stand fails next =
+    → (first_definition_fault [] (definitions_of_lines (v.lines ++ line ∷ [])) ≡ None → ArrivesAtFollowingWalkOrNameFault files others g total now (later (walk_with_line_at_spot at line v)))
+    → ArrivesAtFollowingWalkOrNameFault files others g total now (load_result_and_then (walk_with_line_appended name at line v) later)
+mapped_walk_takes_line_or_has_name_fault files others g total now name at line v later stand fails next =
     by (first_definition_fault (definitions_of_lines v.lines) (definitions_in_line (length v.lines) line.node)) refl
   where
     by : (o : Option ReadFault) → first_definition_fault (definitions_of_lines v.lines) (definitions_in_line (length v.lines) line.node) ≡ o
-        → ArrivesAtFollowingWalkOrNameFault g total now (load_result_and_then (value_unless_file_fault name (walk_with_line_at_spot at line v) o) later)
+        → ArrivesAtFollowingWalkOrNameFault files others g total now (load_result_and_then (value_unless_file_fault name (walk_with_line_at_spot at line v) o) later)
     by None e = next (faultless_line_keeps_walk_faultless v.lines line stand e)
     by (Some fault) e =
         let here : first_definition_fault [] (definitions_of_lines (v.lines ++ line ∷ [])) ≡ Some fault =

@@ -23,10 +23,10 @@ abbrev pub LinesAreParsedInOneWay : Type 0
 LinesAreParsedInOneWay = (lines : List (List ℕ)) (read : List Line) (fault : Option SyntaxFault) → AreParsedUntilFault lines read fault → lines_parsed_until_fault [] lines ≡ (read, fault)
 
 -- The lines of the file are those of its text, each says what is kept of it, and all parse.
-record IsFileReadAgainAsItIs (file : ParsedFile) : Type 0 where
-  cut : AreLinesCutFromTheirJoin (texts_of_lines file.lines)
-  says : AllByRecursion IsCorrectlyParsed file.lines
-  parses : IsParsedWithoutFault file
+pub record IsFileReadAgainAsItIs (file : ParsedFile) : Type 0 where
+  pub cut : AreLinesCutFromTheirJoin (texts_of_lines file.lines)
+  pub says : AllByRecursion IsCorrectlyParsed file.lines
+  pub parses : IsParsedWithoutFault file
 
 file_read_again_is_parsed_as_it_is : LinesAreParsedInOneWay → (file : ParsedFile) → IsFileReadAgainAsItIs file → parsed_file_of_texts file.name (texts_of_lines file.lines) ≡ file
 unfolding parsed_file_of_texts
@@ -34,7 +34,7 @@ file_read_again_is_parsed_as_it_is one file is =
     ap (parsed_file_from_pair file.name) (one (texts_of_lines file.lines) file.lines None (whole file.lines is.says))
     ∙ ap (λ fault. let same : ParsedFile = record { name = file.name; lines = file.lines; fault = fault } in same) (sym is.parses)
 
-files_read_again_are_parsed_as_they_are : LinesAreParsedInOneWay → (before files : List ParsedFile) → AllByRecursion IsFileReadAgainAsItIs files
+pub files_read_again_are_parsed_as_they_are : LinesAreParsedInOneWay → (before files : List ParsedFile) → AllByRecursion IsFileReadAgainAsItIs files
     → parsed_files_or_cut_fault before (map named_file_of_parsed files) ≡ Ok (before ++ files)
 files_read_again_are_parsed_as_they_are one before [] all = ap (λ fs. Ok fs) (sym (append-nil before))
 files_read_again_are_parsed_as_they_are one before (file ∷ files) all =
@@ -43,17 +43,17 @@ files_read_again_are_parsed_as_they_are one before (file ∷ files) all =
     ∙ files_read_again_are_parsed_as_they_are one (before ++ file ∷ []) files all.1
     ∙ ap (λ fs. Ok fs) (append_assoc before (file ∷ []) files)
 
-property_of_each_numbered_item_is_of_all : {A : Type 0} (P : A → Type 0) (xs : List A) → ((n : ℕ) (x : A) → slice_get xs n ≡ Some x → P x) → AllByRecursion P xs
+pub property_of_each_numbered_item_is_of_all : {A : Type 0} (P : A → Type 0) (xs : List A) → ((n : ℕ) (x : A) → slice_get xs n ≡ Some x → P x) → AllByRecursion P xs
 property_of_each_numbered_item_is_of_all P [] each = tt
 property_of_each_numbered_item_is_of_all P (x ∷ xs) each = (each 0 x refl, property_of_each_numbered_item_is_of_all P xs (λ n y at. each (suc n) y at))
 
-property_of_all_is_of_each_numbered_item : {A : Type 0} (P : A → Type 0) (xs : List A) → AllByRecursion P xs → (n : ℕ) (x : A) → slice_get xs n ≡ Some x → P x
+pub property_of_all_is_of_each_numbered_item : {A : Type 0} (P : A → Type 0) (xs : List A) → AllByRecursion P xs → (n : ℕ) (x : A) → slice_get xs n ≡ Some x → P x
 property_of_all_is_of_each_numbered_item P [] all n x at = absurd cc
 property_of_all_is_of_each_numbered_item P (y ∷ xs) all zero x at = subst P (let same : y ≡ x = cc in same) all.0
 property_of_all_is_of_each_numbered_item P (y ∷ xs) all (suc n) x at = property_of_all_is_of_each_numbered_item P xs all.1 n x at
 
 -- A file of a policy is read again as it is.
-loaded_file_is_read_again_as_it_is : ComputedCutsAreCutOutcomes → LinesAreParsedUntilFault → SeparateLinesAreCutFromTheirJoin → ComputedLineOutcomesAreLineOutcomes → (files : List NamedFile) (p : LoadedPolicy) → policy_or_load_fault files ≡ Ok p → (f : ℕ)
+pub loaded_file_is_read_again_as_it_is : ComputedCutsAreCutOutcomes → LinesAreParsedUntilFault → SeparateLinesAreCutFromTheirJoin → ComputedLineOutcomesAreLineOutcomes → (files : List NamedFile) (p : LoadedPolicy) → policy_or_load_fault files ≡ Ok p → (f : ℕ)
     (file : ParsedFile) → slice_get p.files f ≡ Some file → IsFileReadAgainAsItIs file
 loaded_file_is_read_again_as_it_is cuts reads joins lines files p is f file at =
     record {
@@ -78,7 +78,7 @@ replacing_files_are_read_again_as_they_are g files others w are can again = prop
 -- ---- the files that are not on the walk
 
 -- The same files are on both walks. A file that is not on them is the same, and has no fault.
-unreached_files_are_checked_alike_on_walks : (w other : WalkState) (all behind : List ParsedFile) → other.on ≡ w.on
+pub unreached_files_are_checked_alike_on_walks : (w other : WalkState) (all behind : List ParsedFile) → other.on ≡ w.on
     → ((f : ℕ) → is_file_on_walk w f ≡ false → slice_get behind f ≡ slice_get all f) → (n : ℕ) (files others : List ParsedFile)
     → files ≡ drop n all → others ≡ drop n behind → file_names files ≡ file_names others → walk_or_unreached_file_fault w n files ≡ Ok w
     → walk_or_unreached_file_fault other n others ≡ Ok other

@@ -12,18 +12,18 @@ use Rattle.sudoers_tree.proofs.Sound.{no_first_fault_implies_neither_fault, faul
 -- ---- what keys tell
 
 -- the names of a kind that keys have, with their places
-abbrev entries_of_definition_keys : Kind → List DefinitionKey → List (List ℕ × Place)
+abbrev pub entries_of_definition_keys : Kind → List DefinitionKey → List (List ℕ × Place)
 entries_of_definition_keys k [] = []
 entries_of_definition_keys k (x ∷ xs) = if is_equal_kind k x.0 then x.1 ∷ entries_of_definition_keys k xs else entries_of_definition_keys k xs
 
-entries_of_definitions_are_those_of_keys : (k : Kind) (ds : List PlacedDefinition) → entries_of_definitions k ds ≡ entries_of_definition_keys k (keys_of_definitions ds)
+pub entries_of_definitions_are_those_of_keys : (k : Kind) (ds : List PlacedDefinition) → entries_of_definitions k ds ≡ entries_of_definition_keys k (keys_of_definitions ds)
 entries_of_definitions_are_those_of_keys k [] = refl
 entries_of_definitions_are_those_of_keys k (d ∷ ds) = ap (λ es. if is_equal_kind k d.kind then (d.def.name, d.place) ∷ es else es) (entries_of_definitions_are_those_of_keys k ds)
 
-abbrev fault_of_key_after_keys : List DefinitionKey → DefinitionKey → Option ReadFault
+abbrev pub fault_of_key_after_keys : List DefinitionKey → DefinitionKey → Option ReadFault
 fault_of_key_after_keys before x = fault_of_new_entry x.0 (entries_of_definition_keys x.0 before) x.1.0
 
-abbrev first_fault_of_keys : List DefinitionKey → List DefinitionKey → Option ReadFault
+abbrev pub first_fault_of_keys : List DefinitionKey → List DefinitionKey → Option ReadFault
 first_fault_of_keys before [] = None
 first_fault_of_keys before (x ∷ xs) = first_of_two_faults (fault_of_key_after_keys before x) (first_fault_of_keys (before ++ x ∷ []) xs)
 
@@ -31,7 +31,7 @@ fault_of_definition_is_fault_of_key : (before : List PlacedDefinition) (d : Plac
 fault_of_definition_is_fault_of_key before d =
     sym (fault_of_entry_is_fault_of_definition d.kind d.place d.def before) ∙ ap (λ es. fault_of_new_entry d.kind es d.def.name) (entries_of_definitions_are_those_of_keys d.kind before)
 
-first_definition_fault_is_that_of_keys : (before ds : List PlacedDefinition) → first_definition_fault before ds ≡ first_fault_of_keys (keys_of_definitions before) (keys_of_definitions ds)
+pub first_definition_fault_is_that_of_keys : (before ds : List PlacedDefinition) → first_definition_fault before ds ≡ first_fault_of_keys (keys_of_definitions before) (keys_of_definitions ds)
 first_definition_fault_is_that_of_keys before [] = refl
 first_definition_fault_is_that_of_keys before (d ∷ ds) =
     ap₂ first_of_two_faults (fault_of_definition_is_fault_of_key before d) (first_definition_fault_is_that_of_keys (before ++ d ∷ []) ds

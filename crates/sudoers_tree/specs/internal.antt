@@ -10,3 +10,5 @@ pub mod KeptWalk
 pub mod KeptLines
 pub mod Keys
 pub mod LineBits
+pub mod MovedSpots
+pub mod InPlace

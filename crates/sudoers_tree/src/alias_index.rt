@@ -6,11 +6,15 @@ ghost use Rattle.sudoers_line_rows.specs.View.{alias_definitions_of_view, node_o
 ghost use Rattle.sudoers_tree.specs.Definition.{PlacedDefinition, definitions_from_place, definitions_in_line, is_equal_kind};
 ghost use Rattle.sudoers_tree.specs.Load.{reserved_name_fault_of_definitions};
 ghost use Rattle.sudoers_tree.specs.internal.Index.{place_of_named_entry, index_entries_of_kind, IsIndexOfDefinitions, fault_of_new_entry, entries_with_definitions, entries_after_update, index_after_update, IsEntryOutcome, IsIndexEntryOutcome};
+ghost use Rattle.std.specs.List.{All};
+ghost use Rattle.std.specs.Prelude.{map};
+ghost use Rattle.sudoers_tree.specs.internal.InPlace.{HasRoomToMove, IsPlaceWithinReach, moved_entry};
 ghost use Rattle.sudoers_tree.specs.internal.Keys.{entries_with_one_renamed};
 
 use crate::alias_names_update::AliasNamesUpdate;
 use crate::defined_names::DefinedAliasNames;
 use crate::fault::ReadFault;
+use crate::moved_lines::LineMove;
 use crate::place::Place;
 use std::alloc::{AllocError, Global};
 use sudoers_grammar::{Items, Kind};
@@ -77,6 +81,18 @@ impl AliasNameIndex {
             Kind::Host => self.host.rename_name_at(number, name),
             Kind::Cmnd => self.cmnd.rename_name_at(number, name),
         }
+    }
+
+    /// Moves the places of all names by `by`, from the line with the number `from` on.
+    pub fn move_places(&mut self, from: usize, by: LineMove)
+        requires reach { (k : KindOf) → All (λ e. IsPlaceWithinReach e.1) (index_entries_of_kind k self.old) }
+        requires room { HasRoomToMove by }
+        ensures { (k : KindOf) → index_entries_of_kind k self.new ≡ map (moved_entry from by) (index_entries_of_kind k self.old) }
+    {
+        self.user.move_places(from, by);
+        self.runas.move_places(from, by);
+        self.host.move_places(from, by);
+        self.cmnd.move_places(from, by);
     }
 
     /// Puts the names that `new` has beside these in their place. It takes no memory.

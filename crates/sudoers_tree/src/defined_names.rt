@@ -3,9 +3,13 @@
 ghost use Rattle.std.specs.Prelude.{◌≡◌, ◌<◌, ◌≤◌, ◌∷◌, [], ◌++◌, ℕ, List, length, take, slice_get, zip, IfOk, OnErr, OnOk, None, Some};
 ghost use Rattle.std.specs.Option.{option_copied};
 ghost use Rattle.sudoers_tree.specs.internal.Index.{place_of_named_entry, number_of_named_entry, names_of_entries, entries_after_update};
+ghost use Rattle.std.specs.List.{All};
+ghost use Rattle.std.specs.Prelude.{map};
+ghost use Rattle.sudoers_tree.specs.internal.InPlace.{HasRoomToMove, IsPlaceWithinReach, moved_entry};
 ghost use Rattle.sudoers_tree.specs.internal.Keys.{entries_with_one_renamed};
 
 use crate::alias_names_update::AliasNamesUpdate;
+use crate::moved_lines::{LineMove, move_places};
 use crate::place::Place;
 use indexmap::IndexSet;
 use std::alloc::{AllocError, Global};
@@ -111,6 +115,15 @@ impl DefinedAliasNames {
         self.names.shift_remove_index(number);
         self.names.shift_insert(number, name).unwrap();
         Ok(())
+    }
+
+    /// Moves the places of the names by `by`, from the line with the number `from` on.
+    pub fn move_places(&mut self, from: usize, by: LineMove)
+        requires reach { All (λ e. IsPlaceWithinReach e.1) self.old }
+        requires room { HasRoomToMove by }
+        ensures { self.new ≡ map (moved_entry from by) self.old }
+    {
+        move_places(self.places.as_mut_slice(), from, by);
     }
 
     /// Returns the first names, as many as `places`, with these places.

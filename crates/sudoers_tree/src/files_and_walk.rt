@@ -116,6 +116,11 @@ impl WalkedFiles {
             (λ fault. (fault ≡ NoMemory) ⊎ (load_result_and_then (parsed_files_or_cut_fault [] (files_after_changes changes.now (policy_of_walked_files self.old).files)) policy_of_parsed_files ≡ Err fault)) }
         ensures unchanged { OnErr result (policy_of_walked_files self.new ≡ policy_of_walked_files self.old) }
     {
+        if let [change] = changes {
+            if self.change_line_in_place(alloc, change)? {
+                return Ok(());
+            }
+        }
         let counts = self.tables.row_counts();
         let before = WalkBeforeChange {
             files: self.files.as_slice(),
