@@ -36,6 +36,7 @@ grown_tables_keep_file_rows_sound on t u g file is = record {
   whole = subst (λ (ls : List Line). AllByRecursion IsLogicalLine (texts_of_lines ls)) (sym (grown_tables_keep_lines_of_rows t u g file.rows.items is.stand)) is.whole;
   short = subst (λ (ls : List Line). AreWithinLineLimit (texts_of_lines ls)) (sym (grown_tables_keep_lines_of_rows t u g file.rows.items is.stand)) is.short;
   fits = subst (λ (ls : List Line). length (join (texts_of_lines ls)) ≤ text_limit) (sym (grown_tables_keep_lines_of_rows t u g file.rows.items is.stand)) is.fits;
+  held = subst (λ (ls : List Line). length (join (texts_of_lines ls)) ≤ file.bytes) (sym (grown_tables_keep_lines_of_rows t u g file.rows.items is.stand)) is.held;
 }
 
 pub grown_tables_keep_all_file_rows_sound : TableGrowthIsTransitive → (t u : Tables) → TablesHaveGrown t u → (files : List ParsedFileRows) → All (HasSoundFileRows t) files → All (HasSoundFileRows u) files
@@ -93,8 +94,8 @@ pub record AreLogicalLinesWithinLimits (lines : List (List ℕ)) : Type 0 where
   pub fits : length (join lines) ≤ text_limit
 
 pub rows_of_cut_lines_are_sound : (t : Tables) (file : ParsedFileRows) (lines : List (List ℕ)) → All (IsLastingLineRow t) file.rows.items
-    → (let r : List Line × Option SyntaxFault = (map (line_of_row t) file.rows.items, file.fault) in r) ≡ lines_parsed_until_fault [] lines → AreLogicalLinesWithinLimits lines → HasSoundFileRows t file
-rows_of_cut_lines_are_sound t file lines stand is cut =
+    → (let r : List Line × Option SyntaxFault = (map (line_of_row t) file.rows.items, file.fault) in r) ≡ lines_parsed_until_fault [] lines → AreLogicalLinesWithinLimits lines → length (join lines) ≤ file.bytes → HasSoundFileRows t file
+rows_of_cut_lines_are_sound t file lines stand is cut held =
     let same : map (line_of_row t) file.rows.items ≡ (lines_parsed_until_fault [] lines).0 = ap (λ (r : List Line × Option SyntaxFault). r.0) is in
     let size : length (join (texts_of_lines (map (line_of_row t) file.rows.items))) ≡ length (join (texts_of_lines (lines_parsed_until_fault [] lines).0)) = ap (λ (ls : List Line). length (join (texts_of_lines ls))) same in
     record {
@@ -102,6 +103,7 @@ rows_of_cut_lines_are_sound t file lines stand is cut =
       whole = subst (λ (ls : List Line). AllByRecursion IsLogicalLine (texts_of_lines ls)) (sym same) (property_of_lines_holds_of_parsed_lines IsLogicalLine [] lines cut.whole);
       short = subst (λ (ls : List Line). AreWithinLineLimit (texts_of_lines ls)) (sym same) (property_of_lines_holds_of_parsed_lines IsWithinLineLimit [] lines cut.short);
       fits = omega (arith, size, parsed_lines_are_no_longer_than_all [] lines, cut.fits);
+      held = omega (arith, size, parsed_lines_are_no_longer_than_all [] lines, held);
     }
 
 -- a text that is cut

@@ -61,3 +61,4 @@ pub mod OneChange
 pub mod MovedPlaces
 pub mod ChangedRows
 pub mod LineTaken
+pub mod LinePut

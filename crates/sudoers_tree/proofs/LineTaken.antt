@@ -52,6 +52,15 @@ line_on_walk_is_walk_line w f n place loaded on =
     let places = tests_of_spot_are_equalities f n on.only.at on.only.is in
     there ∙ sym stands.is_line ∙ ap₂ (λ g k. slice_get (lines_of_numbered_file (policy_of_walked_files w).files g) k) places.0 places.1 ∙ on.is
 
+pub numbered_spot_stands : (w : WalkedFiles) (f n : ℕ) (place : LineOnWalk) → policy_or_load_fault (named_files_of_policy (policy_of_walked_files w)) ≡ Ok (policy_of_walked_files w) → (on : IsLineOnWalk w f n place)
+    → IsLineAtSpot (policy_of_walked_files w).files on.only.at (line_of_row w.tables place.row)
+numbered_spot_stands w f n place loaded on =
+    let (line, there, stands) = numbered_spot_has_its_line (policy_of_walked_files w).files w.spots.items (lines_of_kept_walk w)
+    (loaded_walk_lines_are_at_their_spots (named_files_of_policy (policy_of_walked_files w)) (policy_of_walked_files w) loaded) place.number on.only.at on.only.there in
+    let both : Some line ≡ Some (line_of_row w.tables place.row) = sym there ∙ line_on_walk_is_walk_line w f n place loaded on in
+    let same : line ≡ line_of_row w.tables place.row = cc in
+    subst (IsLineAtSpot (policy_of_walked_files w).files on.only.at) same stands
+
 pub walk_number_is_within : (w : WalkedFiles) (f n : ℕ) (place : LineOnWalk) → policy_or_load_fault (named_files_of_policy (policy_of_walked_files w)) ≡ Ok (policy_of_walked_files w) → IsLineOnWalk w f n place
     → (place.number < length w.lines.items) × (place.number < length w.spots.items)
 walk_number_is_within w f n place loaded on = (

@@ -149,7 +149,7 @@ module _ (from : ℕ) (move : LineMove) where
       let front : List Line = take p lines in
       let behind : List Line = drop (suc p) lines in
       let olds : keys_of_definitions (definitions_of_lines lines)
-          ≡ keys_of_definitions (definitions_of_lines front) ++ (keys_of_definitions (definitions_from_line_number p (line ∷ [])) ++ keys_of_definitions (definitions_from_line_number (p + 1) behind)) =
+      ≡ keys_of_definitions (definitions_of_lines front) ++ (keys_of_definitions (definitions_from_line_number p (line ∷ [])) ++ keys_of_definitions (definitions_from_line_number (p + 1) behind)) =
       ap (λ ls. keys_of_definitions (definitions_of_lines ls)) (sym (list_splits_at_item lines p line at)) ∙ keys_in_three_parts p front (line ∷ []) behind p (p + 1) (sym size) refl in
       keys_in_three_parts p front news behind p (p + length news) (sym size) refl
       ∙ ap₂ (λ (xs : List DefinitionKey) ys. xs ++ ys) (sym (keys_of_lines_before_stay 0 front (omega (arith, size, low))))

@@ -2,7 +2,7 @@
 use Rattle.sudoers_tree.proofs.Common.{Line, List, Some, [], ap, arith, drop, insert, join, length, length-append, length-drop, length-take-le, lf_count, map, map-append, refl, remove, slice_get, suc, sym, take}
 use Rattle.std.proofs.Common.{get_or, set}
 use Rattle.std.proofs.lemmas.List.Elements.{All-append}
-use Rattle.sudoers_tree.proofs.Common.{All, All-drop, All-take, AllByRecursion, slice_get-get_or, subst}
+use Rattle.sudoers_tree.proofs.Common.{All, All-cons, All-drop, All-take, AllByRecursion, slice_get-get_or, subst}
 use Rattle.sudoers_tree.proofs.Common.{texts_of_lines, zero, ℕ, ◌++◌, ◌+◌, ◌-◌, ◌<◌, ◌∙◌, ◌∷◌, ◌≡◌, ◌≤◌}
 use Rattle.std.proofs.lemmas.List.{append_assoc}
 use Rattle.sudoers_tree.proofs.Joined.{join_of_appended_lines_is_appended, lf_count_adds_over_append}
@@ -71,7 +71,7 @@ items_up_to_later_place_are_in_place (suc k) (suc m) (suc n) news (x ∷ xs) les
 abbrev pub lf_count_of_lines_joined : List Line → ℕ
 lf_count_of_lines_joined lines = lf_count (join (texts_of_lines lines))
 
-lf_count_of_appended_lines : (xs ys : List Line) → lf_count_of_lines_joined (xs ++ ys) ≡ lf_count_of_lines_joined xs + lf_count_of_lines_joined ys
+pub lf_count_of_appended_lines : (xs ys : List Line) → lf_count_of_lines_joined (xs ++ ys) ≡ lf_count_of_lines_joined xs + lf_count_of_lines_joined ys
 lf_count_of_appended_lines xs ys =
     ap (λ ts. lf_count (join ts)) (map-append (λ (line : Line). line.text) xs ys)
     ∙ ap lf_count (join_of_appended_lines_is_appended (texts_of_lines xs) (texts_of_lines ys))
@@ -129,3 +129,49 @@ join_without_text_is_no_longer (suc n) (text ∷ texts) = omega (arith, length-a
 pub all_items_but_one : {X : Type 0} (P : X → Type 0) (xs : List X) (n : ℕ) (d : X) → n < length xs → All P xs → All P (remove xs n)
 all_items_but_one P xs n d less all =
     subst (All P) (sym (removed_item_is_in_place xs n (get_or xs n d) (slice_get-get_or xs n d less))) (All-append P (take n xs) (drop (suc n) xs) (All-take P n xs all) (All-drop P (suc n) xs all))
+
+pub map_of_insert_is_insert_of_map : {X Y : Type 0} (h : X → Y) (n : ℕ) (xs : List X) (x : X) → map h (insert xs n x) ≡ insert (map h xs) n (h x)
+map_of_insert_is_insert_of_map h zero [] x = refl
+map_of_insert_is_insert_of_map h (suc n) [] x = refl
+map_of_insert_is_insert_of_map h zero (y ∷ xs) x = refl
+map_of_insert_is_insert_of_map h (suc n) (y ∷ xs) x = ap (λ ys. h y ∷ ys) (map_of_insert_is_insert_of_map h n xs x)
+
+pub map_of_set_is_set_of_map : {X Y : Type 0} (h : X → Y) (n : ℕ) (xs : List X) (x : X) → map h (set xs n x) ≡ set (map h xs) n (h x)
+map_of_set_is_set_of_map h zero [] x = refl
+map_of_set_is_set_of_map h (suc n) [] x = refl
+map_of_set_is_set_of_map h zero (y ∷ xs) x = refl
+map_of_set_is_set_of_map h (suc n) (y ∷ xs) x = ap (λ ys. h y ∷ ys) (map_of_set_is_set_of_map h n xs x)
+
+pub set_item_is_in_place : {X : Type 0} (xs : List X) (n : ℕ) (x y : X) → slice_get xs n ≡ Some x → set xs n y ≡ with_items_in_place n (y ∷ []) xs
+set_item_is_in_place [] n x y is = absurd cc
+set_item_is_in_place (z ∷ xs) zero x y is = refl
+set_item_is_in_place (z ∷ xs) (suc n) x y is = ap (λ zs. z ∷ zs) (set_item_is_in_place xs n x y is)
+
+pub property_of_all_and_new_holds_with_item : {X : Type 0} (P : X → Type 0) (n : ℕ) (xs : List X) (x : X) → AllByRecursion P xs → P x → n ≤ length xs → AllByRecursion P (insert xs n x)
+property_of_all_and_new_holds_with_item P zero [] x all here le = (here, tt)
+property_of_all_and_new_holds_with_item P (suc n) [] x all here le = absurd (omega (arith, le))
+property_of_all_and_new_holds_with_item P zero (y ∷ xs) x all here le = (here, all)
+property_of_all_and_new_holds_with_item P (suc n) (y ∷ xs) x all here le = (all.0, property_of_all_and_new_holds_with_item P n xs x all.1 here (omega (arith, le)))
+
+pub property_of_all_and_new_holds_after_set : {X : Type 0} (P : X → Type 0) (n : ℕ) (xs : List X) (x : X) → AllByRecursion P xs → P x → AllByRecursion P (set xs n x)
+property_of_all_and_new_holds_after_set P zero [] x all here = tt
+property_of_all_and_new_holds_after_set P (suc n) [] x all here = tt
+property_of_all_and_new_holds_after_set P zero (y ∷ xs) x all here = (here, all.1)
+property_of_all_and_new_holds_after_set P (suc n) (y ∷ xs) x all here = (all.0, property_of_all_and_new_holds_after_set P n xs x all.1 here)
+
+pub join_with_text_is_longer_by_it : (n : ℕ) (texts : List (List ℕ)) (text : List ℕ) → n ≤ length texts → length (join (insert texts n text)) ≡ length text + length (join texts)
+join_with_text_is_longer_by_it zero texts text le = length-append text (join texts)
+join_with_text_is_longer_by_it (suc n) [] text le = absurd (omega (arith, le))
+join_with_text_is_longer_by_it (suc n) (first ∷ texts) text le =
+    omega (arith, length-append first (join (insert texts n text)), length-append first (join texts), join_with_text_is_longer_by_it n texts text (omega (arith, le)))
+
+pub join_with_other_text_has_its_size : (n : ℕ) (texts : List (List ℕ)) (old text : List ℕ) → slice_get texts n ≡ Some old → length (join (set texts n text)) + length old ≡ length text + length (join texts)
+join_with_other_text_has_its_size n [] old text is = absurd cc
+join_with_other_text_has_its_size zero (first ∷ texts) old text is =
+    let same : first ≡ old = cc in
+    omega (arith, ap length same, length-append first (join texts), length-append text (join texts))
+join_with_other_text_has_its_size (suc n) (first ∷ texts) old text is =
+    omega (arith, length-append first (join (set texts n text)), length-append first (join texts), join_with_other_text_has_its_size n texts old text is)
+
+pub all_items_and_new : {X : Type 0} (P : X → Type 0) (xs : List X) (n : ℕ) (x : X) → P x → All P xs → All P (insert xs n x)
+all_items_and_new P xs n x here all = All-append P (take n xs) (x ∷ drop n xs) (All-take P n xs all) (All-cons P x (drop n xs) here (All-drop P n xs all))

@@ -88,8 +88,11 @@ physical_line_up_to_place_stays lines news n k le less = ap (λ ls. lf_count (jo
 physical_line_behind_place_moves : (lines news : List Line) (old : Line) (n k m : ℕ) → slice_get lines n ≡ Some old → n < k → k ≤ length lines → m + 1 ≡ k + length news
     → physical_line_of_file_line (with_items_in_place n news lines) m + lf_count_of_lines_joined (old ∷ []) ≡ physical_line_of_file_line lines k + lf_count_of_lines_joined news
 physical_line_behind_place_moves lines news old n k m at less fits is =
-    omega (arith, ap lf_count_of_lines_joined (items_up_to_later_place_are_in_place k m n news lines less fits is),
-    lf_count_with_lines_in_place n news (take k lines) old (item_of_longer_front lines n k old less at))
+    omega (
+      arith,
+      ap lf_count_of_lines_joined (items_up_to_later_place_are_in_place k m n news lines less fits is),
+      lf_count_with_lines_in_place n news (take k lines) old (item_of_longer_front lines n k old less at),
+    )
 
 -- ---- a spot elsewhere
 

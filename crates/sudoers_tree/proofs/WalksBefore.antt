@@ -4,7 +4,10 @@ use Rattle.sudoers_tree.proofs.Common.{ParsedFile, Result, Tables, TablesHaveGro
 use Rattle.sudoers_tree.proofs.Common.{definitions_of_lines, entries_of_definitions, file_names, files_after_changes, first_definition_fault, index_entries_of_kind, length, length-map, line_of_row}
 use Rattle.sudoers_tree.proofs.Common.{lines_of_kept_walk, load_result_and_then, map, map-append, named_files_of_policy, parsed_file_of_rows, parsed_file_of_texts, parsed_file_of_cut_or_fault, parsed_files_or_cut_fault}
 use Rattle.sudoers_tree.proofs.Common.{policy_of_walked_files, policy_or_load_fault, refl, subst, sym, walk_lines_before_change, walk_or_fault_of_files, ℕ, ◌++◌, ◌+◌, ◌∙◌, ◌∷◌, ◌≡◌}
+use Rattle.std.specs.Result.{IsErr}
+use Rattle.sudoers_tree.proofs.Common.{Bool, false, true, true≢false}
 use Rattle.sudoers_tree.specs.declared.in_place_update.WalkBeforeChange.{WalkBeforeChange}
+use Rattle.sudoers_tree.specs.internal.InPlace.{IsChangeInPlaceUnlessNoMemory}
 use Rattle.sudoers_tree.proofs.FileRows.{grown_tables_keep_all_file_rows_sound, grown_tables_keep_parsed_files}
 use Rattle.sudoers_tree.proofs.Outcomes.{ComputedLineOutcomesAreLineOutcomes}
 use Rattle.sudoers_tree.proofs.Placed.{lines_at_spots_have_count_of_spots}
@@ -113,3 +116,34 @@ walked_files_have_same_policy_when_grown w v files lines spots on back walked =
     λ fs ls ss os. record { files = fs; walk = record { lines = ls; spots = ss; on = os } } in
     ap₂ (λ fs ls. policy fs ls v.spots.items v.on.items) same (kept_walk_has_same_lines_in_grown_tables w v lines back walked)
     ∙ ap₂ (λ ss os. policy (map (parsed_file_of_rows w.tables) w.files.items) (lines_of_kept_walk w) ss.items os.items) spots on
+
+-- The files and the walk are as they were, though they are kept elsewhere.
+pub kept_files_stay_sound : (w v : WalkedFiles) → v.tables ≡ w.tables → v.lines.items ≡ w.lines.items → v.index ≡ w.index → All (HasSoundFileRows w.tables) v.files.items → AreSoundWalkedFiles w → AreSoundWalkedFiles v
+kept_files_stay_sound w v tables lines index files walked = record {
+  files = subst (λ t. All (HasSoundFileRows t) v.files.items) (sym tables) files;
+  stand = subst (λ t. All (IsLastingLineRow t) v.lines.items) (sym tables) (subst (All (IsLastingLineRow w.tables)) (sym lines) walked.stand);
+  named = λ k. ap (index_entries_of_kind k) index ∙ walked.named k
+      ∙ ap (λ ls. entries_of_definitions k (definitions_of_lines ls)) (sym (ap (λ t. map (line_of_row t) v.lines.items) tables ∙ ap (map (line_of_row w.tables)) lines));
+}
+
+-- They are the policy that they were.
+pub kept_files_have_same_policy : (w v : WalkedFiles) → v.tables ≡ w.tables → v.lines.items ≡ w.lines.items → v.spots.items ≡ w.spots.items → v.on.items ≡ w.on.items
+    → map (parsed_file_of_rows w.tables) v.files.items ≡ map (parsed_file_of_rows w.tables) w.files.items → policy_of_walked_files v ≡ policy_of_walked_files w
+kept_files_have_same_policy w v tables lines spots on files =
+    let policy : List ParsedFile → List Line → List WalkLineSpot → List ℕ → LoadedPolicy =
+    λ fs ls ss os. record { files = fs; walk = record { lines = ls; spots = ss; on = os } } in
+    ap₂ (λ fs ls. policy fs ls v.spots.items v.on.items) (ap (λ t. map (parsed_file_of_rows t) v.files.items) tables ∙ files) (ap (λ t. map (line_of_row t) v.lines.items) tables ∙ ap (map (line_of_row w.tables)) lines)
+    ∙ ap₂ (λ ss os. policy (map (parsed_file_of_rows w.tables) w.files.items) (lines_of_kept_walk w) ss os) spots on
+
+-- A change of files whose tables grew before is one of the files as they were.
+pub change_in_grown_tables_is_change : {E : Type 0} (result : Result Bool E) (changes : List LineChange) (old mid new : WalkedFiles) → policy_of_walked_files mid ≡ policy_of_walked_files old
+    → IsChangeInPlaceUnlessNoMemory result changes mid new → IsChangeInPlaceUnlessNoMemory result changes old new
+change_in_grown_tables_is_change (Ok true) changes old mid new same made = ap (λ (p : LoadedPolicy). policy_or_load_fault (files_after_changes changes p.files)) (sym same) ∙ made
+change_in_grown_tables_is_change (Ok false) changes old mid new same kept = kept ∙ same
+change_in_grown_tables_is_change (Err error) changes old mid new same kept = kept ∙ same
+
+-- Where memory ran out, the policy is as it was.
+pub change_without_memory_keeps_policy : {E : Type 0} (result : Result Bool E) (changes : List LineChange) (old new : WalkedFiles) → IsErr result → policy_of_walked_files new ≡ policy_of_walked_files old
+    → IsChangeInPlaceUnlessNoMemory result changes old new
+change_without_memory_keeps_policy (Ok made) changes old new err same = absurd (true≢false (sym err))
+change_without_memory_keeps_policy (Err error) changes old new err same = same

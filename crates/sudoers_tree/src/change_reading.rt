@@ -187,10 +187,15 @@ pub fn read_file_of_pieces(
     ensures read { IsFileReadOutcome result tables.new (parsed_file_of_cut_or_fault name (cut_outcome_of_text (join (line_texts_of_pieces tables.old pieces.now)))) }
 {
     match checked_size_of_pieces(alloc, tables, pieces) {
-        Ok(_) => {
+        Ok(bytes) => {
             let mut rows = Vec::with_capacity(alloc, line_count_of_pieces(pieces))?;
             let fault = read_lines_of_pieces(alloc, tables, pieces, &mut rows)?;
-            Ok(ParsedFileRows { name, rows, fault })
+            Ok(ParsedFileRows {
+                name,
+                rows,
+                fault,
+                bytes,
+            })
         }
         Err(fault) => Err(load_fault_of_text_fault(name, fault)),
     }

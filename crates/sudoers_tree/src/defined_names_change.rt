@@ -78,7 +78,7 @@ pub fn change_of_defined_names(
 }
 
 /// Returns how the names change that the line with the number `line`, from 0, defines. It said `old`, and says `new`.
-fn name_change_of_line(
+pub fn name_change_of_line(
     tables: &Tables,
     line: usize,
     old: &NodeRow,

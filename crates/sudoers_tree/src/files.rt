@@ -28,6 +28,8 @@ pub struct ParsedFileRows {
     pub name: Items<u8>,
     pub rows: Vec<LineRow>,
     pub fault: Option<SyntaxFault>,
+    /// How many bytes the lines have at most.
+    pub bytes: usize,
 }
 
 /// Files that are read, and the tables in which their lines say something.

@@ -121,6 +121,24 @@ impl WalkedFiles {
                 return Ok(());
             }
         }
+        self.change_lines_anew(alloc, changes)
+    }
+
+    /// Makes the changes `changes` of the lines of the files at once. All files are made anew, and the walk too if it does not stay.
+    ///
+    /// # Errors
+    ///
+    /// Those of [`WalkedFiles::change_lines`]. The files then are as they were.
+    fn change_lines_anew(&mut self, alloc: Global, changes: &[LineChange]) -> Result<(), LoadFault>
+        requires walked { AreSoundWalkedFiles self.old }
+        requires loaded { policy_or_load_fault (named_files_of_policy (policy_of_walked_files self.old)) ≡ Ok (policy_of_walked_files self.old) }
+        requires changes { AreApplicableChanges changes.now (policy_of_walked_files self.old).files }
+        ensures walked { AreSoundWalkedFiles self.new }
+        ensures outcome { MatchResult result
+            (λ _. load_result_and_then (parsed_files_or_cut_fault [] (files_after_changes changes.now (policy_of_walked_files self.old).files)) policy_of_parsed_files ≡ Ok (policy_of_walked_files self.new))
+            (λ fault. (fault ≡ NoMemory) ⊎ (load_result_and_then (parsed_files_or_cut_fault [] (files_after_changes changes.now (policy_of_walked_files self.old).files)) policy_of_parsed_files ≡ Err fault)) }
+        ensures unchanged { OnErr result (policy_of_walked_files self.new ≡ policy_of_walked_files self.old) }
+    {
         let counts = self.tables.row_counts();
         let before = WalkBeforeChange {
             files: self.files.as_slice(),

@@ -86,7 +86,12 @@ fn read_file_into_tables(
         Ok(lines) => {
             let mut rows = Vec::with_capacity(alloc, lines.len())?;
             let fault = read_lines_until_fault(alloc, tables, &lines, &mut rows)?;
-            Ok(ParsedFileRows { name, rows, fault })
+            Ok(ParsedFileRows {
+                name,
+                rows,
+                fault,
+                bytes: file.bytes.len(),
+            })
         }
         Err(fault) => Err(load_fault_of_text_fault(name, fault)),
     }

@@ -22,12 +22,14 @@ parsed_file_of_rows t file = record { name = file.name; lines = map (line_of_row
 abbrev pub parsed_files_of_view : FilesInTables → List ParsedFile
 parsed_files_of_view files = map (parsed_file_of_rows files.tables.now) files.files.now
 
--- The rows of the file go on holding its lines. Each of these is one logical line within the limit, and all are within that of a text.
+-- The rows of the file go on holding its lines. Each of these is one logical line within the limit, and all are within that of a text, and no
+-- more than is noted.
 pub record HasSoundFileRows (t : Tables) (file : ParsedFileRows) : Type 0 where
   pub stand : All (IsLastingLineRow t) file.rows.items
   pub whole : AllByRecursion IsLogicalLine (texts_of_lines (map (line_of_row t) file.rows.items))
   pub short : AreWithinLineLimit (texts_of_lines (map (line_of_row t) file.rows.items))
   pub fits : length (join (texts_of_lines (map (line_of_row t) file.rows.items))) ≤ text_limit
+  pub held : length (join (texts_of_lines (map (line_of_row t) file.rows.items))) ≤ file.bytes
 
 abbrev pub HaveSoundFileRows : FilesInTables → Type 0
 HaveSoundFileRows files = All (HasSoundFileRows files.tables.now) files.files.now

@@ -5,9 +5,11 @@ use Rattle.sudoers_grammar.specs.Node.{Node}
 use Rattle.sudoers_grammar.specs.Node as node
 use Rattle.sudoers_line_rows.specs.declared.rows.Tables.{Tables}
 use Rattle.sudoers_line_rows.specs.Tables.{node_in_tables, text_in_tables}
-use Rattle.sudoers_text.specs.Fault.{line_limit}
+use Rattle.sudoers_text.specs.Fault.{line_limit, text_limit}
+use Rattle.sudoers_text.specs.Whole.{IsLogicalLine}
 use Rattle.sudoers_tree.specs.ChangedFiles.{files_after_changes}
 use Rattle.sudoers_tree.specs.declared.files_and_walk.WalkedFiles.{WalkedFiles}
+use Rattle.sudoers_tree.specs.declared.files.ParsedFileRows.{ParsedFileRows}
 use Rattle.sudoers_tree.specs.declared.line.LineRow.{LineRow}
 use Rattle.sudoers_tree.specs.declared.line_change.LineChange.{LineChange}
 use Rattle.sudoers_tree.specs.declared.line_in_place.LineOnWalk.{LineOnWalk}
@@ -107,11 +109,10 @@ pub record IsLineOnWalk (w : WalkedFiles) (f n : ℕ) (place : LineOnWalk) : Typ
   pub on : list_any (nat_eq f) w.on.items ≡ true
   pub only : IsOnlySpotOfLine w.spots.items f n place.number
 
--- The row holds this line, which parses and is plain and within its limit.
-pub record IsPlainLineRow (t : Tables) (text : List ℕ) (row : LineRow) : Type 0 where
+-- The row holds the line of this text, which is within its limit.
+pub record IsReadLineRow (t : Tables) (text : List ℕ) (row : LineRow) : Type 0 where
   pub stands : IsLastingLineRow t row
   pub says : text_in_tables t row.text ≡ text
-  pub plain : IsPlainNode (node_in_tables t row.node)
   pub short : length text ≤ line_limit
 
 -- A change is made, or all stays as it was but for tables that grew.
@@ -122,3 +123,14 @@ IsChangeInPlace false changes old new = policy_of_walked_files new ≡ policy_of
 abbrev pub IsChangeInPlaceUnlessNoMemory : {E : Type 0} → Result Bool E → List LineChange → WalkedFiles → WalkedFiles → Type 0
 IsChangeInPlaceUnlessNoMemory (Ok made) changes old new = IsChangeInPlace made changes old new
 IsChangeInPlaceUnlessNoMemory (Err error) changes old new = policy_of_walked_files new ≡ policy_of_walked_files old
+
+-- The line of the row is one logical line within the limit, and has so many bytes.
+pub record IsShortLineRow (t : Tables) (size : ℕ) (row : LineRow) : Type 0 where
+  pub stands : IsLastingLineRow t row
+  pub logical : IsLogicalLine (text_in_tables t row.text)
+  pub short : length (text_in_tables t row.text) ≤ line_limit
+  pub size_is : size ≡ length (text_in_tables t row.text)
+
+-- The file f may have so many bytes more.
+abbrev pub HasRoomInFile : List ParsedFileRows → ℕ → ℕ → Type 0
+HasRoomInFile files f size = (file : ParsedFileRows) → slice_get files f ≡ Some file → file.bytes + size ≤ text_limit

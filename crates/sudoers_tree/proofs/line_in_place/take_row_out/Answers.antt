@@ -16,4 +16,4 @@ returns-clause-sound c = λ t are.
     let file : ParsedFileRows = get_or c.args.files.now c.args.file c.index-files-file.result in
     let less : c.args.line < length file.rows.items = c.requires.line file (slice_get-get_or c.args.files.now c.args.file c.index-files-file.result c.requires.file) in
     All-set (HasSoundFileRows t) c.args.files.now c.args.file _
-    (file_without_row_stays_sound t file _ c.args.line c.remove.result less c.remove.ensures.items (All-get_or (HasSoundFileRows t) c.args.files.now c.args.file c.index-files-file.result c.requires.file are)) are
+    (file_without_row_stays_sound t file _ c.args.line c.remove.result less c.remove.ensures.items refl (All-get_or (HasSoundFileRows t) c.args.files.now c.args.file c.index-files-file.result c.requires.file are)) are
