@@ -1,11 +1,11 @@
 -- Files of which one has other rows.
-use Rattle.sudoers_tree.proofs.Common.{All, All-get_or, AllByRecursion, AreWithinLineLimit, HasSoundFileRows, IsLastingLineRow, IsLogicalLine, IsWithinLineLimit, Line, LineRow, List, ParsedFile, ParsedFileRows, Some, Tables, [], ap, ap₂}
-use Rattle.sudoers_tree.proofs.Common.{All-drop, All-take, arith, drop, get_or, join, length, line_of_row, map, parsed_file_of_rows, refl, remove, slice_get, slice_get-get_or, subst, suc, sym, take, text_limit, texts_of_lines, zero}
-use Rattle.sudoers_tree.proofs.Common.{ℕ, ◌++◌, ◌+◌, ◌<◌, ◌∙◌, ◌∷◌, ◌≡◌, ◌≤◌}
+use Rattle.sudoers_tree.proofs.Common.{All, AllByRecursion, AreWithinLineLimit, HasSoundFileRows, IsLastingLineRow, IsLogicalLine, IsWithinLineLimit, Line, LineRow, List, ParsedFile, ParsedFileRows, Some, Tables, [], ap, ap₂}
+use Rattle.sudoers_tree.proofs.Common.{arith, get_or, join, length, line_of_row, map, parsed_file_of_rows, remove, slice_get, slice_get-get_or, subst, suc, sym, text_limit, texts_of_lines, zero}
+use Rattle.sudoers_tree.proofs.Common.{ℕ, ◌+◌, ◌<◌, ◌∙◌, ◌∷◌, ◌≡◌, ◌≤◌}
 use Rattle.std.proofs.Common.{set}
-use Rattle.sudoers_tree.proofs.Common.{insert, length-map, lines_of_numbered_file, option_map, slice_get-map}
+use Rattle.sudoers_tree.proofs.Common.{insert, length-map, option_map, slice_get-map}
 use Rattle.std.proofs.lemmas.List.Elements.{All-set}
-use Rattle.sudoers_tree.proofs.SplicedLists.{all_items_and_new, all_items_but_one, join_with_other_text_has_its_size, join_with_text_is_longer_by_it, map_of_insert_is_insert_of_map, map_of_set_is_set_of_map, property_of_all_and_new_holds_after_set, property_of_all_and_new_holds_with_item, join_without_text_is_no_longer, map_of_remove_is_remove_of_map, property_of_all_holds_without_item, removed_item_is_in_place}
+use Rattle.sudoers_tree.proofs.SplicedLists.{all_items_and_new, all_items_but_one, join_with_other_text_has_its_size, join_with_text_is_longer_by_it, map_of_insert_is_insert_of_map, map_of_set_is_set_of_map, property_of_all_and_new_holds_after_set, property_of_all_and_new_holds_with_item, join_without_text_is_no_longer, map_of_remove_is_remove_of_map, property_of_all_holds_without_item}
 use Rattle.sudoers_tree.specs.internal.InPlace.{IsShortLineRow, files_with_other_lines}
 
 -- Where the rows of one file are others, it has the lines that these hold.

@@ -1,9 +1,9 @@
 -- Files of which the lines in one place are others: they load as they are kept.
 use Rattle.sudoers_tree.proofs.Common.{AllByRecursion, AreFilesMapped, AreLinesAtSpots, Bool, IsCorrectlyParsed, KeepsIncludeLead, Line, LineToLinesMapping, List, LoadedPolicy, None, Ok, Option, ParsedFile, Some}
-use Rattle.sudoers_tree.proofs.Common.{SyntaxFault, WalkLineSpot, WalkState, [], ap, ap₂, definitions_of_lines, eqb-true, fault_of_numbered_file, fault_of_optional_file, false, file_limit, file_names, first_definition_fault}
-use Rattle.sudoers_tree.proofs.Common.{if◌then◌else◌, is_file_on_walk, lead_of_parsed_line, length, lines_of_numbered_file, lines_of_optional_file, load_result_and_then, map, mapped_lines_at_spots, mapped_lines_from_number}
+use Rattle.sudoers_tree.proofs.Common.{WalkState, [], ap, ap₂, definitions_of_lines, eqb-true, fault_of_numbered_file, fault_of_optional_file, false, file_limit, file_names, first_definition_fault}
+use Rattle.sudoers_tree.proofs.Common.{if◌then◌else◌, is_file_on_walk, lead_of_parsed_line, lines_of_numbered_file, lines_of_optional_file, load_result_and_then, map, mapped_lines_at_spots, mapped_lines_from_number}
 use Rattle.sudoers_tree.proofs.Common.{name_of_numbered_file, named_file_of_parsed, named_files_of_policy, nat_lt, nowhere, one, policy_of_parsed_files, policy_or_load_fault, refl, slice_get, slice_get_within, subst, suc}
-use Rattle.sudoers_tree.proofs.Common.{sym, texts_of_lines, true, true≢false, walk_or_fault_of_files, walk_or_first_fault, walk_or_unreached_file_fault, zero, ℕ, ◌&&◌, ◌+◌, ◌==◌, ◌∙◌, ◌∷◌, ◌≡◌}
+use Rattle.sudoers_tree.proofs.Common.{sym, texts_of_lines, true, true≢false, walk_or_fault_of_files, walk_or_first_fault, walk_or_unreached_file_fault, zero, ℕ, ◌&&◌, ◌==◌, ◌∙◌, ◌∷◌, ◌≡◌}
 use Rattle.sudoers_tree.proofs.ChangedLoads.{AreFewFilesWithDistinctNames, loaded_files_are_few_with_distinct_names}
 use Rattle.sudoers_tree.proofs.CutFiles.{AreLinesCutFromTheirJoin, SeparateLinesAreCutFromTheirJoin}
 use Rattle.sudoers_tree.proofs.KeptFiles.{LinesAreParsedUntilFault}
@@ -17,8 +17,8 @@ use Rattle.sudoers_tree.proofs.SameNames.{same_file_names_have_same_count, same_
 use Rattle.sudoers_tree.proofs.SplicedWalk.{MovesLinesBehind, lines_change_in_place_on_walk, lines_of_file_come_in_place, lines_of_other_file_come_of_themselves, place_is_at_its_spot, spots_move_around_place}
 use Rattle.sudoers_tree.proofs.WalkSound.{loaded_policy_is_load_of_files, loaded_walk_is_valid}
 use Rattle.sudoers_tree.specs.declared.moved_lines.LineMove.{LineMove}
-use Rattle.sudoers_tree.specs.internal.InPlace.{IsOnlySpotOfLine, is_spot_of_line, lines_in_place_of_line, moved_spot, with_items_in_place}
-use Rattle.sudoers_tree.specs.internal.MovedSpots.{mapped_line_number, mapped_spots, spots_from_line_number}
+use Rattle.sudoers_tree.specs.internal.InPlace.{IsOnlySpotOfLine, lines_in_place_of_line, moved_spot, with_items_in_place}
+use Rattle.sudoers_tree.specs.internal.MovedSpots.{mapped_spots, spots_from_line_number}
 
 -- the line leads nowhere, whatever the name of its file is
 abbrev pub LeadsNowhere : Line → Type 0

@@ -1,8 +1,8 @@
 -- A line that is put before another, and one that is put in the place of another: in its file and on the walk.
-use Rattle.sudoers_tree.proofs.Common.{All, AllByRecursion, AreSoundWalkedFiles, DefinitionKey, HasSoundFileRows, IsLastingLineRow, IsLineAtSpot, Kind, Line, LineRow, List, LoadedPolicy, Node, Ok, Option, ParsedFile, Place, Put, Some}
+use Rattle.sudoers_tree.proofs.Common.{All, AreSoundWalkedFiles, HasSoundFileRows, IsLastingLineRow, IsLineAtSpot, Kind, Line, LineRow, List, Node, Ok, ParsedFile, Place, Put, Some}
 use Rattle.sudoers_tree.proofs.Common.{Swap, WalkLineSpot, WalkedFiles, [], append-nil, ap, ap₂, arith, definitions_in_line, false, if◌then◌else◌, index_entries_of_kind, insert, keys_of_definitions, length, length-map, lf_count, line_of_row}
-use Rattle.sudoers_tree.proofs.Common.{lines_of_kept_walk, lines_of_numbered_file, map, map-append, named_files_of_policy, nat_le, nat_tests, node_in_tables, option_map, parsed_file_of_rows, physical_line_of_file_line, policy_of_walked_files}
-use Rattle.sudoers_tree.proofs.Common.{policy_or_load_fault, refl, slice_get, slice_get-map, slice_get_within, spot_of_file_line, subst, suc, sym, take, text_in_tables, texts_of_lines, true, zero, ℕ, ◌&&◌, ◌++◌, ◌+◌, ◌-◌, ◌<◌, ◌==◌, ◌∙◌, ◌∷◌, ◌≡◌, ◌≤◌}
+use Rattle.sudoers_tree.proofs.Common.{lines_of_kept_walk, lines_of_numbered_file, map, named_files_of_policy, nat_le, nat_tests, node_in_tables, option_map, parsed_file_of_rows, physical_line_of_file_line, policy_of_walked_files}
+use Rattle.sudoers_tree.proofs.Common.{policy_or_load_fault, refl, slice_get, slice_get-map, slice_get_within, spot_of_file_line, subst, suc, sym, text_in_tables, texts_of_lines, true, zero, ℕ, ◌&&◌, ◌++◌, ◌+◌, ◌-◌, ◌<◌, ◌==◌, ◌∙◌, ◌∷◌, ◌≡◌, ◌≤◌}
 use Rattle.std.proofs.Common.{set}
 use Rattle.std.proofs.lemmas.List.Elements.{All-set}
 use Rattle.sudoers_grammar.specs.Node as node
@@ -10,15 +10,15 @@ use Rattle.sudoers_tree.proofs.Common.{Bool, None, lead_of_parsed_line}
 use Rattle.sudoers_tree.proofs.ChangedLines.{single_put_is_insert, single_swap_is_replacement}
 use Rattle.sudoers_tree.proofs.InPlaceLoads.{LeadsNowhere}
 use Rattle.sudoers_tree.proofs.LineRows.{physical_line_of_next_line_adds_lf_count}
-use Rattle.sudoers_tree.proofs.LineTaken.{lfs_of_line_are_those_of_row, line_on_walk_is_walk_line, numbered_spot_stands, plain_line_defines_nothing, plain_line_leads_nowhere, walk_number_is_within}
-use Rattle.sudoers_tree.proofs.MovedNames.{keys_of_line_before_stay, keys_of_line_behind_move, moved_key}
+use Rattle.sudoers_tree.proofs.LineTaken.{lfs_of_line_are_those_of_row, line_on_walk_is_walk_line, numbered_spot_stands, plain_line_defines_nothing, plain_line_leads_nowhere}
+use Rattle.sudoers_tree.proofs.MovedNames.{keys_of_line_before_stay, keys_of_line_behind_move}
 use Rattle.sudoers_tree.proofs.OneChange.{IsChangedInPlace, other_lines_are_in_file}
-use Rattle.sudoers_tree.proofs.SplicedLists.{all_items_and_new, lf_count_of_appended_lines, lf_count_of_lines_joined, list_splits_at_item, map_of_insert_is_insert_of_map, map_of_set_is_set_of_map, put_item_is_in_place, rest_from_item_begins_with_it, set_item_is_in_place}
+use Rattle.sudoers_tree.proofs.SplicedLists.{all_items_and_new, lf_count_of_appended_lines, lf_count_of_lines_joined, list_splits_at_item, map_of_insert_is_insert_of_map, map_of_set_is_set_of_map, put_item_is_in_place, set_item_is_in_place}
 use Rattle.sudoers_tree.proofs.SplicedWalk.{MovesLinesBehind, physical_line_up_to_place_stays, tests_of_spot_are_equalities}
 use Rattle.sudoers_tree.specs.Changed.{lines_with_one_replaced}
 use Rattle.sudoers_tree.specs.declared.line_in_place.LineOnWalk.{LineOnWalk}
 use Rattle.sudoers_tree.specs.declared.moved_lines.LineMove.{LineMove}
-use Rattle.sudoers_tree.specs.internal.InPlace.{IsLineOnWalk, IsNoIncludeNode, IsPlainNode, files_with_other_lines, moved_entry, moved_place, moved_spot, with_items_in_place}
+use Rattle.sudoers_tree.specs.internal.InPlace.{IsLineOnWalk, IsNoIncludeNode, IsPlainNode, files_with_other_lines, moved_entry, moved_spot, with_items_in_place}
 use Rattle.sudoers_tree.specs.internal.MovedSpots.{spots_from_line_number}
 
 pub line_that_is_no_include_leads_nowhere : (line : Line) → IsNoIncludeNode line.node → LeadsNowhere line

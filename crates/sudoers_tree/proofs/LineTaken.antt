@@ -1,8 +1,8 @@
 -- A line that is taken out of its file, and of the walk, in its place.
-use Rattle.sudoers_tree.proofs.Common.{All, AllByRecursion, AreLinesAtSpots, AreSoundWalkedFiles, HasSoundFileRows, IsLastingLineRow, IsLineAtSpot, Kind, Line, LineRow, List, LoadedPolicy, Node, None, Ok, Option, ParsedFile, Some}
+use Rattle.sudoers_tree.proofs.Common.{All, AreLinesAtSpots, AreSoundWalkedFiles, HasSoundFileRows, IsLastingLineRow, IsLineAtSpot, Kind, Line, List, Node, None, Ok, ParsedFile, Some}
 use Rattle.sudoers_tree.proofs.Common.{Take, WalkLineSpot, WalkedFiles, [], append-nil, ap, ap₂, arith, definitions_in_line, index_entries_of_kind, keys_of_definitions, length, lf_count, line_of_row, lines_of_kept_walk}
 use Rattle.sudoers_tree.proofs.Common.{lines_of_numbered_file, map, named_files_of_policy, node_in_tables, option_map, parsed_file_of_rows, policy_of_walked_files, policy_or_load_fault, refl, remove, slice_get, slice_get-map, slice_get_within}
-use Rattle.sudoers_tree.proofs.Common.{lead_of_parsed_line, length-map, subst, suc, sym, texts_of_lines, zero, ℕ, ◌+◌, ◌<◌, ◌∙◌, ◌∷◌, ◌≡◌, ◌≤◌}
+use Rattle.sudoers_tree.proofs.Common.{lead_of_parsed_line, length-map, subst, suc, sym, texts_of_lines, zero, ℕ, ◌+◌, ◌<◌, ◌∙◌, ◌∷◌, ◌≡◌}
 use Rattle.sudoers_grammar.specs.Node as node
 use Rattle.sudoers_tree.proofs.ChangedLines.{single_take_is_remove}
 use Rattle.sudoers_tree.proofs.InPlaceLoads.{LeadsNowhere}
@@ -12,7 +12,7 @@ use Rattle.sudoers_tree.proofs.SplicedLists.{all_items_but_one, lf_count_of_line
 use Rattle.sudoers_tree.proofs.SplicedWalk.{MovesLinesBehind, tests_of_spot_are_equalities}
 use Rattle.sudoers_tree.specs.declared.line_in_place.LineOnWalk.{LineOnWalk}
 use Rattle.sudoers_tree.specs.declared.moved_lines.LineMove.{LineMove}
-use Rattle.sudoers_tree.specs.internal.InPlace.{IsLineOnWalk, IsPlainNode, files_with_other_lines, moved_entry, moved_spot, with_items_in_place}
+use Rattle.sudoers_tree.specs.internal.InPlace.{IsLineOnWalk, IsPlainNode, files_with_other_lines, moved_entry, moved_spot}
 use Rattle.sudoers_tree.proofs.MovedNames.{moved_key}
 
 pub plain_line_leads_nowhere : (line : Line) → IsPlainNode line.node → LeadsNowhere line

@@ -1,14 +1,14 @@
 -- Definitions whose places moved: they have the same faults, and an index of them has moved places.
-use Rattle.sudoers_tree.proofs.Common.{AliasNameIndex, Bool, Def, DefinitionKey, IsIndexOfDefinitions, Kind, Line, List, Node, None, Option, Place, PlacedDefinition, ReadFault, Some, [], alias_limit_of_each_kind, append-nil, ap, ap₂, arith}
-use Rattle.sudoers_tree.proofs.Common.{bytes_eq, definitions_from_line_number, definitions_from_place, definitions_in_line, definitions_of_lines, drop, entries_of_definitions, false, fault_of_new_entry, first_definition_fault}
+use Rattle.sudoers_tree.proofs.Common.{AliasNameIndex, Bool, Def, DefinitionKey, IsIndexOfDefinitions, Kind, Line, List, Node, None, Place, PlacedDefinition, Some, [], alias_limit_of_each_kind, append-nil, ap, ap₂, arith}
+use Rattle.sudoers_tree.proofs.Common.{bytes_eq, definitions_from_line_number, definitions_from_place, definitions_in_line, definitions_of_lines, drop, false, fault_of_new_entry, first_definition_fault}
 use Rattle.sudoers_tree.proofs.Common.{first_of_two_faults, if◌then◌else◌, index_entries_of_kind, is_equal_kind, is_reserved, is_some, key_of_definition, keys_of_definitions, length, length-map, length-take-le, map, map-append}
-use Rattle.sudoers_tree.proofs.Common.{nat_le, nat_tests, option_map, place_of_named_entry, refl, slice_get, slice_get_within, subst, suc, sym, take, true, ℕ, ◌++◌, ◌+◌, ◌-◌, ◌<◌, ◌∙◌, ◌∷◌, ◌≡◌, ◌≤◌}
+use Rattle.sudoers_tree.proofs.Common.{nat_le, nat_tests, place_of_named_entry, refl, slice_get, slice_get_within, suc, sym, take, true, ℕ, ◌++◌, ◌+◌, ◌-◌, ◌<◌, ◌∙◌, ◌∷◌, ◌≡◌, ◌≤◌}
 use Rattle.sudoers_grammar.specs.Node as node
 use Rattle.sudoers_tree.specs.declared.fault.ReadFault.TheVariants.{Duplicate, Reserved, TooMany}
 use Rattle.sudoers_tree.specs.declared.moved_lines.LineMove.{LineMove}
 use Rattle.sudoers_tree.specs.internal.InPlace.{moved_entry, moved_place, with_items_in_place}
 use Rattle.sudoers_tree.proofs.Joined.{definitions_of_appended_lines_are_appended}
-use Rattle.sudoers_tree.proofs.SameKeys.{entries_of_definition_keys, entries_of_definitions_are_those_of_keys, fault_of_key_after_keys, first_definition_fault_is_that_of_keys, first_fault_of_keys}
+use Rattle.sudoers_tree.proofs.SameKeys.{entries_of_definition_keys, entries_of_definitions_are_those_of_keys, first_definition_fault_is_that_of_keys, first_fault_of_keys}
 use Rattle.sudoers_tree.proofs.SplicedLists.{list_splits_at_item}
 
 -- what the names tell of a definition, with a moved place

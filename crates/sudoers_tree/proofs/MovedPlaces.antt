@@ -1,6 +1,6 @@
 -- Names with places that move.
 use Rattle.sudoers_tree.proofs.Common.{Place, ◌∙◌}
-use Rattle.sudoers_tree.proofs.Common.{All, All-cons, All-head, All-nil, All-tail, List, [], ap, arith, length, map, refl, suc, zip, ℕ, ◌∷◌, ◌≡◌}
+use Rattle.sudoers_tree.proofs.Common.{All, All-cons, All-head, All-nil, All-tail, List, [], ap, arith, length, map, refl, zip, ℕ, ◌∷◌, ◌≡◌}
 
 pub moved_seconds_are_moved_pairs : {X Y : Type 0} (move : Y → Y) (xs : List X) (ys : List Y) → zip xs (map move ys) ≡ map (λ (e : X × Y). (e.0, move e.1)) (zip xs ys)
 moved_seconds_are_moved_pairs move [] ys = refl

@@ -1,12 +1,12 @@
 -- One change of the lines of one file that is made in its place: the files then have the changed lines, and load as they are kept.
-use Rattle.sudoers_tree.proofs.Common.{All, AllByRecursion, AreApplicableChanges, AreSoundWalkedFiles, AreWithinLineLimit, Bool, HasSoundFileRows, IsCorrectlyParsed, IsIndexOfDefinitions, IsLastingLineRow, IsLogicalLine}
-use Rattle.sudoers_tree.proofs.Common.{Kind, Line, LineChange, LineRow, List, LoadedPolicy, Node, None, Ok, Option, ParsedFile, ParsedFileRows, Some, SyntaxFault, Tables, WalkLineSpot, WalkedFiles, [], All-head, All-tail, ap, ap₂, arith}
-use Rattle.sudoers_tree.proofs.Common.{changed_files_from_number, changes_of_file, definitions_from_line_number, definitions_in_line, definitions_of_lines, eq-eqb, eqb-true, false, fault_of_numbered_file, file_names, file_number_of_change}
-use Rattle.sudoers_tree.proofs.Common.{files_after_changes, first_definition_fault, has_inner_line_without_lf, if◌then◌else◌, index_entries_of_kind, join, keys_of_definitions, length, line_of_row, lines_after_changes, lines_of_kept_walk}
+use Rattle.sudoers_tree.proofs.Common.{All, AllByRecursion, AreApplicableChanges, AreSoundWalkedFiles, HasSoundFileRows, IsCorrectlyParsed, IsLastingLineRow}
+use Rattle.sudoers_tree.proofs.Common.{Kind, Line, LineChange, LineRow, List, LoadedPolicy, None, Ok, Option, ParsedFile, ParsedFileRows, Some, Tables, WalkedFiles, [], All-head, All-tail, ap, ap₂, arith}
+use Rattle.sudoers_tree.proofs.Common.{changed_files_from_number, changes_of_file, definitions_from_line_number, definitions_in_line, definitions_of_lines, eq-eqb, false, fault_of_numbered_file, file_names, file_number_of_change}
+use Rattle.sudoers_tree.proofs.Common.{files_after_changes, has_inner_line_without_lf, if◌then◌else◌, index_entries_of_kind, join, keys_of_definitions, line_of_row, lines_after_changes, lines_of_kept_walk}
 use Rattle.sudoers_tree.proofs.Common.{lines_of_numbered_file, lines_of_optional_file, list_any, map, named_file_of_parsed, named_files_of_policy, nat_eq, nat_tests, ne_eqb, outcome_of_line, parsed_file_of_rows, policy_of_walked_files}
-use Rattle.sudoers_tree.proofs.Common.{policy_or_load_fault, refl, slice_get, subst, suc, sym, text_limit, texts_of_lines, true, zero, ℕ, ◌+◌, ◌<◌, ◌==◌, ◌∙◌, ◌∷◌, ◌≡◌, ◌≤◌}
+use Rattle.sudoers_tree.proofs.Common.{policy_or_load_fault, refl, slice_get, subst, suc, sym, texts_of_lines, true, zero, ℕ, ◌+◌, ◌<◌, ◌==◌, ◌∙◌, ◌∷◌, ◌≡◌, ◌≤◌}
 use Rattle.sudoers_text.proofs.Alone.{join_is_cut_into_its_lines}
-use Rattle.sudoers_text.proofs.Found.{computed_outcome_is_outcome_of_cut, outcome_of_cut_is_computed_outcome}
+use Rattle.sudoers_text.proofs.Found.{computed_outcome_is_outcome_of_cut}
 use Rattle.sudoers_tree.proofs.ChangedLines.{no_changes_leave_lines_unchanged}
 use Rattle.sudoers_tree.proofs.CutFiles.{AreLinesCutFromTheirJoin}
 use Rattle.sudoers_tree.proofs.FileRows.{numbered_file_has_sound_rows, numbered_file_of_rows_is_parsed_file}
@@ -19,7 +19,6 @@ use Rattle.sudoers_tree.proofs.ReadsLines.{computed_lines_are_parsed_until_fault
 use Rattle.sudoers_tree.proofs.InPlaceLoads.{HasOtherLinesInPlace, LeadsNowhere, parsed_files_have_no_fault_at_number, policy_with_other_lines_in_place_loads}
 use Rattle.sudoers_tree.proofs.Known.{computed_line_outcome_is_line_outcome, logical_lines_are_each_cut_as_themselves}
 use Rattle.sudoers_tree.proofs.MovedNames.{keys_move_around_place, moved_definitions_stay_faultless, moved_index_is_of_moved_definitions, moved_key}
-use Rattle.sudoers_tree.proofs.Outcomes.{ComputedLineOutcomesAreLineOutcomes}
 use Rattle.sudoers_tree.proofs.SplicedWalk.{MovesLinesBehind}
 use Rattle.sudoers_tree.proofs.WalkSound.{loaded_walk_is_valid}
 use Rattle.sudoers_tree.specs.declared.moved_lines.LineMove.{LineMove}

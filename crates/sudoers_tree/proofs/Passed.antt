@@ -1,7 +1,6 @@
 -- Lines that are appended to the walk, one after another.
-use Rattle.sudoers_tree.proofs.Common.{AliasNameIndex, Duplicate, Err, IsIndexEntryOutcome, Line, List, Node, None, NotLoaded, PlacedDefinition, ReadFault, Reserved, Some, Syntax, Text, TooDeep, TooMany, Twice, []}
-use Rattle.sudoers_tree.proofs.Common.{ap, definitions_in_line, definitions_of_lines, first_definition_fault, inl, inr, length, refl, ◌++◌, ◌+◌, ◌∙◌, ◌∷◌, ◌≡◌, ◌⊎◌}
-use Rattle.sudoers_grammar.specs.Node as node
+use Rattle.sudoers_tree.proofs.Common.{AliasNameIndex, Duplicate, Err, IsIndexEntryOutcome, Line, List, None, NotLoaded, PlacedDefinition, ReadFault, Reserved, Some, Syntax, Text, TooDeep, TooMany, Twice, []}
+use Rattle.sudoers_tree.proofs.Common.{ap, definitions_in_line, definitions_of_lines, first_definition_fault, inl, inr, length, refl, ◌++◌, ◌∙◌, ◌∷◌, ◌≡◌, ◌⊎◌}
 use Rattle.sudoers_tree.specs.declared.fault.ReadFault.TheVariants.{NoMemory}
 use Rattle.sudoers_tree.proofs.Joined.{definitions_with_last_line_are_appended}
 use Rattle.sudoers_tree.proofs.Sound.{faultless_parts_have_faultless_append}

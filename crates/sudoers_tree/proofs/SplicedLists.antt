@@ -1,10 +1,9 @@
 -- Lists of which one item is replaced by others.
-use Rattle.sudoers_tree.proofs.Common.{Line, List, Some, [], ap, arith, drop, insert, join, length, length-append, length-drop, length-take-le, lf_count, map, map-append, refl, remove, slice_get, suc, sym, take}
+use Rattle.sudoers_tree.proofs.Common.{Line, List, Some, [], ap, arith, drop, insert, join, length, length-append, lf_count, map, map-append, refl, remove, slice_get, suc, sym, take}
 use Rattle.std.proofs.Common.{get_or, set}
 use Rattle.std.proofs.lemmas.List.Elements.{All-append}
 use Rattle.sudoers_tree.proofs.Common.{All, All-cons, All-drop, All-take, AllByRecursion, slice_get-get_or, subst}
-use Rattle.sudoers_tree.proofs.Common.{texts_of_lines, zero, ℕ, ◌++◌, ◌+◌, ◌-◌, ◌<◌, ◌∙◌, ◌∷◌, ◌≡◌, ◌≤◌}
-use Rattle.std.proofs.lemmas.List.{append_assoc}
+use Rattle.sudoers_tree.proofs.Common.{texts_of_lines, zero, ℕ, ◌++◌, ◌+◌, ◌<◌, ◌∙◌, ◌∷◌, ◌≡◌, ◌≤◌}
 use Rattle.sudoers_tree.proofs.Joined.{join_of_appended_lines_is_appended, lf_count_adds_over_append}
 use Rattle.sudoers_tree.specs.internal.InPlace.{with_items_in_place}
 

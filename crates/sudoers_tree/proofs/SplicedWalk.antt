@@ -1,9 +1,9 @@
 -- A walk over files of which the lines in one place are others: its lines, and the spots at which they stand.
-use Rattle.sudoers_tree.proofs.Common.{AreLinesAtSpots, Bool, IsLineAtSpot, Line, List, ParsedFile, Some, WalkLineSpot, [], ap, ap₂, arith, drop, eq-eqb, eqb-true, false, if◌then◌else◌, insert, join, le-ltb, length, lf_count}
-use Rattle.sudoers_tree.proofs.Common.{lines_of_numbered_file, list_any, map, mapped_lines_at_spots, mapped_lines_from_number, nat_le, ne_eqb, physical_line_of_file_line, refl, remove, slice_get, slice_get-map, slice_get_within}
-use Rattle.sudoers_tree.proofs.Common.{option_map, spot_of_file_line, subst, suc, sym, take, texts_of_lines, true, true≢false, zero, ℕ, ◌&&◌, ◌++◌, ◌+◌, ◌-◌, ◌<◌, ◌==◌, ◌||◌, ◌∙◌, ◌∷◌, ◌≡◌, ◌≤◌}
-use Rattle.sudoers_tree.proofs.Common.{length-take-le, nat_tests, take_all}
-use Rattle.sudoers_tree.proofs.SplicedLists.{items_before_place_stay, items_up_to_later_place_are_in_place, length_with_items_in_place, lf_count_of_lines_joined, lf_count_with_lines_in_place, list_splits_at_item, put_item_is_in_place, removed_item_is_in_place}
+use Rattle.sudoers_tree.proofs.Common.{AreLinesAtSpots, Bool, IsLineAtSpot, Line, List, ParsedFile, Some, WalkLineSpot, [], ap, ap₂, arith, drop, eq-eqb, eqb-true, false, if◌then◌else◌, join, length, lf_count}
+use Rattle.sudoers_tree.proofs.Common.{lines_of_numbered_file, list_any, map, mapped_lines_at_spots, mapped_lines_from_number, nat_le, ne_eqb, physical_line_of_file_line, refl, slice_get, slice_get_within}
+use Rattle.sudoers_tree.proofs.Common.{spot_of_file_line, subst, suc, sym, take, texts_of_lines, true, true≢false, zero, ℕ, ◌&&◌, ◌++◌, ◌+◌, ◌-◌, ◌<◌, ◌==◌, ◌||◌, ◌∙◌, ◌∷◌, ◌≡◌, ◌≤◌}
+use Rattle.sudoers_tree.proofs.Common.{length-take-le, nat_tests}
+use Rattle.sudoers_tree.proofs.SplicedLists.{items_before_place_stay, items_up_to_later_place_are_in_place, length_with_items_in_place, lf_count_of_lines_joined, lf_count_with_lines_in_place}
 use Rattle.sudoers_tree.specs.declared.moved_lines.LineMove.{LineMove}
 use Rattle.sudoers_tree.specs.internal.InPlace.{is_spot_of_line, lines_in_place_of_line, moved_spot, with_items_in_place}
 use Rattle.sudoers_tree.specs.internal.MovedSpots.{mapped_line_number, mapped_spots, spots_from_line_number}

@@ -1,8 +1,8 @@
 -- The numbers of lines and of physical lines, and the places of definitions, are far below what a number can be.
-use Rattle.sudoers_tree.proofs.Common.{All, All-cons, All-nil, AllByRecursion, AreLinesAtSpots, AreSoundWalkedFiles, Bool, IsIndexOfDefinitions, IsLogicalLine, Kind, Def, Line, List, LoadedPolicy, Node, Ok, ParsedFile, Place}
-use Rattle.sudoers_tree.proofs.Common.{PlacedDefinition, WalkLineSpot, WalkedFiles, [], ap, arith, definitions_from_line_number, definitions_from_place, definitions_in_line, definitions_of_lines, entries_of_definitions, file_limit}
+use Rattle.sudoers_tree.proofs.Common.{All, All-cons, All-nil, AllByRecursion, AreLinesAtSpots, AreSoundWalkedFiles, Bool, IsLogicalLine, Kind, Def, Line, List, Node, Ok, ParsedFile, Place}
+use Rattle.sudoers_tree.proofs.Common.{WalkLineSpot, WalkedFiles, [], ap, arith, definitions_from_line_number, definitions_from_place, definitions_in_line, entries_of_definitions}
 use Rattle.sudoers_tree.proofs.Common.{if◌then◌else◌, false, index_entries_of_kind, is_equal_kind, join, length, length-append, lines_of_kept_walk, lines_of_numbered_file, named_files_of_policy, parsed_file_of_rows, physical_line_of_file_line}
-use Rattle.sudoers_tree.proofs.Common.{policy_of_walked_files, policy_or_load_fault, refl, slice_get_within, subst, sym, text_limit, texts_of_lines, true, ℕ, ◌++◌, ◌*◌, ◌+◌, ◌<◌, ◌∙◌, ◌∷◌, ◌≡◌, ◌≤◌}
+use Rattle.sudoers_tree.proofs.Common.{policy_of_walked_files, policy_or_load_fault, refl, slice_get_within, subst, sym, text_limit, texts_of_lines, true, ℕ, ◌+◌, ◌<◌, ◌∷◌, ◌≡◌, ◌≤◌}
 use Rattle.sudoers_grammar.specs.Node as node
 use Rattle.std.proofs.Common.{◌^◌}
 use Rattle.std.proofs.lemmas.List.{length-map}
@@ -11,7 +11,7 @@ use Rattle.sudoers_tree.proofs.Common.{HasSoundFileRows, Option, None, ParsedFil
 use Rattle.sudoers_text.proofs.LogicalLine.{logical_line_is_not_empty}
 use Rattle.sudoers_tree.proofs.Entries.{entries_of_appended_definitions_are_appended}
 use Rattle.sudoers_tree.proofs.FileRows.{lines_of_numbered_file_fit_text_limit, numbered_file_has_sound_rows, numbered_file_of_rows_is_parsed_file}
-use Rattle.sudoers_tree.proofs.Known.{computed_line_outcome_is_line_outcome, loaded_walk_is_distinct_and_within_limit, lines_cut_from_text_are_within_limits, loaded_walk_lines_are_at_their_spots}
+use Rattle.sudoers_tree.proofs.Known.{loaded_walk_is_distinct_and_within_limit, lines_cut_from_text_are_within_limits, loaded_walk_lines_are_at_their_spots}
 use Rattle.sudoers_tree.proofs.LineRows.{physical_line_plus_line_length_is_bounded}
 use Rattle.sudoers_tree.proofs.WholeFiles.{loaded_walk_lines_are_logical}
 use Rattle.sudoers_tree.specs.internal.InPlace.{IsPlaceWithinReach, IsSpotWithinReach}

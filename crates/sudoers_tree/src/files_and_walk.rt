@@ -28,6 +28,9 @@ use crate::walking::{WalkBuilder, walk_from_first_file};
 use std::alloc::{AllocError, Global};
 use sudoers_line_rows::Tables;
 
+/// Twice as many bytes of unused texts are little, however few the files have.
+const FEW_TABLE_BYTES: usize = 262_144;
+
 /// Files with the walk over them: the rows of its lines, the spot of each, the numbers of its files in their order, and the names that its
 /// lines define. The lines say something in the tables, which had `begun` bytes when the files were loaded.
 #[derive(Drop)]
@@ -95,9 +98,10 @@ pub fn walk_files(
 }
 
 impl WalkedFiles {
-    /// Returns whether the tables have more than twice the bytes that they had when the files were loaded. Then many may be unused.
+    /// Returns whether the tables have more than twice the bytes that they had when the files were loaded, and more than 512 KiB. Then many
+    /// may be unused.
     pub fn has_doubled_tables(&self) -> bool {
-        self.tables.bytes.len() / 2 > self.begun
+        self.tables.bytes.len() / 2 > self.begun.max(FEW_TABLE_BYTES)
     }
 
     /// Makes the changes `changes` of the lines of the files at once.

@@ -216,8 +216,8 @@ impl Policy {
         Ok(text)
     }
 
-    /// Makes the changes `changes` of the lines at once. It reads the new lines alone. The walk stays if lines change in their places alone;
-    /// else it is made anew.
+    /// Makes the changes `changes` of the lines at once. It reads the new lines alone. One plain line changes in its place. Else the walk
+    /// stays if lines change in their places alone, or is made anew.
     ///
     /// # Errors
     ///

@@ -4,7 +4,7 @@ use Rattle.std.specs.List.{list_any}
 use Rattle.sudoers_grammar.specs.Node.{Node}
 use Rattle.sudoers_grammar.specs.Node as node
 use Rattle.sudoers_line_rows.specs.declared.rows.Tables.{Tables}
-use Rattle.sudoers_line_rows.specs.Tables.{node_in_tables, text_in_tables}
+use Rattle.sudoers_line_rows.specs.Tables.{text_in_tables}
 use Rattle.sudoers_text.specs.Fault.{line_limit, text_limit}
 use Rattle.sudoers_text.specs.Whole.{IsLogicalLine}
 use Rattle.sudoers_tree.specs.ChangedFiles.{files_after_changes}

@@ -1,5 +1,5 @@
-use Rattle.sudoers_tree.proofs.Common.{All, All-get_or, Bool, HasSoundFileRows, Line, LineRow, List, ParsedFileRows, Tables, ap, false, if◌then◌else◌, line_of_row, map, parsed_file_of_rows, refl, slice_get-get_or, subst, sym, text_limit}
-use Rattle.sudoers_tree.proofs.Common.{true, ℕ, ◌+◌, ◌<◌, ◌∙◌, ◌≡◌, ◌≤◌}
+use Rattle.sudoers_tree.proofs.Common.{All-get_or, Bool, HasSoundFileRows, Line, List, Tables, ap, false, if◌then◌else◌, line_of_row, map, parsed_file_of_rows, slice_get-get_or}
+use Rattle.sudoers_tree.proofs.Common.{true, ◌+◌, ◌<◌, ◌∙◌, ◌≡◌}
 use Rattle.std.proofs.Common.{arith, get_or, insert, is_ok, length, set}
 use Rattle.std.proofs.lemmas.List.Elements.{All-set}
 use Rattle.sudoers_tree.specs.internal.InPlace.{IsShortLineRow, files_with_other_lines}

@@ -1,5 +1,5 @@
-use Rattle.sudoers_tree.proofs.Common.{All, All-get_or, HasSoundFileRows, Line, List, ParsedFileRows, ap, line_of_row, map, slice_get-get_or, ◌<◌, ◌∙◌, ◌≡◌}
-use Rattle.std.proofs.Common.{get_or, length, set}
+use Rattle.sudoers_tree.proofs.Common.{All-get_or, HasSoundFileRows, Line, List, ap, line_of_row, map, slice_get-get_or, ◌∙◌}
+use Rattle.std.proofs.Common.{get_or, set}
 use Rattle.std.proofs.lemmas.List.Elements.{All-set}
 use Rattle.sudoers_tree.proofs.ChangedRows.{file_with_other_row_stays_sound, file_with_other_rows_has_other_lines}
 use Rattle.sudoers_tree.proofs.SplicedLists.{map_of_set_is_set_of_map}

@@ -1,7 +1,6 @@
-use Rattle.sudoers_tree.proofs.Common.{All, All-get_or, HasSoundFileRows, Line, List, ParsedFileRows, ap, line_of_row, map, refl, remove, slice_get-get_or, ◌<◌, ◌∙◌}
+use Rattle.sudoers_tree.proofs.Common.{All-get_or, HasSoundFileRows, Line, List, ParsedFileRows, ap, line_of_row, map, refl, remove, slice_get-get_or, ◌<◌, ◌∙◌}
 use Rattle.std.proofs.Common.{get_or, length}
 use Rattle.std.proofs.lemmas.List.Elements.{All-set}
-use Rattle.sudoers_tree.specs.declared.line.LineRow.{LineRow}
 use Rattle.sudoers_tree.proofs.ChangedRows.{file_with_other_rows_has_other_lines, file_without_row_stays_sound}
 use Rattle.sudoers_tree.proofs.SplicedLists.{map_of_remove_is_remove_of_map}
 use Rattle.sudoers_tree.proofs.line_in_place.take_row_out.Goals as goal

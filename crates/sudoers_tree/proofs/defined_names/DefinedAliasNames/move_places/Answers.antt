@@ -1,4 +1,4 @@
-use Rattle.sudoers_tree.proofs.Common.{All, List, Place, ap, length, length-map, map, subst, sym, zip, ℕ, ◌∙◌, ◌≡◌}
+use Rattle.sudoers_tree.proofs.Common.{All, List, Place, ap, length-map, map, subst, sym, ℕ, ◌∙◌}
 use Rattle.std.proofs.Common.{rules}
 use Rattle.std.proofs.lemmas.List.{places, with_items_is}
 use Rattle.std.specs.Vec.{with_items}

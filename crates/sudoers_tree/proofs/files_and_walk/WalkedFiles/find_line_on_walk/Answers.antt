@@ -1,5 +1,5 @@
-use Rattle.sudoers_tree.proofs.Common.{All, HasSoundFileRows, IsLastingLineRow, LineRow, List, ParsedFile, ParsedFileRows, Some, Tables, ap, ap₂, line_of_row, lines_of_numbered_file, list_any, map, nat_eq, option_map, parsed_file_of_rows}
-use Rattle.sudoers_tree.proofs.Common.{slice_get, subst, sym, true, ◌∙◌, ◌≡◌}
+use Rattle.sudoers_tree.proofs.Common.{All, HasSoundFileRows, IsLastingLineRow, List, Some, Tables, ap, ap₂, line_of_row, lines_of_numbered_file, list_any, map, nat_eq, parsed_file_of_rows}
+use Rattle.sudoers_tree.proofs.Common.{slice_get, subst, sym, ◌∙◌, ◌≡◌}
 use Rattle.sudoers_tree.specs.declared.place.WalkLineSpot.{WalkLineSpot}
 use Rattle.sudoers_tree.specs.internal.InPlace.{IsOnlySpotOfLine}
 use Rattle.sudoers_tree.proofs.files_and_walk.WalkedFiles.find_line_on_walk.Goals as goal

@@ -1,5 +1,5 @@
-use Rattle.sudoers_tree.proofs.Common.{AreApplicableChanges, Err, LineRow, LoadedPolicy, Put, Tables, WalkedFiles, [], ap, map, named_files_of_policy, parsed_file_of_rows, policy_of_walked_files, policy_or_load_fault, refl}
-use Rattle.sudoers_tree.proofs.Common.{subst, sym, table_growth_is_transitive, text_in_tables, ◌∙◌, ◌∷◌, ◌≡◌}
+use Rattle.sudoers_tree.proofs.Common.{AreApplicableChanges, LoadedPolicy, Put, WalkedFiles, [], named_files_of_policy, policy_of_walked_files, policy_or_load_fault, refl}
+use Rattle.sudoers_tree.proofs.Common.{subst, sym, table_growth_is_transitive, text_in_tables, ◌∷◌, ◌≡◌}
 use Rattle.std.proofs.Common.{IfSome, Ok}
 use Rattle.sudoers_tree.specs.internal.InPlace.{IsChangeInPlaceUnlessNoMemory, IsReadLineRow}
 use Rattle.sudoers_tree.proofs.WalksBefore.{change_in_grown_tables_is_change, change_without_memory_keeps_policy, walked_files_have_same_policy_when_grown, walked_files_in_other_tables, walked_files_stay_sound_in_grown_tables}

@@ -1,6 +1,5 @@
-use Rattle.sudoers_tree.proofs.Common.{All, Line, List, LineRow, Tables, WalkedFiles, ap, ap₂, arith, get_or_from_slice_get, insert, length, map, parsed_file_of_rows, policy_of_walked_files, refl}
-use Rattle.sudoers_tree.proofs.Common.{HasSoundFileRows, Put, line_of_row, slice_get, subst, sym, text_in_tables, ℕ, ◌+◌, ◌<◌, ◌∙◌, ◌∷◌, ◌≡◌, ◌≤◌, []}
-use Rattle.sudoers_tree.specs.declared.place.WalkLineSpot.{WalkLineSpot}
+use Rattle.sudoers_tree.proofs.Common.{All, Line, List, Tables, WalkedFiles, ap, ap₂, arith, get_or_from_slice_get, insert, map, parsed_file_of_rows, refl}
+use Rattle.sudoers_tree.proofs.Common.{HasSoundFileRows, Put, line_of_row, slice_get, subst, sym, text_in_tables, ◌∙◌, ◌∷◌, ◌≡◌, []}
 use Rattle.std.proofs.Common.{if◌then◌else◌, is_ok, rules}
 use Rattle.std.proofs.lemmas.List.{places, with_items_is}
 use Rattle.std.specs.Vec.{with_items}

@@ -1,5 +1,5 @@
-use Rattle.sudoers_tree.proofs.Common.{AreApplicableChanges, Err, LineRow, LoadedPolicy, Swap, Tables, WalkedFiles, [], ap, map, named_files_of_policy, parsed_file_of_rows, policy_of_walked_files, policy_or_load_fault, refl}
-use Rattle.sudoers_tree.proofs.Common.{subst, sym, table_growth_is_transitive, text_in_tables, ◌∙◌, ◌∷◌, ◌≡◌}
+use Rattle.sudoers_tree.proofs.Common.{AreApplicableChanges, LoadedPolicy, Swap, WalkedFiles, [], named_files_of_policy, policy_of_walked_files, policy_or_load_fault, refl}
+use Rattle.sudoers_tree.proofs.Common.{subst, sym, table_growth_is_transitive, text_in_tables, ◌∷◌, ◌≡◌}
 use Rattle.std.proofs.Common.{IfSome, Ok}
 use Rattle.std.specs.declared.alloc.AllocError.{AllocError}
 use Rattle.sudoers_tree.proofs.Common.{Bool, Result}

@@ -1,5 +1,5 @@
-use Rattle.sudoers_tree.proofs.Common.{All, Line, List, LineRow, Tables, WalkedFiles, ap, arith, definitions_in_line, keys_of_definitions, length, lines_of_numbered_file, map, node_in_tables, parsed_file_of_rows, policy_of_walked_files}
-use Rattle.sudoers_tree.proofs.Common.{HasSoundFileRows, Swap, line_of_row, refl, slice_get_within, subst, sym, text_in_tables, ℕ, ◌+◌, ◌<◌, ◌∙◌, ◌∷◌, ◌≡◌, ◌≤◌, []}
+use Rattle.sudoers_tree.proofs.Common.{All, Line, List, Tables, WalkedFiles, ap, arith, lines_of_numbered_file, map, parsed_file_of_rows, policy_of_walked_files}
+use Rattle.sudoers_tree.proofs.Common.{HasSoundFileRows, Swap, line_of_row, refl, slice_get_within, subst, sym, text_in_tables, ◌+◌, ◌<◌, ◌∙◌, ◌∷◌, ◌≡◌, []}
 use Rattle.std.proofs.Common.{rules, set}
 use Rattle.std.proofs.lemmas.List.{places, with_items_is}
 use Rattle.std.specs.Vec.{with_item, with_items}

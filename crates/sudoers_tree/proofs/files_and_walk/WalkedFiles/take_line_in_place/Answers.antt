@@ -1,10 +1,9 @@
-use Rattle.sudoers_tree.proofs.Common.{All, Line, List, LineRow, Tables, WalkedFiles, ap, arith, length, lines_of_numbered_file, map, parsed_file_of_rows, policy_of_walked_files, refl, remove, slice_get_within}
-use Rattle.sudoers_tree.proofs.Common.{HasSoundFileRows, ParsedFileRows, subst, sym, text_limit, ℕ, ◌+◌, ◌<◌, ◌∙◌, ◌≡◌, ◌≤◌}
-use Rattle.sudoers_tree.specs.declared.place.WalkLineSpot.{WalkLineSpot}
+use Rattle.sudoers_tree.proofs.Common.{All, Line, List, Tables, WalkedFiles, ap, arith, lines_of_numbered_file, map, parsed_file_of_rows, policy_of_walked_files, refl, remove, slice_get_within}
+use Rattle.sudoers_tree.proofs.Common.{HasSoundFileRows, subst, sym, ◌+◌, ◌<◌, ◌∙◌, ◌≡◌}
 use Rattle.std.proofs.Common.{rules}
 use Rattle.std.proofs.lemmas.List.{places, with_items_is}
 use Rattle.std.specs.Vec.{with_items}
-use Rattle.sudoers_tree.proofs.Common.{Take, line_of_row, [], ◌∷◌}
+use Rattle.sudoers_tree.proofs.Common.{Take, line_of_row, []}
 use Rattle.sudoers_tree.specs.declared.moved_lines.LineMove.{LineMove}
 use Rattle.sudoers_tree.specs.internal.InPlace.{IsSpotWithinReach, files_with_other_lines, moved_spot}
 use Rattle.sudoers_tree.proofs.LineTaken.{line_taken_is_change_in_place, walk_number_is_within}
