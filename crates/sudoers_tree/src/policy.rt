@@ -234,7 +234,7 @@ impl Policy {
         self.walked.change_lines(self.alloc, changes)
     }
 
-    /// Loads the files again if the tables have grown to twice their bytes since.
+    /// Loads the files again if their tables may hold many texts that are gone.
     fn renew_overgrown_tables(&mut self) -> Result<(), AllocError>
         ensures { self.new ≡ self.old }
     {
