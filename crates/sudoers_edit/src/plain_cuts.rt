@@ -166,7 +166,7 @@ fn are_word_bytes(bytes: &[u8]) -> bool
 }
 
 /// Returns what stands behind the `,` that begins the bytes, and behind a blank there.
-fn bytes_behind_comma(splice: &[u8]) -> Option<&[u8]>
+fn skip_comma(splice: &[u8]) -> Option<&[u8]>
     ensures { IfSome result (λ word. (splice.now ≡ 44 ∷ word.now) ⊎ (splice.now ≡ 44 ∷ 32 ∷ word.now)) }
 {
     match splice {
@@ -180,7 +180,7 @@ fn bytes_behind_comma(splice: &[u8]) -> Option<&[u8]>
 fn word_of_splice(splice: &[u8]) -> Option<&[u8]>
     ensures { IfSome result (λ word. IsWordSplice splice.now word.now) }
 {
-    let word = bytes_behind_comma(splice)?;
+    let word = skip_comma(splice)?;
     if word.is_empty() || !are_word_bytes(word) || !are_plain_bytes(word) {
         return None;
     }

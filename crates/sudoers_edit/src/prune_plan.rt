@@ -137,7 +137,7 @@ fn add_definition_removal_and_get_inverse(
     ) else {
         return Err(EditFault::NoLine);
     };
-    let mut known = match known_line(alloc, last, file, line, old) {
+    let mut known = match take_known_line(alloc, last, file, line, old) {
         Ok(known) => known,
         Err(fault) => return Err(fault),
     };
@@ -215,7 +215,7 @@ fn add_line_replacement(
 }
 
 /// Returns what is known of the line `line` of the file `file`, whose text is `text`: what `last` knows of it, or what is read of it.
-fn known_line(
+fn take_known_line(
     alloc: Global,
     last: &mut Option<LastCutLine>,
     file: u32,

@@ -103,7 +103,7 @@ fn plain_command_of_word(text: &[u8]) -> Option<PlainAtom>
 /// Returns what a command is, if that is its text.
 #[tactic(auto, unfolding(crate::specs::Atom::command_atom_without_args))]
 #[inline(always)]
-fn plain_command(kind: TokenKind, text: &[u8]) -> Option<PlainAtom>
+fn plain_command_of_token(kind: TokenKind, text: &[u8]) -> Option<PlainAtom>
     ensures { IfSome result (λ plain. command_atom_without_args kind text.now ≡ Some (atom_of_plain plain text.now)) }
 {
     match kind {
@@ -122,7 +122,7 @@ pub fn plain_atom_of_token(kind: Kind, part: &TokenWithText<'_>) -> Option<Plain
     match (kind, part.kind) {
         (Kind::User | Kind::Runas, TokenKind::Word) => plain_user_of_word(part.text),
         (Kind::Host, TokenKind::Word) => plain_host_of_word(part.text),
-        (Kind::Cmnd, kind) => plain_command(kind, part.text),
+        (Kind::Cmnd, kind) => plain_command_of_token(kind, part.text),
         _ => None,
     }
 }

@@ -135,7 +135,7 @@ fn is_digest_byte(byte: u8) -> bool
 
 /// Returns how many bytes the pair has that a backslash before the bytes begins, or none.
 #[inline(never)]
-fn pair_len_after_backslash(rest: &[u8]) -> usize
+fn len_of_pair_behind_backslash(rest: &[u8]) -> usize
     ensures { result ≡ pair_size_of_unit (unit_after_backslash rest.now) }
 {
     match unit_of_backslash(rest) {
@@ -150,7 +150,7 @@ fn backslash_pair_len(bytes: &[u8]) -> usize
     ensures { result ≡ backslash_unit_size_by pair_size_of_unit bytes.now }
 {
     match bytes {
-        [b'\\', rest @ ..] => pair_len_after_backslash(rest),
+        [b'\\', rest @ ..] => len_of_pair_behind_backslash(rest),
         _ => 0,
     }
 }

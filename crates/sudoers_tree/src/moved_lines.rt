@@ -49,7 +49,7 @@ pub fn number_of_only_spot(spots: &[WalkLineSpot], file: usize, line: usize) -> 
 
 /// Returns where the line at the spot `at` stands after those of the file with the number `file` moved by `by`, from the line with the
 /// number `from` on.
-fn spot_after_move(at: WalkLineSpot, file: usize, from: usize, by: LineMove) -> WalkLineSpot
+fn move_spot(at: WalkLineSpot, file: usize, from: usize, by: LineMove) -> WalkLineSpot
     requires reach { IsSpotWithinReach at }
     requires room { HasRoomToMove by }
     ensures { result ≡ moved_spot file from by at }
@@ -72,12 +72,12 @@ pub fn move_spots(spots: &mut [WalkLineSpot], file: usize, from: usize, by: Line
     ensures { spots.new ≡ map (moved_spot file from by) spots.old }
 {
     for number in 0..spots.len() {
-        spots[number] = spot_after_move(spots[number], file, from, by);
+        spots[number] = move_spot(spots[number], file, from, by);
     }
 }
 
 /// Returns where a definition at `place` stands after the lines of the walk moved by `by`, from the line with the number `from` on.
-fn place_after_move(place: Place, from: usize, by: LineMove) -> Place
+fn move_place(place: Place, from: usize, by: LineMove) -> Place
     requires reach { IsPlaceWithinReach place }
     requires room { HasRoomToMove by }
     ensures { result ≡ moved_place from by place }
@@ -99,6 +99,6 @@ pub fn move_places(places: &mut [Place], from: usize, by: LineMove)
     ensures { places.new ≡ map (moved_place from by) places.old }
 {
     for number in 0..places.len() {
-        places[number] = place_after_move(places[number], from, by);
+        places[number] = move_place(places[number], from, by);
     }
 }

@@ -58,8 +58,8 @@ returns-clause-known c =
     replaced_line_is_known (reverse c.add_line_replacement.new.changes.items) _ c.args.file c.args.line c.in-Ok-cut_definition.cut.0 c.cut_definition.new.self c.in_ok-add_line_replacement.ensures
     c.in-Ok-cut_definition.ensures.known
 
-pub known_line-requires : goal.known_line-requires
-known_line-requires c =
+pub take_known_line-requires : goal.take_known_line-requires
+take_known_line-requires c =
     last_line_text_is_known (reverse c.args.changes.now.items) c.args.last.now c.args.file c.args.line c.in-Some.old.now
     (slice_get (texts_of_lines (lines_of_numbered_file c.args.policy.now.files c.args.file)) c.args.line) c.requires
     (c.in-Some.ensures ∙ ap (λ cs. option_or (replacement_text_by_first_change c.args.file c.args.line (reverse cs)) (slice_get (texts_of_lines (lines_of_numbered_file c.args.policy.now.files c.args.file)) c.args.line))

@@ -11,7 +11,7 @@ loop-number-preserved c =
     let olds : List Place = c.args.places.now in
     let i : ℕ = c.loop-number.number in
     let less : i < length olds = omega (arith, c.loop-number-test.true) in
-    let here : c.place_after_move.result ≡ move (get_or c.loop-number.places i none) = search rules in
+    let here : c.move_place.result ≡ move (get_or c.loop-number.places i none) = search rules in
     ap (λ x. set c.loop-number.places i x) here
     ∙ ap (λ xs. set xs i (move (get_or xs i none))) c.loop-number.invariant
     ∙ ap (λ x. set (map move (take i olds) ++ drop i olds) i (move x)) (next_item_behind_changed_front move i olds none less)

@@ -12,7 +12,7 @@ loop-number-preserved c =
     let olds : List WalkLineSpot = c.args.spots.now in
     let i : ℕ = c.loop-number.number in
     let less : i < length olds = omega (arith, c.loop-number-test.true) in
-    let here : c.spot_after_move.result ≡ move (get_or c.loop-number.spots i none) = c.spot_after_move.ensures ∙ ap move (get_or_default c.loop-number.spots i _ none (omega arith)) in
+    let here : c.move_spot.result ≡ move (get_or c.loop-number.spots i none) = c.move_spot.ensures ∙ ap move (get_or_default c.loop-number.spots i _ none (omega arith)) in
     ap (λ x. set c.loop-number.spots i x) here
     ∙ ap (λ xs. set xs i (move (get_or xs i none))) c.loop-number.invariant
     ∙ ap (λ x. set (map move (take i olds) ++ drop i olds) i (move x)) (next_item_behind_changed_front move i olds none less)
