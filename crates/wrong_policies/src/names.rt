@@ -24,7 +24,7 @@ pub fn definition_of(policy: &Policy, kind: Kind, name: &[u8]) -> Option<Definit
 /// # Errors
 ///
 /// The first fault of the changed files, or memory ran out.
-pub fn definition_after_changes(
+pub fn find_definition_after_changes(
     policy: &mut Policy,
     changes: &[LineChange],
     kind: Kind,
