@@ -109,6 +109,7 @@ INNER = {
     "grammar::parse_include_path": "tree::leads",
     "grammar::parse_option_value": "line_reader::parse",
     "grammar::parse_single_token_atom": "line_reader::parse",
+    "grammar::read_first_argument": "line_reader::parse",
     "names::NameSet::add": "list_people::People::read",
     "line_reader::read_line": "line_reader::parse",
     "line_rows::append_table_rows": "line_reader::parse",

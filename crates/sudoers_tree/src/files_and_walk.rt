@@ -29,7 +29,7 @@ use std::alloc::{AllocError, Global};
 use sudoers_line_rows::Tables;
 
 /// Twice as many bytes of unused texts are little, however few the files have.
-const FEW_TABLE_BYTES: usize = 262_144;
+const FEW_TABLE_BYTES: usize = 131_072;
 
 /// Files with the walk over them: the rows of its lines, the spot of each, the numbers of its files in their order, and the names that its
 /// lines define. The lines say something in the tables, which had `begun` bytes when the files were loaded.
@@ -98,7 +98,7 @@ pub fn walk_files(
 }
 
 impl WalkedFiles {
-    /// Returns whether the tables have more than twice the bytes that they had when the files were loaded, and more than 512 KiB. Then many
+    /// Returns whether the tables have more than twice the bytes that they had when the files were loaded, and more than 256 KiB. Then many
     /// may be unused.
     pub fn has_doubled_tables(&self) -> bool {
         self.tables.bytes.len() / 2 > self.begun.max(FEW_TABLE_BYTES)
