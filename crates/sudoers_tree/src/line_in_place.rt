@@ -109,8 +109,7 @@ fn put_row_in(
     files[file].put_row(line, row, size)
 }
 
-/// Puts the line of `row`, which has `size` bytes, in the place of the line with the number `line` of the file with the number `file`, both
-/// from 0.
+/// Puts the line of `row`, which has `size` bytes, in the place of the line `line` of the file `file`, both numbered from 0.
 fn set_row_in(files: &mut [ParsedFileRows], file: usize, line: usize, row: LineRow, size: usize)
     requires file { file < length files.old }
     requires line { (rows : ParsedFileRows) → slice_get files.old file ≡ Some rows → line < length rows.rows.items }
@@ -184,8 +183,7 @@ impl WalkedFiles {
         Some(LineOnWalk { number, row })
     }
 
-    /// Takes the line with the number `line` out of the file with the number `file`, both from 0, if it is a plain line on the walk. Returns
-    /// whether it did.
+    /// Takes the line `line` out of the file `file`, both numbered from 0, if it is a plain line on the walk. Returns whether it did.
     fn take_line_in_place(&mut self, file: usize, line: usize) -> bool
         requires walked { AreSoundWalkedFiles self.old }
         requires loaded { policy_or_load_fault (named_files_of_policy (policy_of_walked_files self.old)) ≡ Ok (policy_of_walked_files self.old) }
@@ -318,8 +316,7 @@ impl WalkedFiles {
         true
     }
 
-    /// Puts the line `text` before the line with the number `line` of the file with the number `file`, both from 0, where that moves nothing but
-    /// the lines behind it. Returns whether it did.
+    /// Puts the line `text` before the line `line` of the file `file`, both numbered from 0, if only lines behind it move. Returns whether it did.
     ///
     /// # Errors
     ///
@@ -343,8 +340,7 @@ impl WalkedFiles {
         }
     }
 
-    /// Puts the line `text` in the place of the line with the number `line` of the file with the number `file`, both from 0, where that moves
-    /// nothing but the lines behind it. Returns whether it did.
+    /// Puts `text` in the place of the line `line` of the file `file`, both numbered from 0, if only lines behind it move. Returns whether it did.
     ///
     /// # Errors
     ///
